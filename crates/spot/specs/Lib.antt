@@ -1,0 +1,3 @@
+pub mod Keys
+pub mod Spots
+pub mod Query

@@ -1,0 +1,57 @@
+-- Spots on the card, and lists of spots.
+-- Assumes nothing.
+use Prim.Native.Nat.{ℕ, _+_, _*_, _/_, _%_}
+use mathlib.Core.Bool.{cond}
+use mathlib.Core.List.{List, [], _∷_, _++_}
+use mathlib.Core.Option.{Option, none, some}
+use lib.Dec.{leb, eqb}
+use Rattle.octets.specs.Bytes.{be, bytesOf}
+use Rattle.spot.specs.Keys.{word, turned, rankKey}
+use Rattle.spot.specs.declared.Spot.{Spot}
+
+-- the key in the 8 bytes from index i: "signed ones two's complement"
+unfoldable pub keyAt : List ℕ → ℕ → ℕ
+keyAt s i = turned (be 4 s i) * word + turned (be 4 s (i + 4))
+
+-- "spots of 12 bytes: place, rank, track"
+unfoldable pub spotAt : List ℕ → ℕ → Spot
+spotAt s i = record { key = keyAt s i; track = be 4 s (i + 8) }
+
+-- a key's 8 bytes, and a spot's 12
+unfoldable pub keyBytes : ℕ → List ℕ
+keyBytes k = bytesOf 4 (turned (k / word)) ++ bytesOf 4 (turned (k % word))
+
+unfoldable pub spotBytes : Spot → List ℕ
+spotBytes s = keyBytes (s .key) ++ bytesOf 4 (s .track)
+
+-- "the spots, 12 bytes each as on the card"
+abbrev pub spotsBytes : List Spot → List ℕ
+spotsBytes [] = []
+spotsBytes (s ∷ ss) = spotBytes s ++ spotsBytes ss
+
+abbrev pub keys : List Spot → List ℕ
+keys [] = []
+keys (s ∷ ss) = s .key ∷ keys ss
+
+-- the track of the spot with this key
+abbrev pub find : ℕ → List Spot → Option ℕ
+find k [] = none
+find k (s ∷ ss) = cond (eqb k (s .key)) (some (s .track)) (find k ss)
+
+-- a spot put in place order
+abbrev pub put : Spot → List Spot → List Spot
+put s [] = s ∷ []
+put s (x ∷ xs) = cond (leb (s .key) (x .key)) (s ∷ x ∷ xs) (x ∷ put s xs)
+
+abbrev pub putAll : List Spot → List Spot → List Spot
+putAll [] acc = acc
+putAll (s ∷ ss) acc = put s (putAll ss acc)
+
+-- a spot put in rank order, the highest first
+abbrev pub putHigh : Spot → List Spot → List Spot
+putHigh s [] = s ∷ []
+putHigh s (x ∷ xs) = cond (leb (rankKey (x .key)) (rankKey (s .key))) (s ∷ x ∷ xs) (x ∷ putHigh s xs)
+
+abbrev pub byRank : List Spot → List Spot
+byRank [] = []
+byRank (s ∷ ss) = putHigh s (byRank ss)
