@@ -1,10 +1,11 @@
 -- Spots on the card, and lists of spots.
 -- Assumes nothing.
 use Prim.Native.Nat.{ℕ, _+_, _*_, _/_, _%_}
-use mathlib.Core.Bool.{cond}
+use mathlib.Core.Bool.{cond, not}
 use mathlib.Core.List.{List, [], _∷_, _++_}
 use mathlib.Core.Option.{Option, none, some}
 use lib.Dec.{leb, eqb}
+use Rattle.octets.specs.Lists.{keep}
 use Rattle.octets.specs.Bytes.{be, bytesOf}
 use Rattle.spot.specs.Keys.{word, turned, rankKey}
 use Rattle.spot.specs.declared.Spot.{Spot}
@@ -55,3 +56,7 @@ putHigh s (x ∷ xs) = cond (leb (rankKey (x .key)) (rankKey (s .key))) (s ∷ x
 abbrev pub byRank : List Spot → List Spot
 byRank [] = []
 byRank (s ∷ ss) = putHigh s (byRank ss)
+
+-- the spots but the one with this key
+unfoldable pub without : ℕ → List Spot → List Spot
+without k ss = keep (λ s. not (eqb (s .key) k)) ss

@@ -1,0 +1,119 @@
+-- What a node block, and the entry that leads to it, can show of the rules in "When a table is sound". Each rule is a test with a name; `nodeOk` is all of them.
+-- Assumes nothing.
+use Prim.Native.Nat.{ℕ}
+use mathlib.Core.Bool.{Bool, true, cond, _||_}
+use mathlib.Core.List.{List, [], _∷_, _++_, map}
+use lib.ListN.{length}
+use lib.Dec.{ltb, leb, eqb}
+use Rattle.octets.specs.Lists.{all, every, has, isEmpty, rest, rising, distinct}
+use Rattle.spot.specs.Keys.{rankKey}
+use Rattle.spot.specs.Spots.{keys}
+use Rattle.block.specs.declared.Entry.{Entry}
+use Rattle.block.specs.declared.Asked.{Asked}
+use Rattle.block.specs.declared.Asked.the-variants.{Root, Child}
+use Rattle.block.specs.Table.{blockOk}
+use Rattle.block.specs.Node.{Node}
+
+-- the keys that a node names
+unfoldable pub names : Node → List ℕ
+names n = keys (n .points) ++ keys (n .inserts) ++ n .deletes
+
+-- rule 2: "A leaf has no children; an inner node has 4 to 8, the root if inner 2 to 8"
+unfoldable pub fewest : Asked → ℕ
+fewest Root = 2
+fewest (Child e) = 4
+
+unfoldable pub childCountOk : Asked → Node → Bool
+childCountOk a n =
+    cond (eqb (n .level) 0) (isEmpty (n .entries)) (all (leb (fewest a) (length (n .entries)) ∷ leb (length (n .entries)) 8 ∷ []))
+
+-- rule 1, as far as it shows: a child stands in a block of the table
+unfoldable pub childBlocksOk : Node → Bool
+childBlocksOk n = every (λ e. blockOk (n .room) (e .block)) (n .entries)
+
+-- rule 3: "P, I and D rise in place order"
+unfoldable pub buffersRise : Node → Bool
+buffersRise n = all (rising (keys (n .points)) ∷ rising (keys (n .inserts)) ∷ rising (n .deletes) ∷ [])
+
+-- rule 3: "no identity occurs twice in one node"
+unfoldable pub namedOnce : Node → Bool
+namedOnce n = distinct (names n)
+
+abbrev pub lows : List Entry → List ℕ
+lows [] = []
+lows (e ∷ es) = e .low ∷ lows es
+
+-- "In the first child's entry the range field is zero and unused": a view of a block gives 0 there, so this says nothing of a table; updates need it of a
+-- node in memory
+abbrev pub zeroFirst : List ℕ → Bool
+zeroFirst [] = true
+zeroFirst (x ∷ xs) = eqb x 0
+
+-- rule 3: "From the second entry on, the lowest identities rise strictly"
+unfoldable pub lowsRise : Node → Bool
+lowsRise n = all (zeroFirst (lows (n .entries)) ∷ rising (rest (lows (n .entries))) ∷ [])
+
+-- the tops of the children whose P isn't empty
+abbrev pub tops : List Entry → List ℕ
+tops [] = []
+tops (e ∷ es) = cond (eqb (e .size) 0) (tops es) (e .top ∷ tops es)
+
+-- rule 4, as far as it shows: "In rank order P lies above every identity in its own I and D", and above the highest of each child's P
+unfoldable pub pointsAbove : Node → Bool
+pointsAbove n =
+    every (λ p. every (λ k. ltb (rankKey k) (rankKey p)) (keys (n .inserts) ++ n .deletes ++ tops (n .entries))) (keys (n .points))
+
+-- rule 5: "P is 32 to 64, I at most 64 and D at most 16"
+unfoldable pub filled : Node → Bool
+filled n = all (leb 32 (length (n .points)) ∷ leb (length (n .points)) 64 ∷ leb (length (n .inserts)) 64 ∷ leb (length (n .deletes)) 16 ∷ [])
+
+-- rule 5, as far as it shows: "P is under 32, its I and D are empty and all P, I and D below it are empty"
+unfoldable pub lowest : Node → Bool
+lowest n = all (ltb (length (n .points)) 32 ∷ isEmpty (n .inserts) ∷ isEmpty (n .deletes) ∷ every (λ e. eqb (e .size) 0) (n .entries) ∷ [])
+
+-- rule 5: "A leaf's I and D are empty"
+unfoldable pub leafBuffersEmpty : Node → Bool
+leafBuffersEmpty n = cond (eqb (n .level) 0) (all (isEmpty (n .inserts) ∷ isEmpty (n .deletes) ∷ [])) true
+
+unfoldable pub rankKeys : Node → List ℕ
+rankKeys n = map rankKey (keys (n .points))
+
+-- t is the highest, or the lowest, of some keys in rank order
+abbrev pub isHighest : ℕ → List ℕ → Bool
+isHighest t ks = all (has t ks ∷ every (λ k. leb (rankKey k) (rankKey t)) ks ∷ [])
+
+abbrev pub isLowest : ℕ → List ℕ → Bool
+isLowest t ks = all (has t ks ∷ every (λ k. leb (rankKey t) (rankKey k)) ks ∷ [])
+
+-- rule 6: "Entries agree with their children": the size of P, and the highest and the lowest of it in rank order
+unfoldable pub agrees : Asked → Node → Bool
+agrees Root n = true
+agrees (Child e) n =
+    all (
+    eqb (e .size) (length (n .points)) ∷
+    (isEmpty (n .points) || isHighest (e .top) (keys (n .points))) ∷
+    (isEmpty (n .points) || isLowest (e .bottom) (keys (n .points))) ∷
+    [])
+
+-- rule 3, as far as the entry shows: "from its entry's lowest identity"
+unfoldable pub notBelow : Asked → Node → Bool
+notBelow Root n = true
+notBelow (Child e) n = every (λ k. leb (e .low) k) (names n)
+
+-- all that a node block, read at this level (rule 2), and the entry leading to it can show
+unfoldable pub nodeOk : ℕ → Asked → Node → Bool
+nodeOk level a n =
+    all (
+    n .laid ∷
+    eqb (n .level) level ∷
+    childCountOk a n ∷
+    buffersRise n ∷
+    namedOnce n ∷
+    lowsRise n ∷
+    pointsAbove n ∷
+    (filled n || lowest n) ∷
+    leafBuffersEmpty n ∷
+    agrees a n ∷
+    notBelow a n ∷
+    childBlocksOk n ∷
+    [])

@@ -1,0 +1,54 @@
+-- A table as blocks: sizes, capacity, and the bytes of one block.
+-- Assumes nothing.
+use Prim.Native.Nat.{ℕ, _+_, _-_, _*_, _/_, _%_}
+use mathlib.Core.Bool.{Bool}
+use mathlib.Core.List.{List, [], _∷_, _++_}
+use lib.ListN.{length, take, drop}
+use lib.Dec.{ltb, leb, eqb}
+use Rattle.octets.specs.Lists.{all}
+
+-- the lengths that a version of the card settles: of a block, a spot, an identity and a child entry, and the most bytes that a node uses
+pub record Widths : Type 0 where
+  pub block : ℕ
+  pub spot : ℕ
+  pub identity : ℕ
+  pub entry : ℕ
+  pub used : ℕ
+
+-- "blocks of 2,048 bytes", "c child entries of 28 bytes", "spots of 12 bytes", "8-byte identities", "at most 1,896"
+abbrev pub version1 : Widths
+version1 = record { block = 2048; spot = 12; identity = 8; entry = 28; used = 1896 }
+
+abbrev pub blockBytes : ℕ
+blockBytes = 2048
+
+abbrev pub blocksOf : ℕ → ℕ
+blocksOf bytes = bytes / blockBytes
+
+-- "A table is 9 to 4,096 blocks of 2,048 bytes"
+unfoldable pub tableSized : ℕ → Bool
+tableSized bytes = all (eqb (bytes % blockBytes) 0 ∷ leb 9 (blocksOf bytes) ∷ leb (blocksOf bytes) 4096 ∷ [])
+
+-- "Capacity is 16 spots for each block after block 0"
+abbrev pub capacity : ℕ → ℕ
+capacity bytes = 16 * (blocksOf bytes - 1)
+
+-- the bytes of one block
+abbrev pub block : List ℕ → ℕ → List ℕ
+block t b = take blockBytes (drop (b * blockBytes) t)
+
+-- the table with these bytes in the place of block b
+unfoldable pub putBlock : List ℕ → ℕ → List ℕ → List ℕ
+putBlock t b s = take (b * blockBytes) t ++ (s ++ drop blockBytes (drop (b * blockBytes) t))
+
+-- "12-523 the map of blocks in use"; "a map of 512 bytes, laid out as block 0's"
+abbrev pub mapBytes : ℕ
+mapBytes = 512
+
+-- a bit of a map is a block number below this
+abbrev pub mapBlocks : ℕ
+mapBlocks = 4096
+
+-- a block that a node may stand in: one of the table, and not block 0
+unfoldable pub blockOk : ℕ → ℕ → Bool
+blockOk blocks b = all (leb 1 b ∷ ltb b blocks ∷ [])

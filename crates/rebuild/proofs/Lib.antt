@@ -1,0 +1,7 @@
+pub mod Shape
+pub mod Built
+pub mod Kept
+pub mod Steps
+pub mod Rebuilt
+pub mod Choose
+pub mod Made

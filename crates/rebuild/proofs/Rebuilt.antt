@@ -1,0 +1,148 @@
+-- A table that is built whole: sound, live as the list, every node settled.
+-- Assumes nothing.
+use mathlib.Core.Path.{_≡_, refl, ap, sym, _∙_}
+use mathlib.Core.Logic.{inr, ⊎-elim}
+use mathlib.Core.Bool.{Bool, true, false, cond, Bool·beq, _||_, true≢false}
+use mathlib.Core.List.{List, [], _∷_}
+use mathlib.Core.Option.{Option, none, some}
+use Prim.Native.Nat.{ℕ, zero, suc, _+_, _-_, _*_, _/_, _%_, _≤_, _<_}
+use native.Mathlib.Omega.{arith}
+use lib.ListN.{length}
+use lib.Dec.{leb, ltb, eqb}
+use borrow.Author.Tests.{leb-true, le-leb, lt-leb, lt-ltb, ne-eqb}
+use Rattle.octets.specs.Lists.{distinct, all, every, has, upTo}
+use Rattle.spot.specs.declared.Spot.{Spot}
+use Rattle.spot.specs.Spots.{keys, find, put, without}
+use Rattle.spot.specs.Keys.{rankKey, allKeys, word, within}
+use Rattle.octets.specs.Bitmap.{bit}
+use Rattle.block.specs.Header.{headOf}
+use Rattle.block.specs.Node.{storeOf}
+use Rattle.block.specs.Table.{mapBlocks, blocksOf, tableSized}
+use Rattle.block.specs.declared.Asked.the-variants.{Root}
+use Rattle.block.specs.NodeRules.{agrees, fewest}
+use Rattle.block.specs.HeaderRules.{headerOk}
+use Rattle.tree.specs.Part.{Part, whole}
+use Rattle.tree.specs.Lookup.{lookup, live, withKey, isLive}
+use Rattle.tree.specs.Reach.{reach, settled}
+use Rattle.tree.specs.Sound.{soundAt, mapExact, sound}
+use Rattle.tree.specs.Walk.{liveCount, liveSpots}
+use Rattle.rebuild.specs.Build.{nodes, shape, Rebuilt}
+use Rattle.tree.proofs.Buffers.{rank-small}
+use Rattle.tree.proofs.Laws.{all-at, all-cons, all-nil}
+use Rattle.tree.proofs.Canon.{canon, less-or-not, find-put, find-without}
+use Rattle.tree.proofs.Places.{within-to}
+use Rattle.rebuild.proofs.Shape.{Fits, shape-fits}
+use Rattle.tree.proofs.Rises.{find-fails, upTo-distinct, every-by, every-upTo, has-upTo, has-upTo-not}
+use Rattle.tree.proofs.Tables.{Shaped, sound-from, tree-rises, tree-finds, sound-tree, live-finds}
+use Rattle.tree.proofs.Live.{has-keys, lookup-within}
+use Rattle.rebuild.proofs.Built.{Good, built-good}
+
+-- at the root nothing is left out
+find-all : (k : ℕ) (ys : List Spot) → every (within 0 allKeys) (keys ys) ≡ true → cond (ltb (rankKey k) allKeys) (find k ys) none ≡ find k ys
+find-all k ys h = go (within 0 allKeys k) refl
+  where
+    same : (b : Bool) → cond {A = Option ℕ} b none none ≡ none
+    same true = refl
+    same false = refl
+
+    go : (b : Bool) → within 0 allKeys k ≡ b → cond (ltb (rankKey k) allKeys) (find k ys) none ≡ find k ys
+    go true e = rw (lt-ltb (rankKey k) allKeys (rank-small k (within-to 0 allKeys k e)))
+    go false e = rw (find-fails (within 0 allKeys) k ys h e) (same (ltb (rankKey k) allKeys))
+
+-- the map of a tree in blocks 1 to n
+map-exact : (map : List ℕ) (n : ℕ) → ((b : ℕ) → b < mapBlocks → bit map b ≡ leb b n) → mapExact map (upTo 1 n) ≡ true
+unfolding mapExact
+map-exact map n h =
+    all-cons _ _ (upTo-distinct 1 n) (all-cons _ _ (every-upTo (λ b. Bool·beq (bit map b) (eqb b 0 || has b (upTo 1 n))) 0 mapBlocks (λ b lo hi. rw (h b hi) (one b))) all-nil)
+  where
+    one : (b : ℕ) → Bool·beq (leb b n) (eqb b 0 || has b (upTo 1 n)) ≡ true
+    one zero = rw (le-leb 0 n (omega arith))
+    one (suc b) =
+        ⊎-elim (λ (l : suc b ≤ n). rw (le-leb (suc b) n l, ne-eqb (suc b) 0 (λ (e : suc b ≡ 0). omega arith), has-upTo (suc b) 1 n (omega arith) (omega arith)))
+        (λ (l : n < suc b). rw (lt-leb (suc b) n l, ne-eqb (suc b) 0 (λ (e : suc b ≡ 0). omega arith), has-upTo-not (suc b) 1 n (inr (omega arith))))
+        (less-or-not (suc b) n)
+
+-- a table that is built whole
+module _ (t : List ℕ) (ys : List Spot) (r : Rebuilt t ys) where
+  blocks-most : (9 ≤ blocksOf (length t)) × (blocksOf (length t) ≤ 4096)
+  unfolding headerOk tableSized
+  blocks-most = let z = all-at _ (r .header) 8 in (leb-true 9 (blocksOf (length t)) (all-at _ z 1), leb-true (blocksOf (length t)) 4096 (all-at _ z 2))
+
+  fits : Fits (length ys) (blocksOf (length t) - 1) (shape (length ys))
+  fits =
+      let b = blocks-most in
+      shape-fits (length ys) (blocksOf (length t) - 1) (r .few) (omega (arith, b .0)) (omega (arith, b .1))
+
+  abbrev top : Part
+  top = record { block = 1; asked = Root; lo = 0; hi = allKeys }
+
+  good : Good (suc (length (shape (length ys)))) (storeOf t) top ys allKeys (nodes (shape (length ys)))
+  unfolding agrees fewest
+  good =
+      let f = fits .fits in
+      let b = blocks-most .0 in
+      built-good (shape (length ys)) (blocksOf (length t)) (storeOf t) allKeys top ys (r .built)
+      (record { up = r .up; inside = r .keyed; agree = refl; low = omega arith; fans = fits .fans; first = omega arith; last = omega arith })
+
+  is-top : whole (headOf t) ≡ top
+  is-top = λ i. record { block = r .root i; asked = Root; lo = 0; hi = allKeys }
+
+  tree-sound : soundAt (headOf t .levels) (storeOf t) (whole (headOf t)) ≡ true
+  tree-sound = rw (is-top, r .levels) (good .sound)
+
+  -- what is live is what it was built from
+  pub rebuilt-live : (k : ℕ) → live t k ≡ find k ys
+  unfolding live
+  rebuilt-live k = rw (is-top, r .levels) (good .look k ∙ find-all k ys (r .keyed))
+
+  rebuilt-reach : reach (headOf t .levels) (storeOf t) (whole (headOf t)) ≡ upTo 1 (nodes (shape (length ys)))
+  rebuilt-reach = rw (is-top, r .levels) (good .reached)
+
+  rebuilt-shaped : Shaped t
+  rebuilt-shaped =
+      record { header = r .header; tree = tree-sound; map = rw rebuilt-reach (map-exact (headOf t .inUse) (nodes (shape (length ys))) (r .inUse)) }
+
+  pub rebuilt-spots : liveSpots t ≡ ys
+  rebuilt-spots =
+      canon 0 (liveSpots t) ys (tree-rises t rebuilt-shaped) (r .up) (λ k. tree-finds t rebuilt-shaped k ∙ rebuilt-live k)
+
+  -- all waiting changes are carried out
+  pub rebuilt-settled : every (λ b. settled (storeOf t b)) (reach (headOf t .levels) (storeOf t) (whole (headOf t))) ≡ true
+  rebuilt-settled = rw (is-top, r .levels) (good .quiet)
+
+  pub rebuilt-sound : sound t ≡ true
+  rebuilt-sound = sound-from t rebuilt-shaped (rw rebuilt-spots (r .bound))
+
+unlive : (t : List ℕ) (k : ℕ) {a : ℕ} → live t k ≡ some a → lookup (headOf t .levels) (storeOf t) k (whole (headOf t)) ≡ some a
+unfolding live
+unlive t k h = h
+
+-- the live spots of a sound table are fit to be built from
+module _ (t : List ℕ) (s : sound t ≡ true) where
+  pub live-keyed : every (within 0 allKeys) (keys (liveSpots t)) ≡ true
+  live-keyed = every-by (within 0 allKeys) (keys (liveSpots t)) (λ k h. go k (find k (liveSpots t)) refl (sym (has-keys k (liveSpots t)) ∙ h))
+    where
+      go : (k : ℕ) (o : Option ℕ) → find k (liveSpots t) ≡ o → isLive (find k (liveSpots t)) ≡ true → within 0 allKeys k ≡ true
+      go k none e h = absurd (true≢false (sym h ∙ ap isLive e))
+      go k (some a) e h =
+          lookup-within (headOf t .levels) (storeOf t) k (whole (headOf t)) (sound-tree t s) (omega arith) (unlive t k (sym (live-finds t s k) ∙ e))
+
+  -- Rebuild
+  pub rebuild-live : (u : List ℕ) → Rebuilt u (liveSpots t) → (k : ℕ) → live u k ≡ live t k
+  rebuild-live u r k = rebuilt-live u (liveSpots t) r k ∙ live-finds t s k
+
+  -- Add, by the rebuild path
+  pub add-live : (u : List ℕ) (x : Spot) → Rebuilt u (put x (without (x .key) (liveSpots t))) → (k : ℕ) → live u k ≡ withKey (x .key) (some (x .track)) (live t) k
+  unfolding withKey
+  add-live u x r k =
+      rebuilt-live u (put x (without (x .key) (liveSpots t))) r k ∙ find-put k x (without (x .key) (liveSpots t)) ∙
+      rw (find-without k (x .key) (liveSpots t), live-finds t s k) (once (eqb k (x .key)) (some (x .track)) (live t k))
+    where
+      once : (b : Bool) (o p : Option ℕ) → cond b o (cond b none p) ≡ cond b o p
+      once true o p = refl
+      once false o p = refl
+
+  -- Withdraw, by the rebuild path
+  pub withdraw-live : (u : List ℕ) (j : ℕ) → Rebuilt u (without j (liveSpots t)) → (k : ℕ) → live u k ≡ withKey j none (live t) k
+  unfolding withKey
+  withdraw-live u j r k = rebuilt-live u (without j (liveSpots t)) r k ∙ find-without k j (liveSpots t) ∙ rw (live-finds t s k)

@@ -1,0 +1,117 @@
+-- Demand 3, from the promises of the calls alone.
+-- Assumes nothing.
+use mathlib.Core.Path.{_≡_, refl, ap, sym, _∙_, subst}
+use mathlib.Core.Bool.{true, not}
+use mathlib.Core.List.{List, [], _∷_}
+use Prim.Native.Nat.{ℕ, _-_, _*_, _/_, _≤_}
+use native.Mathlib.Omega.{arith}
+use lib.ListN.{length}
+use Rattle.spot.specs.declared.Spot.{Spot}
+use Rattle.block.specs.Fresh.{formatted}
+use Rattle.block.specs.Table.{tableSized}
+use Rattle.spot.specs.Query.{query}
+use Rattle.tree.specs.Sound.{sound}
+use Rattle.tree.specs.Walk.{liveSpots}
+use Rattle.table.specs.Calls.{Call, format, add, withdraw, report, top, count, check, rebuild, argumentsFit}
+use Rattle.table.specs.Answers.{lengths}
+use Rattle.table.specs.Model.{PlainSpot, outputAfter}
+use Rattle.table.specs.History.{Event, MetBy, History, Agreed, FullExactly, MarksExactly, AllAgreed, Demand3, replyIn}
+use Rattle.tree.proofs.Fresh.{fresh-sized, fresh-sound, fresh-empty}
+use Rattle.table.proofs.Histories.{TreeLaws, keyReplyIn, map-accepted, step}
+use Rattle.table.proofs.Plain.{keyed, AllFit, Like, like, bad-table}
+use Rattle.table.proofs.Sorted.{stays-held, says-full}
+use Rattle.tree.proofs.Tables.{live-rises, live-finds, report-finds, count-finds}
+use Rattle.tree.proofs.Second.{report-second}
+use Rattle.tree.proofs.Tops.{top-finds, top-rises}
+use Rattle.tree.proofs.TopSecond.{top-second, top-walk-second}
+use Rattle.tree.proofs.Bound.{report-bound}
+use Rattle.tree.proofs.Exact.{marks-exact}
+
+tree-laws : TreeLaws
+tree-laws =
+    record {
+      fresh-sized = fresh-sized;
+      fresh-sound = fresh-sound;
+      fresh-empty = fresh-empty;
+      rises = live-rises;
+      finds = live-finds;
+      reports = report-finds;
+      counts = count-finds;
+      tops = top-finds;
+      bound = report-bound;
+      second = λ t u s q n a. report-second t s u q n a;
+      second-top = λ t u s x1 x2 k n a. (top-walk-second t s x1 x2 u n k a, top-second t s x1 x2 u n k a);
+      top-rises = top-rises;
+    }
+
+-- the claim of one call, where the model holds the live spots
+record Step (t : List ℕ) (ss : List PlainSpot) (e : Event) : Type 0 where
+  agreed : Agreed (e .call) t (replyIn (e .call) t ss e .answer) (outputAfter (replyIn (e .call) t ss e) (e .output)) e
+  sized : length (e .table′) ≡ length t
+  holds : keyed (replyIn (e .call) t ss e .next) ≡ liveSpots (e .table′)
+  fit : AllFit (replyIn (e .call) t ss e .next)
+  full : FullExactly (e .call) t ss e
+  held : length (replyIn (e .call) t ss e .next) ≤ 16 * (length (e .table′) / 2048 - 1)
+
+full-exactly : (c : Call) (t : List ℕ) (ss : List PlainSpot) (e : Event) → tableSized (length t) ≡ true → length ss ≤ 16 * (length t / 2048 - 1)
+    → e .answer ≡ replyIn c t ss e .answer
+    → FullExactly c t ss e
+full-exactly format t ss e z h a = tt
+full-exactly (add place rank track) t ss e z h a =
+    λ w. rw a (says-full (lengths t (e .output) (e .readMap) (e .scratch)) place rank track ss (bad-table (length t) ∙ ap not z) w h)
+full-exactly (withdraw place rank) t ss e z h a = tt
+full-exactly (report x1 x2 y) t ss e z h a = tt
+full-exactly (top x1 x2 k) t ss e z h a = tt
+full-exactly count t ss e z h a = tt
+full-exactly check t ss e z h a = tt
+full-exactly rebuild t ss e z h a = tt
+
+marks-exactly : (c : Call) (t : List ℕ) (e : Event) → sound t ≡ true → MetBy c t e → MarksExactly c t e
+marks-exactly format t e s p = tt
+marks-exactly (add place rank track) t e s p = tt
+marks-exactly (withdraw place rank) t e s p = tt
+marks-exactly (report x1 x2 y) t e s p =
+    λ z b l. rw (p .1 .marks ∙ map-accepted _ _ _ z) (marks-exact t s (query x1 x2 y) b l)
+marks-exactly (top x1 x2 k) t e s p = tt
+marks-exactly count t e s p = tt
+marks-exactly check t e s p = tt
+marks-exactly rebuild t e s p = tt
+
+one-step : (t : List ℕ) (ss : List PlainSpot) (e : Event) → tableSized (length t) ≡ true → sound t ≡ true → keyed ss ≡ liveSpots t → AllFit ss
+    → length ss ≤ 16 * (length t / 2048 - 1)
+    → argumentsFit (e .call) ≡ true
+    → MetBy (e .call) t e
+    → Step t ss e
+one-step t ss e z s same fit h a m =
+    let k = step tree-laws (e .call) t e z s m in
+    let alike = subst (λ (l : List Spot). Like (replyIn (e .call) t ss e) (keyReplyIn (e .call) t l e)) same (like _ (e .call) ss a fit) in
+    record {
+      agreed =
+          record {
+            answer = k .agreed .answer ∙ sym (alike .answer);
+            output = λ q. k .agreed .output q ∙ sym (alike .output (e .output));
+            staysSound = k .agreed .staysSound;
+            bounded = k .agreed .bounded;
+            second = k .agreed .second;
+          };
+      sized = k .sized;
+      holds = alike .next ∙ k .next;
+      fit = alike .fit;
+      full = full-exactly (e .call) t ss e z h (k .agreed .answer ∙ sym (alike .answer));
+      held = rw (k .sized) (stays-held (length t) (lengths t (e .output) (e .readMap) (e .scratch)) refl (e .call) ss h);
+    }
+
+-- a whole history, from any sound table and a model that holds its live spots
+all-agreed : (t : List ℕ) (ss : List PlainSpot) (es : List Event) → tableSized (length t) ≡ true → sound t ≡ true → keyed ss ≡ liveSpots t → AllFit ss
+    → length ss ≤ 16 * (length t / 2048 - 1)
+    → History t es
+    → AllAgreed t ss es
+all-agreed t ss [] z s same fit n h = tt
+all-agreed t ss (e ∷ es) z s same fit n h =
+    let k = one-step t ss e z s same fit n (h .0) (h .1) in
+    (k .agreed, k .full, marks-exactly (e .call) t e s (h .1), all-agreed (e .table′) _ es (ap tableSized (k .sized) ∙ z) (k .agreed .staysSound) (k .holds) (k .fit) (k .held) (h .2))
+
+-- every history of calls that keep their promises, from a formatted table on, answers as the model does
+pub demand3 : Demand3
+demand3 bytes z es h =
+    all-agreed (formatted bytes) [] es (ap tableSized (fresh-sized bytes z) ∙ z) (fresh-sound bytes z) (sym (fresh-empty bytes z)) tt (omega arith) h

@@ -1,0 +1,50 @@
+-- The plain list over keys, a stepping stone: the table is held against it first (Histories), and it against the model (Plain).
+-- Assumes nothing.
+use Prim.Native.Nat.{ℕ, zero, suc}
+use mathlib.Core.Bool.{not}
+use mathlib.Core.List.{List, []}
+use lib.ListN.{length, take}
+use lib.Dec.{eqb}
+use Rattle.octets.specs.Lists.{keep}
+use Rattle.spot.specs.declared.Spot.{Spot}
+use Rattle.spot.specs.Keys.{key}
+use Rattle.spot.specs.Spots.{without, find, put, byRank}
+use Rattle.spot.specs.Query.{query, topQuery, wants}
+use Rattle.table.specs.Calls.{Call, format, add, withdraw, report, top, count, check, rebuild, Lengths}
+use Rattle.block.specs.declared.Answer.{Answer}
+use Rattle.table.specs.Answers.{lengthNumber, addNumber, spotsAnswer}
+use Rattle.tree.specs.Lookup.{isLive}
+
+-- what it answers, hands out, and holds afterwards
+pub record KeyReply : Type 0 where
+  pub answer : Answer
+  pub given : List Spot
+  pub next : List Spot
+
+unfoldable pub accepted : ℕ → List Spot → KeyReply
+accepted detail next = record { answer = record { number = 0; detail = detail }; given = []; next = next }
+
+-- a refusal with detail 0 where the number is not 0: "A refused call leaves the list as it was"
+unfoldable pub refusedOr : ℕ → List Spot → KeyReply → KeyReply
+refusedOr zero ss r = r
+refusedOr (suc n) ss r = record { answer = record { number = suc n; detail = 0 }; given = []; next = ss }
+
+-- "their spots are those defined above, in that order; 5 if there are more than the output holds"
+unfoldable pub gives : ℕ → List Spot → List Spot → KeyReply
+gives bytes found ss = record { answer = spotsAnswer bytes (length found); given = found; next = ss }
+
+-- a call whose lengths are right
+unfoldable pub replyTo : Lengths → Call → List Spot → KeyReply
+replyTo l format ss = accepted 0 []
+replyTo l (add place rank track) ss =
+    refusedOr (addNumber (l .table) (length ss) (isLive (find (key place rank) ss))) ss
+    (accepted 0 (put (record { key = key place rank; track = track }) (without (key place rank) ss)))
+replyTo l (withdraw place rank) ss = accepted 0 (without (key place rank) ss)
+replyTo l (report x1 x2 y) ss = gives (l .output) (keep (wants (query x1 x2 y)) ss) ss
+replyTo l (top x1 x2 k) ss = gives (l .output) (take k (byRank (keep (wants (topQuery x1 x2 0)) ss))) ss
+replyTo l count ss = accepted (length ss) ss
+replyTo l check ss = accepted 1 ss
+replyTo l rebuild ss = accepted 0 ss
+
+unfoldable pub keyReply : Lengths → Call → List Spot → KeyReply
+keyReply l c ss = refusedOr (lengthNumber l c) ss (replyTo l c ss)

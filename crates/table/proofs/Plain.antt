@@ -1,0 +1,312 @@
+-- The model against the plain list over keys: as long as all numbers are within their 32 bits they answer alike, and hold the same spots.
+-- Assumes nothing.
+use mathlib.Core.Path.{_≡_, refl, sym, ap, ap₂, _∙_}
+use mathlib.Core.Bool.{Bool, true, false, cond, not, _&&_, _||_}
+use mathlib.Core.List.{List, [], _∷_, _++_, map}
+use mathlib.Core.Option.{Option, some}
+use Prim.Native.Nat.{ℕ, zero, suc, _*_, _/_, _%_}
+use lib.ListN.{length, take, drop}
+use lib.Dec.{leb, ltb, eqb}
+use lib.IntN.{ℤ}
+use Rattle.octets.specs.Lists.{all, keep}
+use Rattle.spot.specs.declared.Spot.{Spot}
+use Rattle.spot.specs.Keys.{key, rankKey, signed32, unsigned32}
+use Rattle.spot.specs.Spots.{spotBytes, spotsBytes, find, put, putHigh, byRank, without}
+use Rattle.block.specs.Table.{tableSized}
+use Rattle.spot.specs.Query.{query, topQuery, wants}
+use Rattle.table.specs.Calls.{Call, format, add, withdraw, report, top, count, check, rebuild, Lengths, argumentsFit}
+use Rattle.table.specs.Answers.{lengthNumber, addNumber, spotsAnswer, outputLeft}
+use Rattle.tree.specs.Lookup.{isLive}
+use Rattle.table.specs.Model.{PlainSpot, hasIdentity, placeBefore, rankHigher, ofPlaces, ofReport, chosen, insertBy, sortBy, listed, takenOut, broughtIn, highest, fourBytes, complement, asBytes, Reply, outputAfter, refuse, accept, badTable, badMap, shortScratch, full, handOut, reply}
+use Rattle.tree.proofs.Laws.{and-left, and-right}
+use Rattle.table.proofs.Keyed.{KeyReply, keyReply, replyTo, refusedOr, accepted, gives}
+use Rattle.table.proofs.Orders.{Fits, signed-fits, eqb-flip, not-leb, place-order, rank-order, same-identity, report-wants, top-wants, four-bytes, key-bytes}
+
+-- a spot of the model as the table's definitions have it
+abbrev pub toKeySpot : PlainSpot → Spot
+toKeySpot s = record { key = key (s .place) (s .rank); track = s .track }
+
+abbrev pub keyed : List PlainSpot → List Spot
+keyed ss = map toKeySpot ss
+
+-- its place and rank are within 32 bits
+pub record SpotFits (s : PlainSpot) : Type 0 where
+  pub place : Fits (s .place)
+  pub rank : Fits (s .rank)
+
+abbrev pub AllFit : List PlainSpot → Type 0
+AllFit [] = Unit {0}
+AllFit (s ∷ ss) = SpotFits s × AllFit ss
+
+-- ---- the operations on lists, each against its fellow on keys
+
+pub keyed-length : (ss : List PlainSpot) → length (keyed ss) ≡ length ss
+keyed-length [] = refl
+keyed-length (s ∷ ss) = ap suc (keyed-length ss)
+
+keyed-take : (k : ℕ) (ss : List PlainSpot) → keyed (take k ss) ≡ take k (keyed ss)
+keyed-take zero ss = refl
+keyed-take (suc k) [] = refl
+keyed-take (suc k) (s ∷ ss) = ap (λ (l : List Spot). toKeySpot s ∷ l) (keyed-take k ss)
+
+take-fit : (k : ℕ) (ss : List PlainSpot) → AllFit ss → AllFit (take k ss)
+take-fit zero ss f = tt
+take-fit (suc k) [] f = tt
+take-fit (suc k) (s ∷ ss) f = (f .0, take-fit k ss (f .1))
+
+keyed-cond : (b : Bool) (xs ys : List PlainSpot) → keyed (cond b xs ys) ≡ cond b (keyed xs) (keyed ys)
+keyed-cond true xs ys = refl
+keyed-cond false xs ys = refl
+
+cond-fit : (b : Bool) (xs ys : List PlainSpot) → AllFit xs → AllFit ys → AllFit (cond b xs ys)
+cond-fit true xs ys f g = f
+cond-fit false xs ys f g = g
+
+cond-not : (b : Bool) (xs ys : List Spot) → cond (not b) xs ys ≡ cond b ys xs
+cond-not true xs ys = refl
+cond-not false xs ys = refl
+
+module _ (f : PlainSpot → Bool) where
+  chosen-fit : (ss : List PlainSpot) → AllFit ss → AllFit (chosen f ss)
+  chosen-fit [] h = tt
+  chosen-fit (s ∷ ss) h = cond-fit (f s) (s ∷ chosen f ss) (chosen f ss) (h .0, chosen-fit ss (h .1)) (chosen-fit ss (h .1))
+
+  keyed-chosen : (g : Spot → Bool) → ((s : PlainSpot) → SpotFits s → f s ≡ g (toKeySpot s)) → (ss : List PlainSpot) → AllFit ss
+      → keyed (chosen f ss) ≡ keep g (keyed ss)
+  keyed-chosen g same [] h = refl
+  keyed-chosen g same (s ∷ ss) h =
+      keyed-cond (f s) (s ∷ chosen f ss) (chosen f ss) ∙
+      ap₂ (λ (b : Bool) (l : List Spot). cond b (toKeySpot s ∷ l) l) (same s (h .0)) (keyed-chosen g same ss (h .1))
+
+module _ (before : PlainSpot → PlainSpot → Bool) where
+  insert-fit : (s : PlainSpot) (xs : List PlainSpot) → SpotFits s → AllFit xs → AllFit (insertBy before s xs)
+  insert-fit s [] f h = (f, tt)
+  insert-fit s (x ∷ xs) f h =
+      cond-fit (before x s) (x ∷ insertBy before s xs) (s ∷ x ∷ xs) (h .0, insert-fit s xs f (h .1)) (f, h)
+
+  sort-fit : (ss : List PlainSpot) → AllFit ss → AllFit (sortBy before ss)
+  sort-fit [] h = tt
+  sort-fit (s ∷ ss) h = insert-fit s (sortBy before ss) (h .0) (sort-fit ss (h .1))
+
+-- one step of an insertion
+step-in : (b : Bool) (s x : PlainSpot) (ins xs : List PlainSpot) (c : Bool) (l : List Spot) → b ≡ not c → keyed ins ≡ l
+    → keyed (cond b (x ∷ ins) (s ∷ x ∷ xs)) ≡ cond c (toKeySpot s ∷ toKeySpot x ∷ keyed xs) (toKeySpot x ∷ l)
+step-in b s x ins xs c l e k =
+    keyed-cond b (x ∷ ins) (s ∷ x ∷ xs) ∙
+    ap₂ (λ (t : Bool) (m : List Spot). cond t (toKeySpot x ∷ m) (toKeySpot s ∷ toKeySpot x ∷ keyed xs)) e k ∙
+    cond-not c (toKeySpot x ∷ l) (toKeySpot s ∷ toKeySpot x ∷ keyed xs)
+
+-- place order is the order of keys
+pub before-keys : (x s : PlainSpot) → SpotFits x → SpotFits s → placeBefore x s ≡ not (leb (toKeySpot s .key) (toKeySpot x .key))
+unfolding placeBefore
+before-keys x s f g =
+    place-order (x .place) (x .rank) (s .place) (s .rank) (f .place) (f .rank) (g .place) (g .rank) ∙ sym (not-leb (toKeySpot s .key) (toKeySpot x .key))
+
+-- rank order is the order of rank keys
+higher-keys : (x s : PlainSpot) → SpotFits x → SpotFits s → rankHigher x s ≡ not (leb (rankKey (toKeySpot x .key)) (rankKey (toKeySpot s .key)))
+unfolding rankHigher
+higher-keys x s f g =
+    rank-order (s .place) (s .rank) (x .place) (x .rank) (g .place) (g .rank) (f .place) (f .rank) ∙
+    sym (not-leb (rankKey (toKeySpot x .key)) (rankKey (toKeySpot s .key)))
+
+keyed-put : (s : PlainSpot) (xs : List PlainSpot) → SpotFits s → AllFit xs → keyed (insertBy placeBefore s xs) ≡ put (toKeySpot s) (keyed xs)
+keyed-put s [] f h = refl
+keyed-put s (x ∷ xs) f h =
+    step-in (placeBefore x s) s x (insertBy placeBefore s xs) xs (leb (toKeySpot s .key) (toKeySpot x .key)) (put (toKeySpot s) (keyed xs)) (before-keys x s (h .0) f) (keyed-put s xs f (h .1))
+
+keyed-high : (s : PlainSpot) (xs : List PlainSpot) → SpotFits s → AllFit xs → keyed (insertBy rankHigher s xs) ≡ putHigh (toKeySpot s) (keyed xs)
+keyed-high s [] f h = refl
+keyed-high s (x ∷ xs) f h =
+    step-in (rankHigher x s) s x (insertBy rankHigher s xs) xs (leb (rankKey (toKeySpot x .key)) (rankKey (toKeySpot s .key))) (putHigh (toKeySpot s) (keyed xs)) (higher-keys x s (h .0) f) (keyed-high s xs f (h .1))
+
+keyed-sort : (ss : List PlainSpot) → AllFit ss → keyed (sortBy rankHigher ss) ≡ byRank (keyed ss)
+keyed-sort [] h = refl
+keyed-sort (s ∷ ss) h =
+    keyed-high s (sortBy rankHigher ss) (h .0) (sort-fit rankHigher ss (h .1)) ∙ ap (putHigh (toKeySpot s)) (keyed-sort ss (h .1))
+
+-- one identity, one key
+module _ (place rank : ℤ) (fp : Fits place) (fr : Fits rank) where
+  pub identity-key : (s : PlainSpot) → SpotFits s → hasIdentity place rank s ≡ eqb (toKeySpot s .key) (key place rank)
+  unfolding hasIdentity
+  identity-key s f = same-identity (s .place) (s .rank) place rank (f .place) (f .rank) fp fr
+
+  keyed-out : (ss : List PlainSpot) → AllFit ss → keyed (takenOut place rank ss) ≡ without (key place rank) (keyed ss)
+  unfolding takenOut without
+  keyed-out ss h =
+      keyed-chosen (λ s. not (hasIdentity place rank s)) (λ s. not (eqb (s .key) (key place rank))) (λ s f. ap not (identity-key s f)) ss h
+
+  pub out-fit : (ss : List PlainSpot) → AllFit ss → AllFit (takenOut place rank ss)
+  unfolding takenOut
+  out-fit ss h = chosen-fit (λ s. not (hasIdentity place rank s)) ss h
+
+  live-cond : (b : Bool) (a : ℕ) (o : Option ℕ) → isLive (cond b (some a) o) ≡ b || isLive o
+  live-cond true a o = refl
+  live-cond false a o = refl
+
+  listed-live : (ss : List PlainSpot) → AllFit ss → listed place rank ss ≡ isLive (find (key place rank) (keyed ss))
+  listed-live [] h = refl
+  listed-live (s ∷ ss) h =
+      ap₂ (λ (a b : Bool). a || b) (identity-key s (h .0) ∙ eqb-flip (toKeySpot s .key) (key place rank)) (listed-live ss (h .1)) ∙
+      sym (live-cond (eqb (key place rank) (toKeySpot s .key)) (s .track) (find (key place rank) (keyed ss)))
+
+  module _ (track : ℕ) where
+    -- the new spot
+    abbrev pub new : PlainSpot
+    new = record { place = place; rank = rank; track = track }
+
+    keyed-in : (ss : List PlainSpot) → AllFit ss
+        → keyed (broughtIn new ss)
+        ≡ put (record { key = key place rank; track = track }) (without (key place rank) (keyed ss))
+    unfolding broughtIn
+    keyed-in ss h =
+        keyed-put new (takenOut place rank ss) (record { place = fp; rank = fr }) (out-fit ss h) ∙
+        ap (put (record { key = key place rank; track = track })) (keyed-out ss h)
+
+    in-fit : (ss : List PlainSpot) → AllFit ss → AllFit (broughtIn new ss)
+    unfolding broughtIn
+    in-fit ss h = insert-fit placeBefore new (takenOut place rank ss) (record { place = fp; rank = fr }) (out-fit ss h)
+
+module _ (x1 x2 : ℤ) (f1 : Fits x1) (f2 : Fits x2) where
+  keyed-report : (y : ℤ) → Fits y → (ss : List PlainSpot) → AllFit ss → keyed (chosen (ofReport x1 x2 y) ss) ≡ keep (wants (query x1 x2 y)) (keyed ss)
+  unfolding ofReport ofPlaces
+  keyed-report y fy ss h =
+      keyed-chosen (ofReport x1 x2 y) (wants (query x1 x2 y))
+      (λ s f. report-wants (s .place) (s .rank) x1 x2 (f .place) (f .rank) f1 f2 y fy)
+      ss
+      h
+
+  keyed-highest : (k : ℕ) (ss : List PlainSpot) → AllFit ss → keyed (highest x1 x2 k ss) ≡ take k (byRank (keep (wants (topQuery x1 x2 0)) (keyed ss)))
+  unfolding highest ofPlaces
+  keyed-highest k ss h =
+      keyed-take k (sortBy rankHigher (chosen (ofPlaces x1 x2) ss)) ∙
+      ap (take k)
+      (keyed-sort (chosen (ofPlaces x1 x2) ss) (chosen-fit (ofPlaces x1 x2) ss h) ∙
+      ap byRank
+      (keyed-chosen (ofPlaces x1 x2) (wants (topQuery x1 x2 0)) (λ s f. top-wants (s .place) (s .rank) x1 x2 (f .place) (f .rank) f1 f2) ss h))
+
+  highest-fit : (k : ℕ) (ss : List PlainSpot) → AllFit ss → AllFit (highest x1 x2 k ss)
+  unfolding highest
+  highest-fit k ss h = take-fit k (sortBy rankHigher (chosen (ofPlaces x1 x2) ss)) (sort-fit rankHigher (chosen (ofPlaces x1 x2) ss) (chosen-fit (ofPlaces x1 x2) ss h))
+
+-- ---- bytes
+
+spot-bytes : (s : PlainSpot) → SpotFits s
+    → fourBytes (complement (s .place)) ++ fourBytes (complement (s .rank)) ++ fourBytes (s .track) ≡ spotBytes (toKeySpot s)
+unfolding spotBytes
+spot-bytes s f =
+    ap₂ (λ (x y : List ℕ). x ++ y) (key-bytes (s .place) (s .rank) (f .place) (f .rank)) (four-bytes (s .track))
+
+pub keyed-bytes : (ss : List PlainSpot) → AllFit ss → asBytes ss ≡ spotsBytes (keyed ss)
+keyed-bytes [] h = refl
+keyed-bytes (s ∷ ss) h = ap₂ (λ (x y : List ℕ). x ++ y) (spot-bytes s (h .0)) (keyed-bytes ss (h .1))
+
+-- ---- replies
+
+-- a reply of the model and one of the plain list over keys say the same
+pub record Like (r : Reply) (k : KeyReply) : Type 0 where
+  pub answer : r .answer ≡ k .answer
+  pub output : (out : List ℕ) → outputAfter r out ≡ outputLeft (k .answer .number) (k .given) out
+  pub next : keyed (r .next) ≡ k .next
+  pub fit : AllFit (r .next)
+
+like-accept : (d : ℕ) (next : List PlainSpot) → AllFit next → Like (accept d [] next) (accepted d (keyed next))
+unfolding accept accepted outputAfter outputLeft
+like-accept d next f = record { answer = refl; output = λ out. refl; next = refl; fit = f }
+
+like-next : (next : List PlainSpot) (keys : List Spot) → AllFit next → keyed next ≡ keys → Like (accept 0 [] next) (accepted 0 keys)
+like-next next keys f e = rw (← e) (like-accept 0 next f)
+
+module _ (ss : List PlainSpot) (fit : AllFit ss) where
+  -- 1 and 2, by the lengths
+  like-lengths : (sized lent : Bool) (x : Reply) (y : KeyReply) → Like x y
+      → Like (cond (not sized) (refuse 1 0 ss) (cond (not lent) (refuse 2 0 ss) x)) (refusedOr (cond sized (cond lent 0 2) 1) (keyed ss) y)
+  unfolding refuse refusedOr outputAfter outputLeft
+  like-lengths true true x y h = h
+  like-lengths true false x y h = record { answer = refl; output = λ out. refl; next = refl; fit = fit }
+  like-lengths false lent x y h = record { answer = refl; output = λ out. refl; next = refl; fit = fit }
+
+  -- 4
+  like-full : (b : Bool) (x : Reply) (y : KeyReply) → Like x y → Like (cond b (refuse 4 0 ss) x) (refusedOr (cond b 4 0) (keyed ss) y)
+  unfolding refuse refusedOr outputAfter outputLeft
+  like-full true x y h = record { answer = refl; output = λ out. refl; next = refl; fit = fit }
+  like-full false x y h = h
+
+  -- 5
+  like-out : (b : Bool) (found : List PlainSpot) → AllFit found
+      → Like (cond b (refuse 5 (length found) ss) (accept (length found) found ss))
+      (record { answer = record { number = cond b 5 0; detail = length found }; given = keyed found; next = keyed ss })
+  unfolding refuse accept outputAfter outputLeft
+  like-out true found f = record { answer = refl; output = λ out. refl; next = refl; fit = fit }
+  like-out false found f =
+      record {
+        answer = refl;
+        output = λ out. ap₂ (λ (l : List ℕ) (n : ℕ). l ++ drop (12 * n) out) (keyed-bytes found f) (sym (keyed-length found));
+        next = refl;
+        fit = fit;
+      }
+
+  like-given : (bytes : ℕ) (found : List PlainSpot) (keys : List Spot) → AllFit found → keyed found ≡ keys
+      → Like (handOut bytes found ss) (gives bytes keys (keyed ss))
+  unfolding handOut gives spotsAnswer
+  like-given bytes found keys f e = rw (← e, keyed-length found) (like-out (ltb (bytes / 12) (length found)) found f)
+
+-- 1
+not-all : (a b c : Bool) → not a || not b || not c ≡ not (all (a ∷ b ∷ c ∷ []))
+unfolding all
+not-all true true true = refl
+not-all true true false = refl
+not-all true false c = refl
+not-all false b c = refl
+
+pub bad-table : (bytes : ℕ) → badTable bytes ≡ not (tableSized bytes)
+unfolding badTable tableSized
+bad-table bytes =
+    ap₂ (λ (a b : Bool). not (eqb (bytes % 2048) 0) || a || b) (sym (not-leb 9 (bytes / 2048))) (sym (not-leb (bytes / 2048) 4096)) ∙
+    not-all (eqb (bytes % 2048) 0) (leb 9 (bytes / 2048)) (leb (bytes / 2048) 4096)
+
+short-scratch : (l : Lengths) → shortScratch l ≡ not (leb (l .table) (l .scratch))
+unfolding shortScratch
+short-scratch l = sym (not-leb (l .table) (l .scratch))
+
+-- 4
+full-number : (bytes : ℕ) (place rank : ℤ) (ss : List PlainSpot) → Fits place → Fits rank → AllFit ss
+    → addNumber bytes (length (keyed ss)) (isLive (find (key place rank) (keyed ss))) ≡ cond (full bytes place rank ss) 4 0
+unfolding full addNumber
+full-number bytes place rank ss fp fr h = rw (keyed-length ss, ← listed-live place rank fp fr ss h)
+
+-- the arguments, from the test
+pub two-fit : (x y : ℤ) → signed32 x && signed32 y ≡ true → Fits x × Fits y
+two-fit x y a = (signed-fits x (and-left (signed32 x) (signed32 y) a), signed-fits y (and-right (signed32 x) (signed32 y) a))
+
+-- every call is answered alike
+pub like : (l : Lengths) (c : Call) (ss : List PlainSpot) → argumentsFit c ≡ true → AllFit ss → Like (reply l c ss) (keyReply l c (keyed ss))
+unfolding reply keyReply replyTo lengthNumber argumentsFit badMap
+like l format ss a h = rw (bad-table (l .table)) (like-lengths ss h (tableSized (l .table)) true _ _ (like-accept 0 [] tt))
+like l (add place rank track) ss a h =
+    let f = two-fit place rank (and-left (signed32 place && signed32 rank) (unsigned32 track) a) in
+    rw (bad-table (l .table), short-scratch l, full-number (l .table) place rank ss (f .0) (f .1) h)
+    (like-lengths ss h (tableSized (l .table)) (leb (l .table) (l .scratch)) _ _
+    (like-full ss h (full (l .table) place rank ss) _ _
+    (like-next _ _ (in-fit place rank (f .0) (f .1) track ss h) (keyed-in place rank (f .0) (f .1) track ss h))))
+like l (withdraw place rank) ss a h =
+    let f = two-fit place rank a in
+    rw (bad-table (l .table), short-scratch l)
+    (like-lengths ss h (tableSized (l .table)) (leb (l .table) (l .scratch)) _ _
+    (like-next _ _ (out-fit place rank (f .0) (f .1) ss h) (keyed-out place rank (f .0) (f .1) ss h)))
+like l (report x1 x2 y) ss a h =
+    let f = two-fit x1 x2 (and-left (signed32 x1 && signed32 x2) (signed32 y) a) in
+    let fy = signed-fits y (and-right (signed32 x1 && signed32 x2) (signed32 y) a) in
+    rw (bad-table (l .table))
+    (like-lengths ss h (tableSized (l .table)) (eqb (l .readMap) 512) _ _
+    (like-given ss h (l .output) (chosen (ofReport x1 x2 y) ss) _ (chosen-fit (ofReport x1 x2 y) ss h) (keyed-report x1 x2 (f .0) (f .1) y fy ss h)))
+like l (top x1 x2 k) ss a h =
+    let f = two-fit x1 x2 (and-left (signed32 x1 && signed32 x2) (unsigned32 k) a) in
+    rw (bad-table (l .table))
+    (like-lengths ss h (tableSized (l .table)) (eqb (l .readMap) 512) _ _
+    (like-given ss h (l .output) (highest x1 x2 k ss) _ (highest-fit x1 x2 (f .0) (f .1) k ss h) (keyed-highest x1 x2 (f .0) (f .1) k ss h)))
+like l count ss a h =
+    rw (bad-table (l .table), keyed-length ss) (like-lengths ss h (tableSized (l .table)) true _ _ (like-accept (length ss) ss h))
+like l check ss a h = rw (bad-table (l .table)) (like-lengths ss h (tableSized (l .table)) true _ _ (like-accept 1 ss h))
+like l rebuild ss a h =
+    rw (bad-table (l .table), short-scratch l)
+    (like-lengths ss h (tableSized (l .table)) (leb (l .table) (l .scratch)) _ _ (like-accept 0 ss h))

@@ -1,0 +1,273 @@
+-- The model by itself: it is kept in place order, holds no identity twice and never more spots than the capacity, and says 4 exactly when it is full.
+-- Assumes nothing.
+use mathlib.Core.Path.{_≡_, refl, ap, sym, _∙_}
+use mathlib.Core.Logic.{_⊎_, inl, inr, ⊎-elim, _↔_}
+use mathlib.Core.Bool.{Bool, true, false, cond, not, _&&_, _||_, true≢false, false≢true}
+use mathlib.Core.List.{List, [], _∷_}
+use Prim.Native.Nat.{ℕ, suc, _-_, _*_, _/_, _≤_, _<_}
+use native.Mathlib.Omega.{arith}
+use lib.ListN.{length}
+use lib.Dec.{leb, ltb}
+use borrow.Author.Tests.{leb-true, ltb-true, ltb-false, eqb-false, le-leb, lt-ltb, le-ltb, ne-eqb, leb-false}
+use lib.IntN.{ℤ}
+use Rattle.octets.specs.Lists.{every}
+use Rattle.spot.specs.Keys.{key, signed32, unsigned32}
+use Rattle.table.specs.Calls.{Call, format, add, withdraw, report, top, count, check, rebuild, Lengths, argumentsFit}
+use Rattle.table.specs.Model.{PlainSpot, hasIdentity, placeBefore, chosen, insertBy, listed, takenOut, broughtIn, Reply, refuse, accept, badTable, badMap, shortScratch, full, handOut, reply}
+use Rattle.tree.proofs.Laws.{and-left, and-right, and-both}
+use Rattle.tree.proofs.Canon.{less-or-not}
+use Rattle.table.proofs.Orders.{not-leb}
+use Rattle.table.proofs.Plain.{toKeySpot, SpotFits, AllFit, before-keys, identity-key, out-fit, two-fit}
+
+-- each spot comes before all that follow it
+abbrev pub InOrder : List PlainSpot → Type 0
+InOrder [] = Unit {0}
+InOrder (s ∷ ss) = (every (placeBefore s) ss ≡ true) × InOrder ss
+
+-- no identity stands twice
+abbrev pub IdentityOnce : List PlainSpot → Type 0
+IdentityOnce [] = Unit {0}
+IdentityOnce (s ∷ ss) = (listed (s .place) (s .rank) ss ≡ false) × IdentityOnce ss
+
+-- ---- place order on spots that fit
+
+before-is : (x s : PlainSpot) → SpotFits x → SpotFits s → placeBefore x s ≡ ltb (toKeySpot x .key) (toKeySpot s .key)
+before-is x s f g = before-keys x s f g ∙ not-leb (toKeySpot s .key) (toKeySpot x .key)
+
+before-trans : (x y z : PlainSpot) → SpotFits x → SpotFits y → SpotFits z → placeBefore x y ≡ true → placeBefore y z ≡ true → placeBefore x z ≡ true
+before-trans x y z f g h a b =
+    let l = ltb-true (toKeySpot x .key) (toKeySpot y .key) (sym (before-is x y f g) ∙ a) in
+    let m = ltb-true (toKeySpot y .key) (toKeySpot z .key) (sym (before-is y z g h) ∙ b) in
+    before-is x z f h ∙ lt-ltb (toKeySpot x .key) (toKeySpot z .key) (less _ _ _ l m)
+  where
+    less : (a b c : ℕ) → a < b → b < c → a < c
+    less a b c l m = omega arith
+
+before-total : (s x : PlainSpot) → SpotFits s → SpotFits x → placeBefore x s ≡ false → hasIdentity (s .place) (s .rank) x ≡ false → placeBefore s x ≡ true
+before-total s x f g a b =
+    let l = ltb-false (toKeySpot x .key) (toKeySpot s .key) (sym (before-is x s g f) ∙ a) in
+    let n = eqb-false (toKeySpot x .key) (toKeySpot s .key) (sym (identity-key (s .place) (s .rank) (f .place) (f .rank) x g) ∙ b) in
+    before-is s x f g ∙ lt-ltb (toKeySpot s .key) (toKeySpot x .key) (less _ _ l n)
+  where
+    less : (a b : ℕ) → a ≤ b → (b ≡ a → ⊥) → a < b
+    less a b l n = omega arith
+
+before-other : (s x : PlainSpot) → SpotFits s → SpotFits x → placeBefore s x ≡ true → hasIdentity (s .place) (s .rank) x ≡ false
+before-other s x f g a =
+    let l = ltb-true (toKeySpot s .key) (toKeySpot x .key) (sym (before-is s x f g) ∙ a) in
+    identity-key (s .place) (s .rank) (f .place) (f .rank) x g ∙ ne-eqb (toKeySpot x .key) (toKeySpot s .key) (apart _ _ l)
+  where
+    apart : (a b : ℕ) → a < b → b ≡ a → ⊥
+    apart a b l e = omega arith
+
+-- ---- lists
+
+or-false : (a b : Bool) → a || b ≡ false → (a ≡ false) × (b ≡ false)
+or-false true b h = absurd (true≢false h)
+or-false false b h = (refl, h)
+
+or-none : (a b : Bool) → a ≡ false → b ≡ false → a || b ≡ false
+or-none a b p q = rw (p, q)
+
+every-cond : (g : PlainSpot → Bool) (b : Bool) (xs ys : List PlainSpot) → every g xs ≡ true → every g ys ≡ true → every g (cond b xs ys) ≡ true
+every-cond g true xs ys p q = p
+every-cond g false xs ys p q = q
+
+every-chosen : (g f : PlainSpot → Bool) (ss : List PlainSpot) → every g ss ≡ true → every g (chosen f ss) ≡ true
+every-chosen g f [] h = refl
+every-chosen g f (s ∷ ss) h =
+    let r = every-chosen g f ss (and-right (g s) (every g ss) h) in
+    every-cond g (f s) (s ∷ chosen f ss) (chosen f ss) (and-both (g s) (every g (chosen f ss)) (and-left (g s) (every g ss) h) r) r
+
+order-chosen : (f : PlainSpot → Bool) (ss : List PlainSpot) → InOrder ss → InOrder (chosen f ss)
+order-chosen f [] h = tt
+order-chosen f (s ∷ ss) h = go (f s) (order-chosen f ss (h .1))
+  where
+    go : (b : Bool) → InOrder (chosen f ss) → InOrder (cond b (s ∷ chosen f ss) (chosen f ss))
+    go true ih = (every-chosen (placeBefore s) f ss (h .0), ih)
+    go false ih = ih
+
+every-insert : (g : PlainSpot → Bool) (before : PlainSpot → PlainSpot → Bool) (s : PlainSpot) (xs : List PlainSpot) → g s ≡ true → every g xs ≡ true
+    → every g (insertBy before s xs) ≡ true
+every-insert g before s [] p h = and-both (g s) true p refl
+every-insert g before s (x ∷ xs) p h =
+    every-cond g (before x s) (x ∷ insertBy before s xs) (s ∷ x ∷ xs)
+    (and-both (g x) (every g (insertBy before s xs)) (and-left (g x) (every g xs) h) (every-insert g before s xs p (and-right (g x) (every g xs) h)))
+    (and-both (g s) (every g (x ∷ xs)) p h)
+
+every-after : (s x : PlainSpot) (ys : List PlainSpot) → SpotFits s → SpotFits x → AllFit ys → placeBefore s x ≡ true → every (placeBefore x) ys ≡ true
+    → every (placeBefore s) ys ≡ true
+every-after s x [] f g h p q = refl
+every-after s x (y ∷ ys) f g h p q =
+    and-both (placeBefore s y) (every (placeBefore s) ys)
+    (before-trans s x y f g (h .0) p (and-left (placeBefore x y) (every (placeBefore x) ys) q))
+    (every-after s x ys f g (h .1) p (and-right (placeBefore x y) (every (placeBefore x) ys) q))
+
+order-insert : (s : PlainSpot) (xs : List PlainSpot) → SpotFits s → AllFit xs → listed (s .place) (s .rank) xs ≡ false → InOrder xs
+    → InOrder (insertBy placeBefore s xs)
+order-insert s [] f h n o = (refl, tt)
+order-insert s (x ∷ xs) f h n o = go (placeBefore x s) refl (order-insert s xs f (h .1) (away .1) (o .1))
+  where
+    away : (hasIdentity (s .place) (s .rank) x ≡ false) × (listed (s .place) (s .rank) xs ≡ false)
+    away = or-false (hasIdentity (s .place) (s .rank) x) (listed (s .place) (s .rank) xs) n
+
+    go : (b : Bool) → placeBefore x s ≡ b → InOrder (insertBy placeBefore s xs) → InOrder (cond b (x ∷ insertBy placeBefore s xs) (s ∷ x ∷ xs))
+    go true e ih = (every-insert (placeBefore x) placeBefore s xs e (o .0), ih)
+    go false e ih =
+        let p = before-total s x f (h .0) e (away .0) in
+        (and-both (placeBefore s x) (every (placeBefore s) xs) p (every-after s x xs f (h .0) (h .1) p (o .0)), o)
+
+-- what is taken out is not listed any more
+listed-out : (place rank : ℤ) (ss : List PlainSpot) → listed place rank (takenOut place rank ss) ≡ false
+unfolding takenOut
+listed-out place rank [] = refl
+listed-out place rank (s ∷ ss) = go (hasIdentity place rank s) refl (listed-out place rank ss)
+  where
+    go : (b : Bool) → hasIdentity place rank s ≡ b → listed place rank (takenOut place rank ss) ≡ false
+        → listed place rank (cond (not b) (s ∷ takenOut place rank ss) (takenOut place rank ss)) ≡ false
+    go true e ih = ih
+    go false e ih = or-none (hasIdentity place rank s) (listed place rank (takenOut place rank ss)) e ih
+
+-- place order leaves no identity twice
+pub order-once : (ss : List PlainSpot) → AllFit ss → InOrder ss → IdentityOnce ss
+order-once [] h o = tt
+order-once (s ∷ ss) h o = (none-after ss (h .1) (o .0), order-once ss (h .1) (o .1))
+  where
+    none-after : (xs : List PlainSpot) → AllFit xs → every (placeBefore s) xs ≡ true → listed (s .place) (s .rank) xs ≡ false
+    none-after [] f p = refl
+    none-after (x ∷ xs) f p =
+        or-none (hasIdentity (s .place) (s .rank) x) (listed (s .place) (s .rank) xs)
+        (before-other s x (h .0) (f .0) (and-left (placeBefore s x) (every (placeBefore s) xs) p))
+        (none-after xs (f .1) (and-right (placeBefore s x) (every (placeBefore s) xs) p))
+
+-- ---- replies
+
+module _ (P : List PlainSpot → Type 0) (ss : List PlainSpot) (kept : P ss) where
+  -- a refusal keeps what holds of the list
+  or-refuse : (b : Bool) (n d : ℕ) (r : Reply) → P (r .next) → P (cond b (refuse n d ss) r .next)
+  unfolding refuse
+  or-refuse true n d r h = kept
+  or-refuse false n d r h = h
+
+  handed : (bytes : ℕ) (found : List PlainSpot) → P (handOut bytes found ss .next)
+  unfolding handOut accept
+  handed bytes found = or-refuse (ltb (bytes / 12) (length found)) 5 (length found) (accept (length found) found ss) kept
+
+-- "It holds spots, no identity twice": every call keeps the list in place order
+pub stays-in-order : (l : Lengths) (c : Call) (ss : List PlainSpot) → argumentsFit c ≡ true → AllFit ss → InOrder ss → InOrder (reply l c ss .next)
+unfolding reply argumentsFit accept takenOut broughtIn
+stays-in-order l format ss a h o = or-refuse InOrder ss o (badTable (l .table)) 1 0 _ tt
+stays-in-order l (add place rank track) ss a h o =
+    let f = two-fit place rank (and-left (signed32 place && signed32 rank) (unsigned32 track) a) in
+    or-refuse InOrder ss o (badTable (l .table)) 1 0 _
+    (or-refuse InOrder ss o (shortScratch l) 2 0 _
+    (or-refuse InOrder ss o (full (l .table) place rank ss) 4 0 _
+    (order-insert (record { place = place; rank = rank; track = track }) (takenOut place rank ss) (record { place = f .0; rank = f .1 })
+    (out-fit place rank (f .0) (f .1) ss h)
+    (listed-out place rank ss)
+    (order-chosen (λ s. not (hasIdentity place rank s)) ss o))))
+stays-in-order l (withdraw place rank) ss a h o =
+    or-refuse InOrder ss o (badTable (l .table)) 1 0 _
+    (or-refuse InOrder ss o (shortScratch l) 2 0 _ (order-chosen (λ s. not (hasIdentity place rank s)) ss o))
+stays-in-order l (report x1 x2 y) ss a h o =
+    or-refuse InOrder ss o (badTable (l .table)) 1 0 _ (or-refuse InOrder ss o (badMap l) 2 0 _ (handed InOrder ss o (l .output) _))
+stays-in-order l (top x1 x2 k) ss a h o =
+    or-refuse InOrder ss o (badTable (l .table)) 1 0 _ (or-refuse InOrder ss o (badMap l) 2 0 _ (handed InOrder ss o (l .output) _))
+stays-in-order l count ss a h o = or-refuse InOrder ss o (badTable (l .table)) 1 0 _ o
+stays-in-order l check ss a h o = or-refuse InOrder ss o (badTable (l .table)) 1 0 _ o
+stays-in-order l rebuild ss a h o = or-refuse InOrder ss o (badTable (l .table)) 1 0 _ (or-refuse InOrder ss o (shortScratch l) 2 0 _ o)
+
+-- ---- the number of spots
+
+length-cond : (b : Bool) (xs ys : List PlainSpot) (n : ℕ) → length xs ≤ n → length ys ≤ n → length (cond b xs ys) ≤ n
+length-cond true xs ys n p q = p
+length-cond false xs ys n p q = q
+
+length-chosen : (f : PlainSpot → Bool) (ss : List PlainSpot) → length (chosen f ss) ≤ length ss
+length-chosen f [] = omega arith
+length-chosen f (s ∷ ss) =
+    let i = length-chosen f ss in
+    length-cond (f s) (s ∷ chosen f ss) (chosen f ss) (suc (length ss)) (omega arith) (omega arith)
+
+length-insert : (before : PlainSpot → PlainSpot → Bool) (s : PlainSpot) (xs : List PlainSpot) → length (insertBy before s xs) ≤ suc (length xs)
+length-insert before s [] = omega arith
+length-insert before s (x ∷ xs) =
+    let i = length-insert before s xs in
+    length-cond (before x s) (x ∷ insertBy before s xs) (s ∷ x ∷ xs) (suc (suc (length xs))) (omega arith) (omega arith)
+
+length-out : (place rank : ℤ) (ss : List PlainSpot) → listed place rank ss ≡ true → length (takenOut place rank ss) < length ss
+unfolding takenOut
+length-out place rank [] e = absurd (false≢true e)
+length-out place rank (s ∷ ss) e = go (hasIdentity place rank s) e (length-chosen (λ x. not (hasIdentity place rank x)) ss) (length-out place rank ss)
+  where
+    go : (b : Bool) → b || listed place rank ss ≡ true → length (takenOut place rank ss) ≤ length ss
+        → (listed place rank ss ≡ true → length (takenOut place rank ss) < length ss)
+        → length (cond (not b) (s ∷ takenOut place rank ss) (takenOut place rank ss)) < suc (length ss)
+    go true k i ih = omega arith
+    go false k i ih = let j = ih k in omega arith
+
+fewer-out : (place rank : ℤ) (ss : List PlainSpot) → length (takenOut place rank ss) ≤ length ss
+unfolding takenOut
+fewer-out place rank ss = length-chosen (λ s. not (hasIdentity place rank s)) ss
+
+-- not full: there is room, or a spot of this identity goes out
+not-full : (n cap : ℕ) (there : Bool) → leb cap n && not there ≡ false → (n < cap) ⊎ (there ≡ true)
+not-full n cap true h = inr refl
+not-full n cap false h = ⊎-elim (λ (l : cap ≤ n). absurd (true≢false (sym (and-both (leb cap n) true (le-leb cap n l) refl) ∙ h))) (λ l. inl l) (less-or-not cap n)
+
+-- spots never outnumber the capacity of a table of this many bytes
+module _ (bytes : ℕ) where
+  abbrev Held : List PlainSpot → Type 0
+  Held ss = length ss ≤ 16 * (bytes / 2048 - 1)
+
+  held-add : (place rank : ℤ) (track : ℕ) (ss : List PlainSpot) → Held ss → full bytes place rank ss ≡ false
+      → Held (broughtIn (record { place = place; rank = rank; track = track }) ss)
+  unfolding full broughtIn
+  held-add place rank track ss h e =
+      let i = length-insert placeBefore (record { place = place; rank = rank; track = track }) (takenOut place rank ss) in
+      ⊎-elim (λ (l : length ss < 16 * (bytes / 2048 - 1)). let j = taken in omega arith) (λ k. let j = length-out place rank ss k in omega arith)
+      (not-full (length ss) (16 * (bytes / 2048 - 1)) (listed place rank ss) e)
+    where
+      taken : length (takenOut place rank ss) ≤ length ss
+      taken = fewer-out place rank ss
+
+  refused-or : (b : Bool) (n d : ℕ) (ss : List PlainSpot) (r : Reply) → Held ss → (b ≡ false → Held (r .next)) → Held (cond b (refuse n d ss) r .next)
+  unfolding refuse
+  refused-or true n d ss r h f = h
+  refused-or false n d ss r h f = f refl
+
+  pub stays-held : (l : Lengths) → l .table ≡ bytes → (c : Call) (ss : List PlainSpot) → Held ss → Held (reply l c ss .next)
+  unfolding reply accept
+  stays-held l e format ss h = refused-or (badTable (l .table)) 1 0 ss _ h (λ z. omega arith)
+  stays-held l e (add place rank track) ss h =
+      refused-or (badTable (l .table)) 1 0 ss _ h
+      (λ z. refused-or (shortScratch l) 2 0 ss _ h
+      (λ y. refused-or (full (l .table) place rank ss) 4 0 ss _ h (λ x. held-add place rank track ss h (ap (λ (b : ℕ). full b place rank ss) (sym e) ∙ x))))
+  stays-held l e (withdraw place rank) ss h =
+      refused-or (badTable (l .table)) 1 0 ss _ h
+      (λ z. refused-or (shortScratch l) 2 0 ss _ h (λ y. let j = fewer-out place rank ss in omega arith))
+  stays-held l e (report x1 x2 y) ss h =
+      refused-or (badTable (l .table)) 1 0 ss _ h (λ z. refused-or (badMap l) 2 0 ss _ h (λ y. handed Held ss h (l .output) _))
+  stays-held l e (top x1 x2 k) ss h =
+      refused-or (badTable (l .table)) 1 0 ss _ h (λ z. refused-or (badMap l) 2 0 ss _ h (λ y. handed Held ss h (l .output) _))
+  stays-held l e count ss h = refused-or (badTable (l .table)) 1 0 ss _ h (λ z. h)
+  stays-held l e check ss h = refused-or (badTable (l .table)) 1 0 ss _ h (λ z. h)
+  stays-held l e rebuild ss h = refused-or (badTable (l .table)) 1 0 ss _ h (λ z. refused-or (shortScratch l) 2 0 ss _ h (λ y. h))
+
+-- "full" comes exactly when the list holds 16 spots for each block after the first and the new spot's place and rank are not among them
+pub says-full : (l : Lengths) (place rank : ℤ) (track : ℕ) (ss : List PlainSpot) → badTable (l .table) ≡ false → l .table ≤ l .scratch
+    → length ss ≤ 16 * (l .table / 2048 - 1)
+    → (reply l (add place rank track) ss .answer .number ≡ 4) ↔ ((length ss ≡ 16 * (l .table / 2048 - 1)) × (listed place rank ss ≡ false))
+unfolding reply shortScratch full refuse accept
+says-full l place rank track ss z w h =
+    rw (z, le-ltb (l .scratch) (l .table) w) (four (leb (16 * (l .table / 2048 - 1)) (length ss)) refl (listed place rank ss) refl)
+  where
+    four : (b : Bool) → leb (16 * (l .table / 2048 - 1)) (length ss) ≡ b → (there : Bool) → listed place rank ss ≡ there
+        → (cond (b && not there) (refuse 4 0 ss) (accept 0 [] (broughtIn (record { place = place; rank = rank; track = track }) ss)) .answer .number ≡ 4)
+        ↔ ((length ss ≡ 16 * (l .table / 2048 - 1)) × (there ≡ false))
+    four true e false f = (λ q. (let m = leb-true (16 * (l .table / 2048 - 1)) (length ss) e in omega arith, refl), λ q. refl)
+    four true e true f = (λ (q : _≡_ {A = ℕ} 0 4). absurd (omega arith), λ q. absurd (true≢false (q .1)))
+    four false e there f = (
+      λ (q : _≡_ {A = ℕ} 0 4). absurd (omega arith),
+      λ q. let m = leb-false (16 * (l .table / 2048 - 1)) (length ss) e in let n = q .0 in absurd (omega arith),
+    )

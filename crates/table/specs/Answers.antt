@@ -1,0 +1,68 @@
+-- "The five numbers": what a call answers, and what it leaves of the output and the read map.
+-- Assumes nothing.
+use Prim.Native.Nat.{ℕ, zero, suc, _*_, _/_}
+use mathlib.Core.Bool.{Bool, true, cond, not, _&&_}
+use mathlib.Core.List.{List, [], _∷_, _++_}
+use lib.ListN.{length, drop}
+use lib.Dec.{ltb, leb, eqb}
+use Rattle.spot.specs.Spots.{spotsBytes}
+use Rattle.spot.specs.declared.Spot.{Spot}
+use Rattle.block.specs.declared.Answer.{Answer}
+use Rattle.block.specs.Table.{tableSized, capacity, mapBytes}
+use Rattle.tree.specs.ReadMap.{readMap}
+use Rattle.table.specs.Calls.{Call, format, add, withdraw, report, top, count, check, rebuild, Lengths}
+
+abbrev pub answer : ℕ → ℕ → Answer
+answer n d = record { number = n; detail = d }
+
+abbrev pub lengths : List ℕ → List ℕ → List ℕ → List ℕ → Lengths
+lengths t out map scratch = record { table = length t; output = length out; readMap = length map; scratch = length scratch }
+
+-- 2: "the read map isn't 512 bytes, or the work area is shorter than the table", for the calls that are lent them
+abbrev pub lent : Lengths → Call → Bool
+lent l format = true
+lent l (add place rank track) = leb (l .table) (l .scratch)
+lent l (withdraw place rank) = leb (l .table) (l .scratch)
+lent l (report x1 x2 y) = eqb (l .readMap) mapBytes
+lent l (top x1 x2 k) = eqb (l .readMap) mapBytes
+lent l count = true
+lent l check = true
+lent l rebuild = leb (l .table) (l .scratch)
+
+-- 1: "the table is not a whole number of blocks, or has under 9 or over 4,096"; then 2; or 0
+unfoldable pub lengthNumber : Lengths → Call → ℕ
+lengthNumber l c = cond (tableSized (l .table)) (cond (lent l c) 0 2) 1
+
+-- "1, detail 0", "2, detail 0": an answer by the lengths where they refuse, else the other
+unfoldable pub unlessRefused : ℕ → Answer → Answer
+unlessRefused zero r = r
+unlessRefused (suc n) r = answer (suc n) 0
+
+-- 4: "Add: capacity live spots and the identity not live", or 0
+unfoldable pub addNumber : ℕ → ℕ → Bool → ℕ
+addNumber bytes spots there = cond (leb (capacity bytes) spots && not there) 4 0
+
+-- 5: "detail the number of spots: more spots than output length div 12", or 0 with the number of spots
+unfoldable pub spotsAnswer : ℕ → ℕ → Answer
+spotsAnswer bytes n = record { number = cond (ltb (bytes / 12) n) 5 0; detail = n }
+
+-- "Accepted output is the spots, 12 bytes each as on the card, the rest of the output unchanged", all of it after a refusal
+unfoldable pub outputLeft : ℕ → List Spot → List ℕ → List ℕ
+outputLeft zero ss out = spotsBytes ss ++ drop (12 * length ss) out
+outputLeft (suc n) ss out = out
+
+-- the read map is written where the call is accepted, and left as lent after a refusal
+unfoldable pub mapLeft : ℕ → List ℕ → List ℕ → List ℕ
+mapLeft zero blocks map = readMap blocks
+mapLeft (suc n) blocks map = map
+
+-- what a call may answer once its lengths are right, whatever the table holds: "Format gives only 1, as does Check"
+abbrev pub outcomes : Call → List ℕ
+outcomes format = 0 ∷ []
+outcomes (add place rank track) = 0 ∷ 3 ∷ 4 ∷ []
+outcomes (withdraw place rank) = 0 ∷ 3 ∷ []
+outcomes (report x1 x2 y) = 0 ∷ 3 ∷ 5 ∷ []
+outcomes (top x1 x2 k) = 0 ∷ 3 ∷ 5 ∷ []
+outcomes count = 0 ∷ 3 ∷ []
+outcomes check = 0 ∷ []
+outcomes rebuild = 0 ∷ 3 ∷ []

@@ -1,0 +1,36 @@
+-- The eight calls with their arguments and the lengths of what they are lent: all that the table's definitions share with the model.
+-- Assumes nothing.
+use Prim.Native.Nat.{ℕ}
+use mathlib.Core.Bool.{Bool, true, _&&_}
+use lib.IntN.{ℤ}
+use Rattle.spot.specs.Keys.{signed32, unsigned32}
+
+-- "Format, Add, Withdraw, Report, Top, Count, Check, Rebuild"
+pub data Call : Type 0 where
+  format : Call
+  add : ℤ → ℤ → ℕ → Call
+  withdraw : ℤ → ℤ → Call
+  report : ℤ → ℤ → ℤ → Call
+  top : ℤ → ℤ → ℕ → Call
+  count : Call
+  check : Call
+  rebuild : Call
+
+-- "the lengths of table, output, read map and work area" (the scratch). A call that is not lent one of them has any number there.
+pub record Lengths : Type 0 where
+  pub table : ℕ
+  pub output : ℕ
+  pub readMap : ℕ
+  pub scratch : ℕ
+
+-- "A spot has a place and a rank, both signed 32-bit, and a track number, unsigned 32-bit"; "Report(x1, x2, y), all signed 32-bit"; "Top(x1, x2, k), k
+-- unsigned 32-bit"
+unfoldable pub argumentsFit : Call → Bool
+argumentsFit format = true
+argumentsFit (add place rank track) = signed32 place && signed32 rank && unsigned32 track
+argumentsFit (withdraw place rank) = signed32 place && signed32 rank
+argumentsFit (report x1 x2 y) = signed32 x1 && signed32 x2 && signed32 y
+argumentsFit (top x1 x2 k) = signed32 x1 && signed32 x2 && unsigned32 k
+argumentsFit count = true
+argumentsFit check = true
+argumentsFit rebuild = true

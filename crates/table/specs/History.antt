@@ -1,0 +1,135 @@
+-- A whole history of calls on one table, and the claim that it answers as the model does: demand 3, as one statement.
+-- Assumes nothing.
+use mathlib.Core.Path.{_≡_}
+use mathlib.Core.Logic.{_⊎_, _↔_}
+use Prim.Native.Nat.{ℕ, _+_, _*_, _/_, _-_, _≤_, _<_}
+use mathlib.Core.Bool.{Bool, true, false}
+use mathlib.Core.List.{List, [], _∷_}
+use lib.ListN.{length}
+use Rattle.octets.specs.Bitmap.{bit}
+use Rattle.block.specs.declared.Answer.{Answer}
+use Rattle.block.specs.Table.{block, tableSized}
+use Rattle.block.specs.Header.{headOf}
+use Rattle.block.specs.Fresh.{formatted}
+use Rattle.tree.specs.ReadMap.{ones}
+use Rattle.tree.specs.Sound.{sound}
+use Rattle.tree.specs.Read.{ReadBlock}
+use Rattle.table.specs.Calls.{Call, format, add, withdraw, report, top, count, check, rebuild, argumentsFit}
+use Rattle.table.specs.Answers.{lengths}
+use Rattle.table.specs.Queries.{ReportPost, TopPost, CountPost, CheckPost}
+use Rattle.table.specs.Updates.{FormatPost, AddPost, WithdrawPost, RebuildPost}
+use Rattle.table.specs.Model.{PlainSpot, Reply, reply, outputAfter, listed}
+
+-- a call as it happened: what it was lent beside the table, what it answered, and all that it left. "Outputs, maps and work areas may be of any length
+-- and hold anything"; what a call isn't lent is of no account.
+pub record Event : Type 0 where
+  pub call : Call
+  pub output : List ℕ
+  pub readMap : List ℕ
+  pub scratch : List ℕ
+  pub answer : Answer
+  pub output′ : List ℕ
+  pub readMap′ : List ℕ
+  pub scratch′ : List ℕ
+  pub table′ : List ℕ
+
+-- the call met its post-condition on the table t; calls that are lent the table to be read leave it as it was
+abbrev pub MetBy : Call → List ℕ → Event → Type 0
+MetBy format t e = FormatPost t (e .answer) (e .table′)
+MetBy (add place rank track) t e = AddPost place rank track t (e .scratch) (e .answer) (e .table′) (e .scratch′)
+MetBy (withdraw place rank) t e = WithdrawPost place rank t (e .scratch) (e .answer) (e .table′) (e .scratch′)
+MetBy (report x1 x2 y) t e = (e .table′ ≡ t) × ReportPost x1 x2 y t (e .output) (e .readMap) (e .answer) (e .output′) (e .readMap′)
+MetBy (top x1 x2 k) t e = (e .table′ ≡ t) × TopPost x1 x2 k t (e .output) (e .readMap) (e .answer) (e .output′) (e .readMap′)
+MetBy count t e = (e .table′ ≡ t) × CountPost t (e .answer)
+MetBy check t e = (e .table′ ≡ t) × CheckPost t (e .answer)
+MetBy rebuild t e = RebuildPost t (e .scratch) (e .answer) (e .table′) (e .scratch′)
+
+-- "every call gets its bytes as the last one left them, accepted or refused"; its arguments are within their 32 bits
+abbrev pub History : List ℕ → List Event → Type 0
+History t [] = Unit {0}
+History t (e ∷ es) = (argumentsFit (e .call) ≡ true) × MetBy (e .call) t e × History (e .table′) es
+
+abbrev pub isReport : Call → Bool
+isReport format = false
+isReport (add place rank track) = false
+isReport (withdraw place rank) = false
+isReport (report x1 x2 y) = true
+isReport (top x1 x2 k) = false
+isReport count = false
+isReport check = false
+isReport rebuild = false
+
+-- the calls that hand out spots
+abbrev pub isQuery : Call → Bool
+isQuery format = false
+isQuery (add place rank track) = false
+isQuery (withdraw place rank) = false
+isQuery (report x1 x2 y) = true
+isQuery (top x1 x2 k) = true
+isQuery count = false
+isQuery check = false
+isQuery rebuild = false
+
+-- the model's reply to an event on the table t
+abbrev pub replyIn : Call → List ℕ → List PlainSpot → Event → Reply
+replyIn c t ss e = reply (lengths t (e .output) (e .readMap) (e .scratch)) c ss
+
+-- "On the second table the call has the same arguments and is lent an equal output and map": the same call on a table u of the same length that has the
+-- same bytes in every block marked
+pub record SecondTable (c : Call) (t : List ℕ) (e : Event) (u : List ℕ) (f : Event) : Type 0 where
+  pub met : MetBy c u f
+  pub output : f .output ≡ e .output
+  pub readMap : f .readMap ≡ e .readMap
+  pub bytes : length u ≡ length t
+  pub marked : (b : ℕ) → bit (e .readMap′) b ≡ true → block u b ≡ block t b
+
+-- "equal are number, detail, output and marks"
+pub record SameOnSecond (e f : Event) : Type 0 where
+  pub answer : f .answer ≡ e .answer
+  pub output : f .output′ ≡ e .output′
+  pub marks : f .readMap′ ≡ e .readMap′
+
+-- what is claimed of the call c at the table t, where the model answers `due` and leaves `left` of the output lent
+pub record Agreed (c : Call) (t : List ℕ) (due : Answer) (left : List ℕ) (e : Event) : Type 0 where
+  pub answer : e .answer ≡ due
+  pub output : isQuery c ≡ true → e .output′ ≡ left
+  pub staysSound : sound (e .table′) ≡ true
+  -- "a Report marks at most 1 + 36h + 9 · (spots reported div 16)"; "Levels are those of the tree as lent to that report"
+  pub bounded : isReport c ≡ true → e .answer .number ≡ 0 → ones (e .readMap′) ≤ 1 + 36 * (headOf t .levels) + 9 * (e .answer .detail / 16)
+  pub second : isQuery c ≡ true → e .answer .number ≡ 0 → (u : List ℕ) (f : Event) → SecondTable c t e u f → SameOnSecond e f
+
+-- "With scratch enough, "full" comes exactly when the plain list holds 16 spots for each block after the first and the new spot's place and rank are not
+-- among them"
+abbrev pub FullExactly : Call → List ℕ → List PlainSpot → Event → Type 0
+FullExactly format t ss e = Unit {0}
+FullExactly (add place rank track) t ss e =
+    length t ≤ length (e .scratch) → (e .answer .number ≡ 4) ↔ ((length ss ≡ 16 * (length t / 2048 - 1)) × (listed place rank ss ≡ false))
+FullExactly (withdraw place rank) t ss e = Unit {0}
+FullExactly (report x1 x2 y) t ss e = Unit {0}
+FullExactly (top x1 x2 k) t ss e = Unit {0}
+FullExactly count t ss e = Unit {0}
+FullExactly check t ss e = Unit {0}
+FullExactly rebuild t ss e = Unit {0}
+
+-- "Each accepted report marks exactly the blocks that the scope paper has it read"
+abbrev pub MarksExactly : Call → List ℕ → Event → Type 0
+MarksExactly format t e = Unit {0}
+MarksExactly (add place rank track) t e = Unit {0}
+MarksExactly (withdraw place rank) t e = Unit {0}
+MarksExactly (report x1 x2 y) t e =
+    e .answer .number ≡ 0 → (b : ℕ) → b < 4096 → (bit (e .readMap′) b ≡ true) ↔ ((b ≡ 0) ⊎ ReadBlock t x1 x2 y b)
+MarksExactly (top x1 x2 k) t e = Unit {0}
+MarksExactly count t e = Unit {0}
+MarksExactly check t e = Unit {0}
+MarksExactly rebuild t e = Unit {0}
+
+-- from the table t and the model's spots ss on
+abbrev pub AllAgreed : List ℕ → List PlainSpot → List Event → Type 0
+AllAgreed t ss [] = Unit {0}
+AllAgreed t ss (e ∷ es) =
+    let r = replyIn (e .call) t ss e in
+    Agreed (e .call) t (r .answer) (outputAfter r (e .output)) e × FullExactly (e .call) t ss e × MarksExactly (e .call) t e × AllAgreed (e .table′) (r .next) es
+
+-- "Demand 3 is a single claim about a whole history. The table starts as an accepted Format leaves it, whatever its bytes were"
+abbrev pub Demand3 : Type 0
+Demand3 = (bytes : ℕ) → tableSized bytes ≡ true → (es : List Event) → History (formatted bytes) es → AllAgreed (formatted bytes) [] es

@@ -1,0 +1,6 @@
+pub mod Calls
+pub mod Answers
+pub mod Queries
+pub mod Updates
+pub mod Model
+pub mod History

@@ -1,0 +1,142 @@
+-- The plain list, called the model here: spots with their places and ranks as whole numbers, in place order, and the eight calls over them in 01's own words,
+-- fed arguments and lengths alone. It is written apart: of the table's definitions it knows only what a call, lengths and an answer are.
+-- Assumes nothing.
+use Prim.Native.Nat.{ℕ, suc, _-_, _*_, _/_, _%_}
+use mathlib.Core.Bool.{Bool, false, cond, not, _&&_, _||_}
+use mathlib.Core.List.{List, [], _∷_, _++_}
+use lib.ListN.{length, take, drop}
+use lib.Dec.{ltb, leb, eqb}
+use lib.IntN.{ℤ, pos, negsuc}
+use lib.Signed.{ltZ, leZ}
+use Rattle.block.specs.declared.Answer.{Answer}
+use Rattle.table.specs.Calls.{Call, format, add, withdraw, report, top, count, check, rebuild, Lengths}
+
+-- "A spot has a place and a rank, and a track number"
+pub record PlainSpot : Type 0 where
+  pub place : ℤ
+  pub rank : ℤ
+  pub track : ℕ
+
+unfoldable pub eqZ : ℤ → ℤ → Bool
+eqZ (pos a) (pos b) = eqb a b
+eqZ (pos a) (negsuc b) = false
+eqZ (negsuc a) (pos b) = false
+eqZ (negsuc a) (negsuc b) = eqb a b
+
+-- "Place and rank together are its identity"
+unfoldable pub hasIdentity : ℤ → ℤ → PlainSpot → Bool
+hasIdentity place rank s = eqZ (s .place) place && eqZ (s .rank) rank
+
+-- "The place order compares places, then ranks": s comes before r
+unfoldable pub placeBefore : PlainSpot → PlainSpot → Bool
+placeBefore s r = ltZ (s .place) (r .place) || (eqZ (s .place) (r .place) && ltZ (s .rank) (r .rank))
+
+-- "The rank order compares ranks, then places": s is higher than r
+unfoldable pub rankHigher : PlainSpot → PlainSpot → Bool
+rankHigher s r = ltZ (r .rank) (s .rank) || (eqZ (r .rank) (s .rank) && ltZ (r .place) (s .place))
+
+-- "x1 ≤ place ≤ x2"
+unfoldable pub ofPlaces : ℤ → ℤ → PlainSpot → Bool
+ofPlaces x1 x2 s = leZ x1 (s .place) && leZ (s .place) x2
+
+-- "x1 ≤ place ≤ x2 and rank ≥ y"
+unfoldable pub ofReport : ℤ → ℤ → ℤ → PlainSpot → Bool
+ofReport x1 x2 y s = ofPlaces x1 x2 s && leZ y (s .rank)
+
+-- the spots that pass a test, in order
+abbrev pub chosen : (PlainSpot → Bool) → List PlainSpot → List PlainSpot
+chosen f [] = []
+chosen f (s ∷ ss) = cond (f s) (s ∷ chosen f ss) (chosen f ss)
+
+-- a spot put behind the spots that come before it
+abbrev pub insertBy : (PlainSpot → PlainSpot → Bool) → PlainSpot → List PlainSpot → List PlainSpot
+insertBy before s [] = s ∷ []
+insertBy before s (x ∷ xs) = cond (before x s) (x ∷ insertBy before s xs) (s ∷ x ∷ xs)
+
+abbrev pub sortBy : (PlainSpot → PlainSpot → Bool) → List PlainSpot → List PlainSpot
+sortBy before [] = []
+sortBy before (s ∷ ss) = insertBy before s (sortBy before ss)
+
+-- a spot of this identity is in the list
+abbrev pub listed : ℤ → ℤ → List PlainSpot → Bool
+listed place rank [] = false
+listed place rank (s ∷ ss) = hasIdentity place rank s || listed place rank ss
+
+-- "the spot of this identity, if any, goes out"
+unfoldable pub takenOut : ℤ → ℤ → List PlainSpot → List PlainSpot
+takenOut place rank ss = chosen (λ s. not (hasIdentity place rank s)) ss
+
+-- ".. and the new one comes in"; the list is kept in place order
+unfoldable pub broughtIn : PlainSpot → List PlainSpot → List PlainSpot
+broughtIn s ss = insertBy placeBefore s (takenOut (s .place) (s .rank) ss)
+
+-- "of the live spots with x1 ≤ place ≤ x2, the k highest in rank order (all, if fewer), highest first"
+unfoldable pub highest : ℤ → ℤ → ℕ → List PlainSpot → List PlainSpot
+highest x1 x2 k ss = take k (sortBy rankHigher (chosen (ofPlaces x1 x2) ss))
+
+-- "All numbers on it are big-endian, signed ones two's complement": four bytes
+unfoldable pub fourBytes : ℕ → List ℕ
+fourBytes v = v / 16777216 % 256 ∷ v / 65536 % 256 ∷ v / 256 % 256 ∷ v % 256 ∷ []
+
+unfoldable pub complement : ℤ → ℕ
+complement (pos n) = n
+complement (negsuc n) = 4294967296 - suc n
+
+-- "spots of 12 bytes: place, rank, track"
+abbrev pub asBytes : List PlainSpot → List ℕ
+asBytes [] = []
+asBytes (s ∷ ss) = (fourBytes (complement (s .place)) ++ fourBytes (complement (s .rank)) ++ fourBytes (s .track)) ++ asBytes ss
+
+-- what the model answers, hands out, and holds afterwards
+pub record Reply : Type 0 where
+  pub answer : Answer
+  pub given : List PlainSpot
+  pub next : List PlainSpot
+
+-- "Accepted output is the spots, 12 bytes each as on the card, the rest of the output unchanged"; a refusal hands out none
+unfoldable pub outputAfter : Reply → List ℕ → List ℕ
+outputAfter r out = asBytes (r .given) ++ drop (12 * length (r .given)) out
+
+-- "A refused call leaves the list as it was"
+unfoldable pub refuse : ℕ → ℕ → List PlainSpot → Reply
+refuse number detail ss = record { answer = record { number = number; detail = detail }; given = []; next = ss }
+
+-- "An accepted call returns 0"
+unfoldable pub accept : ℕ → List PlainSpot → List PlainSpot → Reply
+accept detail given next = record { answer = record { number = 0; detail = detail }; given = given; next = next }
+
+-- 1: "the table is not a whole number of blocks, or has under 9 or over 4,096"
+unfoldable pub badTable : ℕ → Bool
+badTable bytes = not (eqb (bytes % 2048) 0) || ltb (bytes / 2048) 9 || ltb 4096 (bytes / 2048)
+
+-- 2: "the read map isn't 512 bytes, or the work area is shorter than the table"
+unfoldable pub badMap : Lengths → Bool
+badMap l = not (eqb (l .readMap) 512)
+
+unfoldable pub shortScratch : Lengths → Bool
+shortScratch l = ltb (l .scratch) (l .table)
+
+-- 4: "the list has 16 spots for each block after block 0 and none of this identity"
+unfoldable pub full : ℕ → ℤ → ℤ → List PlainSpot → Bool
+full bytes place rank ss = leb (16 * (bytes / 2048 - 1)) (length ss) && not (listed place rank ss)
+
+-- 5: "more spots than output length div 12", detail the number of spots; else they are handed out
+unfoldable pub handOut : ℕ → List PlainSpot → List PlainSpot → Reply
+handOut bytes found ss = cond (ltb (bytes / 12) (length found)) (refuse 5 (length found) ss) (accept (length found) found ss)
+
+-- "The order is that of the table"
+unfoldable pub reply : Lengths → Call → List PlainSpot → Reply
+reply l format ss = cond (badTable (l .table)) (refuse 1 0 ss) (accept 0 [] [])
+reply l (add place rank track) ss =
+    cond (badTable (l .table)) (refuse 1 0 ss)
+    (cond (shortScratch l) (refuse 2 0 ss)
+    (cond (full (l .table) place rank ss) (refuse 4 0 ss) (accept 0 [] (broughtIn (record { place = place; rank = rank; track = track }) ss))))
+reply l (withdraw place rank) ss =
+    cond (badTable (l .table)) (refuse 1 0 ss) (cond (shortScratch l) (refuse 2 0 ss) (accept 0 [] (takenOut place rank ss)))
+reply l (report x1 x2 y) ss =
+    cond (badTable (l .table)) (refuse 1 0 ss) (cond (badMap l) (refuse 2 0 ss) (handOut (l .output) (chosen (ofReport x1 x2 y) ss) ss))
+reply l (top x1 x2 k) ss =
+    cond (badTable (l .table)) (refuse 1 0 ss) (cond (badMap l) (refuse 2 0 ss) (handOut (l .output) (highest x1 x2 k ss) ss))
+reply l count ss = cond (badTable (l .table)) (refuse 1 0 ss) (accept (length ss) [] ss)
+reply l check ss = cond (badTable (l .table)) (refuse 1 0 ss) (accept 1 [] ss)
+reply l rebuild ss = cond (badTable (l .table)) (refuse 1 0 ss) (cond (shortScratch l) (refuse 2 0 ss) (accept 0 [] ss))

@@ -1,0 +1,67 @@
+-- What Report, Top, Count and Check promise, for all tables, arguments and lengths. t is the table as lent; out and map are the output and the read map as
+-- lent, out′ and map′ as left.
+-- Assumes nothing.
+use mathlib.Core.Path.{_≡_}
+use Prim.Native.Nat.{ℕ}
+use mathlib.Core.Bool.{Bool, true, cond}
+use mathlib.Core.List.{List, [], _++_, List·Memᴰ}
+use lib.ListN.{length, drop}
+use lib.IntN.{ℤ}
+use Rattle.octets.specs.Lists.{has, every, rising}
+use Rattle.octets.specs.Bitmap.{bit}
+use Rattle.spot.specs.Spots.{keys}
+use Rattle.spot.specs.Query.{query, topQuery, everything, wants}
+use Rattle.spot.specs.declared.Spot.{Spot}
+use Rattle.spot.specs.declared.Query.{Query}
+use Rattle.block.specs.declared.Answer.{Answer}
+use Rattle.block.specs.Node.{storeOf}
+use Rattle.tree.specs.Walk.{Walk, broken, walked, spots, blocksRead, walkTable}
+use Rattle.tree.specs.Sound.{sound}
+use Rattle.tree.specs.Top.{topWalk, topTable}
+use Rattle.table.specs.Calls.{Call, report, top, count, check}
+use Rattle.table.specs.Answers.{answer, lengths, lengthNumber, unlessRefused, spotsAnswer, outputLeft, mapLeft, outcomes}
+
+-- 3 where a rule is broken, else 0 or 5
+unfoldable pub walkAnswer : ℕ → Walk → Answer
+walkAnswer bytes broken = answer 3 0
+walkAnswer bytes (walked found blocks) = spotsAnswer bytes (length found)
+
+-- a call that hands out the spots of the walk w and marks its blocks; the table is lent to be read
+pub record QueryPost (c : Call) (w : Walk) (t out map : List ℕ) (r : Answer) (out′ map′ : List ℕ) : Type 0 where
+  pub answered : r ≡ unlessRefused (lengthNumber (lengths t out map []) c) (walkAnswer (length out) w)
+  pub output : out′ ≡ outputLeft (r .number) (spots w) out
+  pub marks : map′ ≡ mapLeft (r .number) (blocksRead w) map
+
+-- "Report(x1, x2, y), all signed 32-bit, gives all live spots with x1 ≤ place ≤ x2 and rank ≥ y, rising in place order"
+abbrev pub ReportPost : ℤ → ℤ → ℤ → List ℕ → List ℕ → List ℕ → Answer → List ℕ → List ℕ → Type 0
+ReportPost x1 x2 y t = QueryPost (report x1 x2 y) (walkTable t (query x1 x2 y)) t
+
+-- "On an unsound table a call that isn't refused still hands out only spots of its range from blocks marked read": spots that stand in P or I of such a block
+pub record HandsOut (q : Query) (t out : List ℕ) (r : Answer) (out′ map′ : List ℕ) : Type 0 where
+  pub given : List Spot
+  pub output : out′ ≡ outputLeft 0 given out
+  pub detail : r .detail ≡ length given
+  pub wanted : every (wants q) given ≡ true
+  pub marked : (s : Spot) → List·Memᴰ s given
+      → (b : ℕ) × (bit map′ b ≡ true) × List·Memᴰ s (storeOf t b .points ++ storeOf t b .inserts)
+  pub header : bit map′ 0 ≡ true
+
+-- "Top(x1, x2, k), k unsigned 32-bit, gives, of the live spots with x1 ≤ place ≤ x2, the k highest in rank order (all, if fewer), highest first". Where the
+-- walk finds an identity twice, which only an unsound table does, the choice between the two is free.
+pub record TopPost (x1 x2 : ℤ) (k : ℕ) (t out map : List ℕ) (r : Answer) (out′ map′ : List ℕ) : Type 0 where
+  pub exact : rising (keys (spots (topWalk t x1 x2 k))) ≡ true → QueryPost (top x1 x2 k) (topTable t x1 x2 k) t out map r out′ map′
+  pub refusals : lengthNumber (lengths t out map []) (top x1 x2 k) ≡ 0 → has (r .number) (outcomes (top x1 x2 k)) ≡ true
+  pub unchanged : (r .number ≡ 0 → ⊥) → (out′ ≡ out) × (map′ ≡ map)
+  pub handsOut : r .number ≡ 0 → HandsOut (topQuery x1 x2 0) t out r out′ map′
+
+-- "Count gives the number of live spots"
+unfoldable pub countAnswer : Walk → Answer
+countAnswer broken = answer 3 0
+countAnswer (walked found blocks) = answer 0 (length found)
+
+pub record CountPost (t : List ℕ) (r : Answer) : Type 0 where
+  pub answered : r ≡ unlessRefused (lengthNumber (lengths t [] [] []) count) (countAnswer (walkTable t everything))
+
+-- "Check says yes exactly if the table is sound"; "1 or 0 for Check's yes or no"
+pub record CheckPost (t : List ℕ) (r : Answer) : Type 0 where
+  pub answered : r ≡ unlessRefused (lengthNumber (lengths t [] [] []) check) (answer 0 (cond (sound t) 1 0))

@@ -1,0 +1,84 @@
+-- What Format, Add, Withdraw and Rebuild promise, for all tables, arguments and lengths. t is the table as lent and t′ as left, w the scratch (the work area)
+-- as lent and w′ as left.
+-- Assumes nothing.
+use mathlib.Core.Path.{_≡_}
+use mathlib.Core.Logic.{_≢_}
+use Prim.Native.Nat.{ℕ, zero, suc}
+use mathlib.Core.Bool.{Bool, true, false, cond, not}
+use mathlib.Core.List.{List, [], _∷_, _++_}
+use mathlib.Core.Option.{Option, none, some}
+use lib.ListN.{length, drop, replicate}
+use lib.Dec.{ltb, eqb}
+use lib.IntN.{ℤ}
+use Rattle.octets.specs.Lists.{all, every, has}
+use Rattle.spot.specs.Keys.{key}
+use Rattle.block.specs.declared.Answer.{Answer}
+use Rattle.block.specs.Table.{tableSized, block}
+use Rattle.block.specs.Header.{headOf}
+use Rattle.block.specs.Node.{Node, storeOf}
+use Rattle.block.specs.HeaderRules.{headerOk}
+use Rattle.block.specs.Fresh.{formatted}
+use Rattle.tree.specs.Part.{whole}
+use Rattle.tree.specs.Lookup.{live, isLive, withKey}
+use Rattle.tree.specs.Reach.{reach, settled}
+use Rattle.tree.specs.Walk.{liveCount}
+use Rattle.tree.specs.Sound.{sound}
+use Rattle.table.specs.Calls.{Call, format, add, withdraw, rebuild}
+use Rattle.table.specs.Answers.{answer, lengths, lengthNumber, unlessRefused, addNumber, outcomes}
+
+-- "Format makes the empty table, one leaf and one level"
+pub record FormatPost (t : List ℕ) (r : Answer) (t′ : List ℕ) : Type 0 where
+  pub answered : r ≡ unlessRefused (lengthNumber (lengths t [] [] []) format) (answer 0 0)
+  pub written : t′ ≡ cond (tableSized (length t)) (formatted (length t)) t
+
+-- "once accepted, its first table-length bytes are zero and the others unchanged", and so after 3
+unfoldable pub scratchLeft : ℕ → ℕ → List ℕ → List ℕ
+scratchLeft bytes zero w = replicate bytes 0 ++ drop bytes w
+scratchLeft bytes (suc zero) w = w
+scratchLeft bytes (suc (suc zero)) w = w
+scratchLeft bytes (suc (suc (suc zero))) w = replicate bytes 0 ++ drop bytes w
+scratchLeft bytes (suc (suc (suc (suc n)))) w = w
+
+-- "whose root is inner with over 32 spots in P, under 64 in I and under 16 identities in D"
+unfoldable pub roomy : Node → Bool
+roomy n = all (not (eqb (n .level) 0) ∷ ltb 32 (length (n .points)) ∷ ltb (length (n .inserts)) 64 ∷ ltb (length (n .deletes)) 16 ∷ [])
+
+unfoldable pub rootOf : List ℕ → Node
+rootOf t = storeOf t (headOf t .root)
+
+-- a call that changes the table. On a sound one the number is `due`, and where it is accepted `after` are the live spots.
+pub record UpdatePost (c : Call) (due : ℕ) (after : ℕ → Option ℕ) (t w : List ℕ) (r : Answer) (t′ w′ : List ℕ) : Type 0 where
+  -- on every table
+  pub detail : r .detail ≡ 0
+  pub refusals : lengthNumber (lengths t [] [] w) c ≢ 0 → r .number ≡ lengthNumber (lengths t [] [] w) c
+  pub header : lengthNumber (lengths t [] [] w) c ≡ 0 → headerOk (length t) (headOf t) ≡ false → r .number ≡ 3
+  pub numbers : lengthNumber (lengths t [] [] w) c ≡ 0 → has (r .number) (outcomes c) ≡ true
+  pub unchanged : r .number ≢ 0 → t′ ≡ t
+  pub sized : length t′ ≡ length t
+  pub scratch : w′ ≡ scratchLeft (length t) (r .number) w
+  -- "An accepted call leaves a sound table sound"
+  pub number : sound t ≡ true → lengthNumber (lengths t [] [] w) c ≡ 0 → r .number ≡ due
+  pub staysSound : sound t ≡ true → sound t′ ≡ true
+  pub liveAfter : sound t ≡ true → r .number ≡ 0 → (k : ℕ) → live t′ k ≡ after k
+
+-- Add and Withdraw: "change no blocks of the table but block 0 and the root"
+pub record ChangePost (c : Call) (due : ℕ) (after : ℕ → Option ℕ) (t w : List ℕ) (r : Answer) (t′ w′ : List ℕ) : Type 0 where
+  pub update : UpdatePost c due after t w r t′ w′
+  pub light : sound t ≡ true → roomy (rootOf t) ≡ true → (b : ℕ) → b ≢ 0 → b ≢ headOf t .root → block t′ b ≡ block t b
+
+-- "Add puts the spot in; one of the same identity is replaced"
+abbrev pub AddPost : ℤ → ℤ → ℕ → List ℕ → List ℕ → Answer → List ℕ → List ℕ → Type 0
+AddPost place rank track t =
+    ChangePost (add place rank track) (addNumber (length t) (liveCount t) (isLive (live t (key place rank))))
+    (withKey (key place rank) (some track) (live t))
+    t
+
+-- "Withdraw takes out the spot of that identity; where there is none the set is unchanged and the call is accepted"
+abbrev pub WithdrawPost : ℤ → ℤ → List ℕ → List ℕ → Answer → List ℕ → List ℕ → Type 0
+WithdrawPost place rank t = ChangePost (withdraw place rank) 0 (withKey (key place rank) none (live t)) t
+
+-- "Rebuild leaves the live spots the same, track numbers included, and all waiting changes carried out"
+pub record RebuildPost (t w : List ℕ) (r : Answer) (t′ w′ : List ℕ) : Type 0 where
+  pub update : UpdatePost rebuild 0 (live t) t w r t′ w′
+  pub carriedOut : sound t ≡ true → r .number ≡ 0
+      → every (λ b. settled (storeOf t′ b)) (reach (headOf t′ .levels) (storeOf t′) (whole (headOf t′))) ≡ true

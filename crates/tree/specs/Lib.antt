@@ -1,0 +1,8 @@
+pub mod Part
+pub mod Lookup
+pub mod Reach
+pub mod Walk
+pub mod ReadMap
+pub mod Sound
+pub mod Read
+pub mod Top

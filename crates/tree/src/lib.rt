@@ -1,0 +1,1 @@
+// The tree as a whole: definitions in specs/, their theory in proofs/.

@@ -1,0 +1,253 @@
+-- A node in memory with more: a batch pushed into a child, the node cut in two, and the entry of a part read another way.
+-- Assumes nothing.
+use mathlib.Core.Path.{_≡_, refl, ap, ap₂, sym, _∙_, subst, subst⁻¹}
+use mathlib.Core.Logic.{_⊎_, inl, inr, ⊎-elim}
+use mathlib.Core.Bool.{Bool, true, false, not, cond, _&&_, _||_, true≢false, false≢true}
+use mathlib.Core.List.{List, [], _∷_, _++_, List·Memᴰ, List·Memᴰ·head, List·Memᴰ·tail, List·Memᴰ·not-nil}
+use mathlib.Core.Option.{Option, none, some}
+use Prim.Native.Nat.{ℕ, zero, suc, _<_, _≤_}
+use native.Mathlib.Omega.{arith}
+use lib.ListN.{length}
+use lib.Dec.{eqb, ltb, leb}
+use borrow.Author.Tests.{eqb-true, eq-eqb, ltb-true, lt-ltb, leb-true, le-leb}
+use Rattle.octets.specs.Lists.{all, every, keep, has, distinct, isEmpty, maximum, minimum}
+use Rattle.spot.specs.declared.Spot.{Spot}
+use Rattle.spot.specs.Spots.{keys, find}
+use Rattle.spot.specs.Keys.{rankKey, allKeys, within}
+use Rattle.block.specs.declared.Entry.{Entry}
+use Rattle.block.specs.Node.{Node, Store, openBelow}
+use Rattle.block.specs.declared.Asked.{Asked}
+use Rattle.block.specs.declared.Asked.the-variants.{Root, Child}
+use Rattle.block.specs.NodeRules.{names, nodeOk, agrees, notBelow, childCountOk, fewest, rankKeys}
+use Rattle.tree.specs.Part.{Part, nextLow, parts, children}
+use Rattle.tree.specs.Lookup.{orElse, down, lookup}
+use Rattle.tree.specs.Reach.{gather, reach}
+use Rattle.tree.specs.Sound.{soundAt, inRange}
+use Rattle.tree.proofs.Laws.{all-at, all-cons, all-nil, and-left, and-right, and-both, every-mem}
+use Rattle.tree.proofs.Canon.{same-or-not, some≢none}
+use Rattle.tree.proofs.Sets.{Split, has-not, distinct-split, every-make, every-left, every-right, every-join}
+use Rattle.tree.proofs.Frame.{gather-append}
+use Rattle.update.proofs.Change.{covers, reaches, Sound, Changed, down-append, covers-append}
+use Rattle.update.proofs.Spread.{Steps, start, childAt, parts-append, steps-split, steps-le, next-le, covers-parts, off-left, within-from, within-to, within-yes, within-low, within-high}
+use Rattle.tree.proofs.Buffers.{only, find-only, find-mem, find-none, only-mem}
+use Rattle.update.proofs.Ready.{say, Ready}
+use Rattle.update.proofs.Moves.{Held, Fit, says, push-I, pushed-I, push-D, pushed-D, cut, cut-says}
+use Rattle.update.proofs.Loose.{part}
+use Rattle.update.proofs.Open.{under, Open, after, open-child, ready-ext}
+use Rattle.update.proofs.Fill.{under-child}
+
+-- PUSH: the inserts that don't stay, all in the range of the child at e, were settled there; it became one or more entries
+module _ (l : ℕ) (New : ℕ → Type 0) (x y : Store) (lo hi : ℕ) (full : hi ≤ allKeys) (r : ℕ) (us vs : List Entry) (e e′ : Entry) (es : List Entry) (b : Held) (f : ℕ → Option ℕ) (stay : ℕ → Bool)
+    (low : e′ .low ≡ e .low) (o : Open l x lo hi r (us ++ (e ∷ vs)) b f)
+    (fresh : (z : ℕ) → New z → List·Memᴰ z (reaches l x (parts lo hi (us ++ (e ∷ vs)))) → ⊥)
+    (st : Steps (childAt lo hi us vs e .lo) (childAt lo hi us vs e .hi) (e′ ∷ es)) where
+  abbrev c₀ : Part
+  c₀ = childAt lo hi us vs e
+
+  abbrev B₀ : ℕ → Option ℕ
+  B₀ = under l x lo hi (us ++ (e ∷ vs))
+
+  pub open-push-I : ((k : ℕ) → List·Memᴰ k (keys (only (λ j. not (stay j)) (b .inserts))) → within (c₀ .lo) (c₀ .hi) k ≡ true)
+      → Changed l New x (c₀ ∷ []) y (parts (c₀ .lo) (c₀ .hi) (e′ ∷ es)) (λ k. orElse (find k (only (λ j. not (stay j)) (b .inserts))) (lookup l x k c₀))
+      → Open l y lo hi r (us ++ ((e′ ∷ es) ++ vs)) (record { points = b .points; inserts = only stay (b .inserts); deletes = b .deletes }) f
+  open-push-I w c =
+      open-child l New x y lo hi r us vs e e′ es b f g low o fresh c st r b′ f
+      (push-I lo hi full r B₀ (b .points) (b .inserts) (b .deletes) (o .ready) stay B₁ is)
+      (λ k v. pushed-I lo hi full r B₀ (b .points) (b .inserts) (b .deletes) (o .ready) stay B₁ is k ∙ o .found k v)
+    where
+      B : List Spot
+      B = only (λ j. not (stay j)) (b .inserts)
+
+      g : ℕ → Option ℕ
+      g k = orElse (find k (only (λ j. not (stay j)) (b .inserts))) (lookup l x k c₀)
+
+      b′ : Held
+      b′ = record { points = b .points; inserts = only stay (b .inserts); deletes = b .deletes }
+
+      B₁ : ℕ → Option ℕ
+      B₁ = after l New x y lo hi r us vs e e′ es b f g low o fresh c
+
+      is : (k : ℕ) → B₁ k ≡ orElse (find k (only (λ j. not (stay j)) (b .inserts))) (B₀ k)
+      is k = go (within (c₀ .lo) (c₀ .hi) k) refl
+        where
+          go : (q : Bool) → within (c₀ .lo) (c₀ .hi) k ≡ q → cond q (g k) (B₀ k) ≡ orElse (find k (only (λ j. not (stay j)) (b .inserts))) (B₀ k)
+          go true i = ap (orElse (find k (only (λ j. not (stay j)) (b .inserts)))) (sym (under-child l x lo hi us vs e (o .steps) k i))
+          go false i = ap (λ (q : Option ℕ). orElse q (B₀ k)) (sym (find-none k (only (λ j. not (stay j)) (b .inserts)) (λ j. true≢false (sym (w k j) ∙ i))))
+
+  -- the same of deletes
+  pub open-push-D : ((k : ℕ) → List·Memᴰ k (keep (λ j. not (stay j)) (b .deletes)) → within (c₀ .lo) (c₀ .hi) k ≡ true)
+      → Changed l New x (c₀ ∷ []) y (parts (c₀ .lo) (c₀ .hi) (e′ ∷ es)) (λ k. cond (has k (keep (λ j. not (stay j)) (b .deletes))) none (lookup l x k c₀))
+      → Open l y lo hi r (us ++ ((e′ ∷ es) ++ vs)) (record { points = b .points; inserts = b .inserts; deletes = keep stay (b .deletes) }) f
+  open-push-D w c =
+      open-child l New x y lo hi r us vs e e′ es b f g low o fresh c st r b′ f
+      (push-D lo hi full r B₀ (b .points) (b .inserts) (b .deletes) (o .ready) stay B₁ is)
+      (λ k v. pushed-D lo hi full r B₀ (b .points) (b .inserts) (b .deletes) (o .ready) stay B₁ is k ∙ o .found k v)
+    where
+      g : ℕ → Option ℕ
+      g k = cond (has k (keep (λ j. not (stay j)) (b .deletes))) none (lookup l x k c₀)
+
+      b′ : Held
+      b′ = record { points = b .points; inserts = b .inserts; deletes = keep stay (b .deletes) }
+
+      B₁ : ℕ → Option ℕ
+      B₁ = after l New x y lo hi r us vs e e′ es b f g low o fresh c
+
+      is : (k : ℕ) → B₁ k ≡ cond (has k (keep (λ j. not (stay j)) (b .deletes))) none (B₀ k)
+      is k = go (within (c₀ .lo) (c₀ .hi) k) refl
+        where
+          go : (q : Bool) → within (c₀ .lo) (c₀ .hi) k ≡ q → cond q (g k) (B₀ k) ≡ cond (has k (keep (λ j. not (stay j)) (b .deletes))) none (B₀ k)
+          go true i = ap (cond (has k (keep (λ j. not (stay j)) (b .deletes))) none) (sym (under-child l x lo hi us vs e (o .steps) k i))
+          go false i = ap (λ (q : Bool). cond q none (B₀ k)) (sym (has-not k (keep (λ j. not (stay j)) (b .deletes)) (λ j. true≢false (sym (w k j) ∙ i))))
+
+-- an entry may be read with another low, as long as it isn't above the range
+relow-node : (l : ℕ) (p : Part) (n : Node) (e e′ : Entry) → e′ .size ≡ e .size → e′ .top ≡ e .top → e′ .bottom ≡ e .bottom → e′ .low ≤ p .lo → inRange p n ≡ true
+    → nodeOk l (Child e) n ≡ true → nodeOk l (Child e′) n ≡ true
+unfolding nodeOk agrees notBelow childCountOk fewest inRange
+relow-node l p n e e′ a b c d i h =
+    all-cons _ _ (all-at _ h 0) (all-cons _ _ (all-at _ h 1) (all-cons _ _ (all-at _ h 2) (all-cons _ _ (all-at _ h 3) (all-cons _ _ (all-at _ h 4) (all-cons _ _ (all-at _ h 5) (all-cons _ _ (all-at _ h 6) (all-cons _ _ (all-at _ h 7) (all-cons _ _ (all-at _ h 8)
+    (all-cons _ _ (rw (a, b, c) (all-at _ h 9))
+    (all-cons _ _ (every-make _ (names n) (λ k j. le-leb (e′ .low) k (let z = within-from (p .lo) (p .hi) k (every-mem _ _ (all-at _ i 0) j) in omega arith))) (all-cons _ _ (all-at _ h 11) all-nil)))))))))))
+
+pub sound-relow : (l : ℕ) (m : Store) (b lo hi : ℕ) (e e′ : Entry) → e′ .size ≡ e .size → e′ .top ≡ e .top → e′ .bottom ≡ e .bottom → e′ .low ≤ lo
+    → soundAt l m (part b (Child e) lo hi) ≡ true → soundAt l m (part b (Child e′) lo hi) ≡ true
+unfolding soundAt inRange
+sound-relow zero m b lo hi e e′ p q r d h = absurd (false≢true h)
+sound-relow (suc l) m b lo hi e e′ p q r d h =
+    all-cons _ _ (relow-node l (part b (Child e) lo hi) (m b) e e′ p q r d (all-at _ h 1) (all-at _ h 0)) (all-cons _ _ (all-at _ h 1) (all-cons _ _ (all-at _ h 2) all-nil))
+
+-- what is sound for an entry is sound for the root
+root-node : (l : ℕ) (n : Node) (e : Entry) → nodeOk l (Child e) n ≡ true → nodeOk l Root n ≡ true
+unfolding nodeOk agrees notBelow childCountOk fewest
+root-node l n e h =
+    all-cons _ _ (all-at _ h 0) (all-cons _ _ (all-at _ h 1) (all-cons _ _ (fewer (eqb (n .level) 0) (all-at _ h 2)) (all-cons _ _ (all-at _ h 3) (all-cons _ _ (all-at _ h 4) (all-cons _ _ (all-at _ h 5) (all-cons _ _ (all-at _ h 6) (all-cons _ _ (all-at _ h 7) (all-cons _ _ (all-at _ h 8)
+    (all-cons _ _ refl (all-cons _ _ refl (all-cons _ _ (all-at _ h 11) all-nil)))))))))))
+  where
+    fewer : (t : Bool) → cond t (isEmpty (n .entries)) (all (leb 4 (length (n .entries)) ∷ leb (length (n .entries)) 8 ∷ [])) ≡ true
+        → cond t (isEmpty (n .entries)) (all (leb 2 (length (n .entries)) ∷ leb (length (n .entries)) 8 ∷ [])) ≡ true
+    fewer true g = g
+    fewer false g = all-cons _ _ (le-leb 2 (length (n .entries)) (let z = leb-true 4 (length (n .entries)) (all-at _ g 0) in omega arith)) (all-cons _ _ (all-at _ g 1) all-nil)
+
+-- reach and lookup don't ask what leads to a part
+pub reach-asked : (l : ℕ) (m : Store) (b lo hi : ℕ) (a a′ : Asked) → reach l m (part b a lo hi) ≡ reach l m (part b a′ lo hi)
+unfolding reach
+reach-asked zero m b lo hi a a′ = refl
+reach-asked (suc l) m b lo hi a a′ = refl
+
+pub lookup-asked : (l : ℕ) (m : Store) (k b lo hi : ℕ) (a a′ : Asked) → lookup l m k (part b a lo hi) ≡ lookup l m k (part b a′ lo hi)
+unfolding lookup
+lookup-asked zero m k b lo hi a a′ = refl
+lookup-asked (suc l) m k b lo hi a a′ = refl
+
+-- the first of some entries with its low put to 0, as it stands in a block
+module _ (l : ℕ) (m : Store) (lo hi : ℕ) (v : Entry) (vs : List Entry) where
+  pub under-open : (k : ℕ) → under l m lo hi (openBelow v ∷ vs) k ≡ under l m lo hi (v ∷ vs) k
+  under-open k = ap (λ (q : Option ℕ). cond (within lo (nextLow vs hi) k) q (under l m (nextLow vs hi) hi vs k)) (lookup-asked l m k (v .block) lo (nextLow vs hi) (Child (openBelow v)) (Child v))
+
+  pub reaches-open : reaches l m (parts lo hi (openBelow v ∷ vs)) ≡ reaches l m (parts lo hi (v ∷ vs))
+  reaches-open = ap (λ (q : List ℕ). q ++ reaches l m (parts (nextLow vs hi) hi vs)) (reach-asked l m (v .block) lo (nextLow vs hi) (Child (openBelow v)) (Child v))
+
+  pub sounds-open : every (soundAt l m) (parts lo hi (v ∷ vs)) ≡ true → every (soundAt l m) (parts lo hi (openBelow v ∷ vs)) ≡ true
+  sounds-open h =
+      let a = part (v .block) (Child v) lo (nextLow vs hi) in
+      let r = every (soundAt l m) (parts (nextLow vs hi) hi vs) in
+      and-both (soundAt l m (part (v .block) (Child (openBelow v)) lo (nextLow vs hi))) r (sound-relow l m (v .block) lo (nextLow vs hi) v (openBelow v) refl refl refl (omega arith) (and-left (soundAt l m a) r h)) (and-right (soundAt l m a) r h)
+
+down-covers : (f : Part → Option ℕ) (k : ℕ) (ps : List Part) {a : ℕ} → down f k ps ≡ some a → covers k ps ≡ true
+down-covers f k [] h = absurd (some≢none (sym h))
+down-covers f k (p ∷ ps) {a} h = go (within (p .lo) (p .hi) k) h (down-covers f k ps)
+  where
+    go : (b : Bool) → cond b (f p) (down f k ps) ≡ some a → (down f k ps ≡ some a → covers k ps ≡ true) → b || covers k ps ≡ true
+    go true g ih = refl
+    go false g ih = ih g
+
+-- SPLIT: the entries u ∷ us on the left of v .low, v ∷ vs from there on
+module _ (l : ℕ) (m : Store) (lo hi r : ℕ) (u : Entry) (us : List Entry) (v : Entry) (vs : List Entry) (b : Held) (f : ℕ → Option ℕ) (o : Open l m lo hi r ((u ∷ us) ++ (v ∷ vs)) b f) where
+  abbrev sep : ℕ
+  sep = v .low
+
+  abbrev A : List Part
+  A = parts lo sep (u ∷ us)
+
+  abbrev C : List Part
+  C = parts sep hi (v ∷ vs)
+
+  abbrev pub halfOf : (ℕ → Bool) → Held
+  halfOf g = record { points = only g (b .points); inserts = only g (b .inserts); deletes = keep g (b .deletes) }
+
+  cut-parts : parts lo hi ((u ∷ us) ++ (v ∷ vs)) ≡ A ++ C
+  cut-parts = parts-append lo hi (u ∷ us) (v ∷ vs)
+
+  kids : Sound l m (A ++ C)
+  kids = rw cut-parts at (o .kids)
+
+  both : Split (reaches l m A) (reaches l m C)
+  both = distinct-split (reaches l m A) (reaches l m C) (rw (gather-append (reach l m) A C) at (kids .once))
+
+  steps-A : Steps lo sep (u ∷ us)
+  steps-A = steps-split lo hi (u ∷ us) (v ∷ vs) (o .steps) .0
+
+  steps-C : Steps sep hi (v ∷ vs)
+  steps-C = steps-split lo hi (u ∷ us) (v ∷ vs) (o .steps) .1
+
+  pub low-sep : lo ≤ sep
+  low-sep = steps-le lo sep u us steps-A
+
+  pub sep-high : sep ≤ hi
+  sep-high = steps-le sep hi v vs steps-C
+
+  whole : (k : ℕ) → under l m lo hi ((u ∷ us) ++ (v ∷ vs)) k ≡ cond (covers k A) (under l m lo sep (u ∷ us) k) (under l m sep hi (v ∷ vs) k)
+  whole k = ap (λ (ps : List Part). down (lookup l m k) k ps) cut-parts ∙ down-append (lookup l m k) k A C
+
+  left-under : (k : ℕ) → covers k A ≡ true → under l m lo hi ((u ∷ us) ++ (v ∷ vs)) k ≡ under l m lo sep (u ∷ us) k
+  left-under k h = whole k ∙ rw h
+
+  right-under : (k : ℕ) → sep ≤ k → under l m lo hi ((u ∷ us) ++ (v ∷ vs)) k ≡ under l m sep hi (v ∷ vs) k
+  right-under k h = whole k ∙ rw (off-left lo sep hi k (u ∷ us) steps-A h)
+
+  pub open-left : Open l m lo sep r (u ∷ us) (halfOf (λ k. ltb k sep)) f
+  open-left =
+      record {
+        kids = record { each = every-left (soundAt l m) A C (kids .each); once = both .left };
+        steps = steps-A;
+        ready = cut lo hi lo sep r (b .points) (b .inserts) (b .deletes) (under l m lo hi ((u ∷ us) ++ (v ∷ vs))) (under l m lo sep (u ∷ us)) (λ k. ltb k sep)
+            (λ k g w. within-yes lo sep k (within-from lo hi k w) (ltb-true k sep g))
+            (λ k a e. left-under k (down-covers (lookup l m k) k A e) ∙ e)
+            (o .ready);
+        found = λ k w.
+            let z = within-to lo sep k w in
+            cut-says (b .points) (b .inserts) (b .deletes) (λ k. ltb k sep) k (under l m lo sep (u ∷ us) k) (lt-ltb k sep z) ∙
+            ap (says b k) (sym (left-under k (covers-parts lo sep u us k steps-A ∙ w))) ∙
+            o .found k (within-yes lo hi k (within-from lo sep k w) (let q = sep-high in omega arith));
+      }
+
+  pub open-right : Open l m sep hi r (openBelow v ∷ vs) (halfOf (λ k. leb sep k)) f
+  open-right =
+      record {
+        kids = record { each = sounds-open l m sep hi v vs (every-right (soundAt l m) A C (kids .each)); once = rw (reaches-open l m sep hi v vs) (both .right) };
+        steps = steps-C;
+        ready = cut lo hi sep hi r (b .points) (b .inserts) (b .deletes) (under l m lo hi ((u ∷ us) ++ (v ∷ vs))) (under l m sep hi (openBelow v ∷ vs)) (λ k. leb sep k)
+            (λ k g w. within-yes sep hi k (leb-true sep k g) (within-to lo hi k w))
+            (λ k a e.
+            let e′ : under l m sep hi (v ∷ vs) k ≡ some a = sym (under-open l m sep hi v vs k) ∙ e in
+            right-under k (within-from sep hi k (sym (covers-parts sep hi v vs k steps-C) ∙ down-covers (lookup l m k) k C e′)) ∙ e′)
+            (o .ready);
+        found = λ k w.
+            let z = within-from sep hi k w in
+            cut-says (b .points) (b .inserts) (b .deletes) (λ k. leb sep k) k (under l m sep hi (openBelow v ∷ vs) k) (le-leb sep k z) ∙
+            ap (says b k) (under-open l m sep hi v vs k ∙ sym (right-under k z)) ∙
+            o .found k (within-yes lo hi k (let q = low-sep in omega arith) (within-to sep hi k w));
+      }
+
+  -- nothing moved
+  pub cut-changed : (New : ℕ → Type 0) → ((z : ℕ) → New z → ⊥) → Changed l New m (parts lo hi ((u ∷ us) ++ (v ∷ vs))) m (A ++ parts sep hi (openBelow v ∷ vs)) (under l m lo hi ((u ∷ us) ++ (v ∷ vs)))
+  cut-changed New no-new =
+      let e : reaches l m (A ++ parts sep hi (openBelow v ∷ vs)) ≡ reaches l m (parts lo hi ((u ∷ us) ++ (v ∷ vs))) =
+      gather-append (reach l m) A (parts sep hi (openBelow v ∷ vs)) ∙ ap (λ (q : List ℕ). reaches l m A ++ q) (reaches-open l m sep hi v vs) ∙ sym (gather-append (reach l m) A C) ∙ ap (λ (ps : List Part). reaches l m ps) (sym cut-parts) in
+      record {
+        sound = record { each = every-join (soundAt l m) A (parts sep hi (openBelow v ∷ vs)) (every-left (soundAt l m) A C (kids .each)) (sounds-open l m sep hi v vs (every-right (soundAt l m) A C (kids .each))); once = rw e (o .kids .once) };
+        span = λ k. covers-append k A (parts sep hi (openBelow v ∷ vs)) ∙ sym (ap (λ (ps : List Part). covers k ps) cut-parts ∙ covers-append k A C);
+        found = λ k i. down-append (lookup l m k) k A (parts sep hi (openBelow v ∷ vs)) ∙ ap (cond (covers k A) (under l m lo sep (u ∷ us) k)) (under-open l m sep hi v vs k) ∙ sym (whole k);
+        reached = λ z i. inl (rw e at i);
+        still = λ z i. ⊎-elim (λ j. rw e j) (λ j. absurd (no-new z j)) i;
+        kept = λ z a c. refl;
+      }

@@ -1,0 +1,136 @@
+-- One round of fill that takes the top t out of a child, for a node in memory over a store.
+-- Assumes nothing.
+use mathlib.Core.Path.{_≡_, refl, ap, ap₂, sym, _∙_, subst, subst⁻¹}
+use mathlib.Core.Logic.{_⊎_, inl, inr, ⊎-elim}
+use mathlib.Core.Bool.{Bool, true, false, not, cond, true≢false}
+use mathlib.Core.List.{List, [], _∷_, _++_, List·Memᴰ, List·Memᴰ·head, Memᴰ·append-left, Memᴰ·append-right}
+use mathlib.Core.Option.{Option, none, some}
+use Prim.Native.Nat.{ℕ, zero, suc, _<_, _≤_}
+use native.Mathlib.Omega.{arith}
+use lib.Dec.{eqb}
+use borrow.Author.Tests.{eq-eqb, ne-eqb}
+use Rattle.octets.specs.Lists.{keep, has}
+use Rattle.spot.specs.declared.Spot.{Spot}
+use Rattle.spot.specs.Spots.{keys, find, put}
+use Rattle.spot.specs.Keys.{rankKey, allKeys, within}
+use Rattle.block.specs.declared.Entry.{Entry}
+use Rattle.block.specs.Node.{Node, Store}
+use Rattle.tree.specs.Part.{Part, nextLow, parts}
+use Rattle.tree.specs.Lookup.{down, lookup}
+use Rattle.tree.proofs.Canon.{same-or-not, some≢none}
+use Rattle.update.proofs.Change.{reaches, Sound, Changed}
+use Rattle.update.proofs.Spread.{Steps, start, childAt, parts-one, down-from, down-at, part-bounds, within-from, within-to, within-yes}
+use Rattle.tree.proofs.Buffers.{only}
+use Rattle.update.proofs.Ready.{say, Ready, but, lower, fill-I, filled-I, fill-child, filled-child, fill-dead, filled-dead, fill-ends, filled-ends, top-taken, top-gone}
+use Rattle.update.proofs.Moves.{Held, Fit, says}
+use Rattle.update.proofs.Open.{under, Open, open-held, after, open-child}
+
+-- what is found below lies in the range
+pub under-in : (l : ℕ) (m : Store) (lo hi : ℕ) (es : List Entry) → Steps lo hi es → (k a : ℕ) → under l m lo hi es k ≡ some a → within lo hi k ≡ true
+under-in l m lo hi es st k a e =
+    let c = down-from (lookup l m k) k (parts lo hi es) e in
+    let b = part-bounds lo hi es st (c .1) in
+    let u = within-from (c .0 .lo) (c .0 .hi) k (c .2) in
+    let v = within-to (c .0 .lo) (c .0 .hi) k (c .2) in
+    within-yes lo hi k (omega (arith, b .0, u)) (omega (arith, b .1, v))
+
+pub under-child : (l : ℕ) (m : Store) (lo hi : ℕ) (us vs : List Entry) (e : Entry) → Steps lo hi (us ++ (e ∷ vs)) → (k : ℕ)
+    → within (childAt lo hi us vs e .lo) (childAt lo hi us vs e .hi) k ≡ true → under l m lo hi (us ++ (e ∷ vs)) k ≡ lookup l m k (childAt lo hi us vs e)
+under-child l m lo hi us vs e st k w =
+    down-at (lookup l m k) k lo hi (us ++ (e ∷ vs)) (childAt lo hi us vs e) st
+    (subst⁻¹ (λ (ps : List Part). List·Memᴰ (childAt lo hi us vs e) ps) (parts-one l (λ z. ⊥) m m lo hi us vs e e [] (λ k. none)) (Memᴰ·append-right (parts lo (e .low) us) (List·Memᴰ·head refl)))
+    w
+
+-- TAKE TOP, at the node itself: its highest point (any point) goes, and is found no more
+pub open-take : (l : ℕ) (m : Store) (lo hi : ℕ) → hi ≤ allKeys → (r : ℕ) (es : List Entry) (b : Held) (f : ℕ → Option ℕ) → Open l m lo hi r es b f → (t : ℕ) → List·Memᴰ t (keys (b .points))
+    → Open l m lo hi r es (record { points = only (but t) (b .points); inserts = b .inserts; deletes = b .deletes }) (λ k. cond (eqb k t) none (f k))
+open-take l m lo hi full r es b f o t i =
+    let B = under l m lo hi es in
+    open-held l m lo hi r r es b (record { points = only (but t) (b .points); inserts = b .inserts; deletes = b .deletes }) f (λ k. cond (eqb k t) none (f k)) o
+    (top-taken lo hi full r (b .points) (b .inserts) (b .deletes) B (o .ready) t i)
+    (λ k w. top-gone lo hi full r (b .points) (b .inserts) (b .deletes) B (o .ready) t i k ∙ ap (cond (eqb k t) none) (o .found k w))
+
+-- the last round: nothing in I, nothing below
+pub open-ends : (l : ℕ) (m : Store) (lo hi : ℕ) → hi ≤ allKeys → (r : ℕ) (es : List Entry) (b : Held) (f : ℕ → Option ℕ) → Open l m lo hi r es b f → ((k : ℕ) → under l m lo hi es k ≡ none)
+    → Open l m lo hi r es (record { points = b .points; inserts = b .inserts; deletes = [] }) f
+open-ends l m lo hi full r es b f o e =
+    let B = under l m lo hi es in
+    open-held l m lo hi r r es b (record { points = b .points; inserts = b .inserts; deletes = [] }) f f o
+    (fill-ends lo hi full r (b .points) (b .inserts) (b .deletes) B (o .ready) e)
+    (λ k w. filled-ends lo hi full r (b .points) (b .inserts) (b .deletes) B (o .ready) e k ∙ o .found k w)
+
+-- from I, and t isn't below
+pub open-fill-I : (l : ℕ) (m : Store) (lo hi : ℕ) → hi ≤ allKeys → (r : ℕ) (es : List Entry) (b : Held) (f : ℕ → Option ℕ) → Open l m lo hi r es b f → (s : Spot)
+    → find (s .key) (b .inserts) ≡ some (s .track) → ((k : ℕ) → List·Memᴰ k (keys (b .inserts)) → rankKey k ≤ rankKey (s .key))
+    → ((k a : ℕ) → under l m lo hi es k ≡ some a → rankKey k ≤ rankKey (s .key)) → under l m lo hi es (s .key) ≡ none → within lo hi (s .key) ≡ true
+    → Open l m lo hi (rankKey (s .key)) es (record { points = put s (b .points); inserts = only (but (s .key)) (b .inserts); deletes = keep (lower (s .key)) (b .deletes) }) f
+open-fill-I l m lo hi full r es b f o s g top best gone w =
+    let B = under l m lo hi es in
+    let b′ : Held = record { points = put s (b .points); inserts = only (but (s .key)) (b .inserts); deletes = keep (lower (s .key)) (b .deletes) } in
+    open-held l m lo hi r (rankKey (s .key)) es b b′ f f o
+    (fill-I lo hi full r (b .points) (b .inserts) (b .deletes) B (o .ready) (s .key) w B gone (λ k n. refl) best (under-in l m lo hi es (o .steps)) s refl g top)
+    (λ k v. filled-I lo hi full r (b .points) (b .inserts) (b .deletes) B (o .ready) (s .key) w B gone (λ k n. refl) best (under-in l m lo hi es (o .steps)) s refl g k v ∙ o .found k v)
+
+-- t is taken out of the child at e, whose entry becomes e′
+module _ (l : ℕ) (New : ℕ → Type 0) (x y : Store) (lo hi : ℕ) (full : hi ≤ allKeys) (r : ℕ) (us vs : List Entry) (e e′ : Entry) (b : Held) (f : ℕ → Option ℕ) (t : ℕ)
+    (low : e′ .low ≡ e .low) (o : Open l x lo hi r (us ++ (e ∷ vs)) b f)
+    (fresh : (z : ℕ) → New z → List·Memᴰ z (reaches l x (parts lo hi (us ++ (e ∷ vs)))) → ⊥)
+    (c : Changed l New x (childAt lo hi us vs e ∷ []) y (parts (childAt lo hi us vs e .lo) (childAt lo hi us vs e .hi) (e′ ∷ [])) (λ k. cond (eqb k t) none (lookup l x k (childAt lo hi us vs e))))
+    (holds : within (childAt lo hi us vs e .lo) (childAt lo hi us vs e .hi) t ≡ true)
+    (best : (k a : ℕ) → under l x lo hi (us ++ (e ∷ vs)) k ≡ some a → rankKey k ≤ rankKey t)
+    (wt : within lo hi t ≡ true) where
+  abbrev g : ℕ → Option ℕ
+  g k = cond (eqb k t) none (lookup l x k (childAt lo hi us vs e))
+
+  abbrev B₀ : ℕ → Option ℕ
+  B₀ = under l x lo hi (us ++ (e ∷ vs))
+
+  abbrev B₁ : ℕ → Option ℕ
+  B₁ = after l New x y lo hi r us vs e e′ [] b f g low o fresh c
+
+  gone : B₁ t ≡ none
+  gone = rw (holds, eq-eqb t t refl)
+
+  stays : (k : ℕ) → (k ≡ t → ⊥) → B₁ k ≡ B₀ k
+  stays k n = go (within (childAt lo hi us vs e .lo) (childAt lo hi us vs e .hi) k) refl
+    where
+      go : (q : Bool) → within (childAt lo hi us vs e .lo) (childAt lo hi us vs e .hi) k ≡ q → cond q (g k) (B₀ k) ≡ B₀ k
+      go true w = rw (ne-eqb k t n) (sym (under-child l x lo hi us vs e (o .steps) k w))
+      go false w = refl
+
+  inn : (k a : ℕ) → B₁ k ≡ some a → within lo hi k ≡ true
+  inn k a h = go (same-or-not k t)
+    where
+      go : (k ≡ t) ⊎ (k ≡ t → ⊥) → within lo hi k ≡ true
+      go (inl i) = absurd (some≢none (sym h ∙ ap B₁ i ∙ gone))
+      go (inr n) = under-in l x lo hi (us ++ (e ∷ vs)) (o .steps) k a (sym (stays k n) ∙ h)
+
+  one : Steps (childAt lo hi us vs e .lo) (childAt lo hi us vs e .hi) (e′ ∷ [])
+  one = let u = within-from _ _ t holds in let v = within-to _ _ t holds in (omega arith, tt)
+
+  -- from I, and the older copy is dropped
+  pub open-fill-both : (s : Spot) → s .key ≡ t → find t (b .inserts) ≡ some (s .track) → ((k : ℕ) → List·Memᴰ k (keys (b .inserts)) → rankKey k ≤ rankKey t)
+      → Open l y lo hi (rankKey t) (us ++ ((e′ ∷ []) ++ vs)) (record { points = put s (b .points); inserts = only (but t) (b .inserts); deletes = keep (lower t) (b .deletes) }) f
+  open-fill-both s i h top =
+      let b′ : Held = record { points = put s (b .points); inserts = only (but t) (b .inserts); deletes = keep (lower t) (b .deletes) } in
+      open-child l New x y lo hi r us vs e e′ [] b f g low o fresh c one (rankKey t) b′ f
+      (fill-I lo hi full r (b .points) (b .inserts) (b .deletes) B₀ (o .ready) t wt B₁ gone stays best inn s i h top)
+      (λ k w. filled-I lo hi full r (b .points) (b .inserts) (b .deletes) B₀ (o .ready) t wt B₁ gone stays best inn s i h k w ∙ o .found k w)
+
+  -- from a child, and D doesn't name it
+  pub open-fill-child : (s : Spot) → s .key ≡ t → B₀ t ≡ some (s .track) → ((k : ℕ) → List·Memᴰ k (keys (b .inserts)) → rankKey k < rankKey t) → has t (b .deletes) ≡ false
+      → Open l y lo hi (rankKey t) (us ++ ((e′ ∷ []) ++ vs)) (record { points = put s (b .points); inserts = b .inserts; deletes = keep (lower t) (b .deletes) }) f
+  open-fill-child s i h top d =
+      let b′ : Held = record { points = put s (b .points); inserts = b .inserts; deletes = keep (lower t) (b .deletes) } in
+      open-child l New x y lo hi r us vs e e′ [] b f g low o fresh c one (rankKey t) b′ f
+      (fill-child lo hi full r (b .points) (b .inserts) (b .deletes) B₀ (o .ready) t wt B₁ gone stays best inn s i h top)
+      (λ k w. filled-child lo hi full r (b .points) (b .inserts) (b .deletes) B₀ (o .ready) t wt B₁ gone stays best inn s i h top d k w ∙ o .found k w)
+
+  -- from a child, and D names it
+  pub open-fill-dead : (a : ℕ) → B₀ t ≡ some a → ((k : ℕ) → List·Memᴰ k (keys (b .inserts)) → rankKey k < rankKey t) → has t (b .deletes) ≡ true
+      → Open l y lo hi (rankKey t) (us ++ ((e′ ∷ []) ++ vs)) (record { points = b .points; inserts = b .inserts; deletes = keep (lower t) (b .deletes) }) f
+  open-fill-dead a h top d =
+      let b′ : Held = record { points = b .points; inserts = b .inserts; deletes = keep (lower t) (b .deletes) } in
+      open-child l New x y lo hi r us vs e e′ [] b f g low o fresh c one (rankKey t) b′ f
+      (fill-dead lo hi full r (b .points) (b .inserts) (b .deletes) B₀ (o .ready) t wt B₁ gone stays best inn (o .ready .deep t a h) top)
+      (λ k w. filled-dead lo hi full r (b .points) (b .inserts) (b .deletes) B₀ (o .ready) t wt B₁ gone stays best inn d top k w ∙ o .found k w)

@@ -1,0 +1,224 @@
+-- More steps of an update on the buffers of a node: a whole batch, the lowest of P to I, a batch pushed down, a node cut in two.
+-- Assumes nothing.
+use mathlib.Core.Path.{_≡_, refl, ap, ap₂, sym, _∙_}
+use mathlib.Core.Logic.{_⊎_, inl, inr, ⊎-elim}
+use mathlib.Core.Bool.{Bool, true, false, not, cond, _&&_, _||_, true≢false, false≢true}
+use mathlib.Core.List.{List, [], _∷_, _++_, List·Memᴰ, List·Memᴰ·head, List·Memᴰ·tail, List·Memᴰ·not-nil, List·Memᴰ·cases-cons}
+use mathlib.Core.Option.{Option, none, some}
+use Prim.Native.Nat.{ℕ, suc, _<_, _≤_}
+use native.Mathlib.Omega.{arith}
+use lib.Dec.{eqb, ltb, leb}
+use borrow.Author.Tests.{eq-eqb, ne-eqb, le-leb, lt-leb, leb-true, leb-false}
+use Rattle.octets.specs.Lists.{keep, has, rising}
+use Rattle.spot.specs.declared.Spot.{Spot}
+use Rattle.spot.specs.Spots.{keys, find, put}
+use Rattle.spot.specs.Keys.{rankKey, allKeys, within}
+use Rattle.tree.specs.Lookup.{orElse}
+use Rattle.tree.proofs.Canon.{same-or-not, less-or-not, some≢none, find-put}
+use Rattle.tree.proofs.Sets.{Apart, has-mem, mem-has, has-not, not-has-mem, in-or-not}
+use Rattle.tree.proofs.Buffers.{only, find-only, keep-mem, has-keep, keep-rises, only-rises, only-mem, find-mem, find-none, put-mem, put-up, putKey}
+use Rattle.update.proofs.Ready.{say, Ready, but, but-not, strict, not-P, P-not-I, P-not-D, taken, deleted-high, delete-low, deleted-low, insert-high, inserted-high, insert-low, inserted-low}
+
+-- the three buffers together
+pub record Held : Type 0 where
+  pub points : List Spot
+  pub inserts : List Spot
+  pub deletes : List ℕ
+
+abbrev pub Fit : ℕ → ℕ → ℕ → Held → (ℕ → Option ℕ) → Type 0
+Fit lo hi r b below = Ready lo hi r (b .points) (b .inserts) (b .deletes) below
+
+abbrev pub says : Held → ℕ → Option ℕ → Option ℕ
+says b k d = say (b .points) (b .inserts) (b .deletes) k d
+
+-- 6. one insert and one delete, by the lowest rank r of P that was noted before
+abbrev pub insertOne : ℕ → Spot → Held → Held
+insertOne r s b =
+    cond (leb r (rankKey (s .key)))
+    (record { points = put s (only (but (s .key)) (b .points)); inserts = only (but (s .key)) (b .inserts); deletes = keep (but (s .key)) (b .deletes) })
+    (record { points = only (but (s .key)) (b .points); inserts = put s (only (but (s .key)) (b .inserts)); deletes = keep (but (s .key)) (b .deletes) })
+
+abbrev pub deleteOne : ℕ → ℕ → Held → Held
+deleteOne r k b =
+    cond (leb r (rankKey k))
+    (record { points = only (but k) (b .points); inserts = only (but k) (b .inserts); deletes = keep (but k) (b .deletes) })
+    (record { points = only (but k) (b .points); inserts = only (but k) (b .inserts); deletes = putKey k (keep (but k) (b .deletes)) })
+
+abbrev pub insertAll : ℕ → List Spot → Held → Held
+insertAll r [] b = b
+insertAll r (s ∷ ss) b = insertOne r s (insertAll r ss b)
+
+abbrev pub deleteAll : ℕ → List ℕ → Held → Held
+deleteAll r [] b = b
+deleteAll r (k ∷ ks) b = deleteOne r k (deleteAll r ks b)
+
+module _ (lo hi : ℕ) (full : hi ≤ allKeys) (r : ℕ) (below : ℕ → Option ℕ) where
+  insert-one : (s : Spot) (b : Held) → within lo hi (s .key) ≡ true → Fit lo hi r b below
+      → Fit lo hi r (insertOne r s b) below × ((k : ℕ) → says (insertOne r s b) k (below k) ≡ cond (eqb k (s .key)) (some (s .track)) (says b k (below k)))
+  insert-one s b w h = go (leb r (rankKey (s .key))) refl
+    where
+      high : Held
+      high = record { points = put s (only (but (s .key)) (b .points)); inserts = only (but (s .key)) (b .inserts); deletes = keep (but (s .key)) (b .deletes) }
+
+      low : Held
+      low = record { points = only (but (s .key)) (b .points); inserts = put s (only (but (s .key)) (b .inserts)); deletes = keep (but (s .key)) (b .deletes) }
+
+      go : (t : Bool) → leb r (rankKey (s .key)) ≡ t
+          → Fit lo hi r (cond t high low) below × ((k : ℕ) → says (cond t high low) k (below k) ≡ cond (eqb k (s .key)) (some (s .track)) (says b k (below k)))
+      go true e = (insert-high lo hi full r (b .points) (b .inserts) (b .deletes) below h s w (leb-true r (rankKey (s .key)) e), inserted-high lo hi full r (b .points) (b .inserts) (b .deletes) below h s)
+      go false e = (insert-low lo hi full r (b .points) (b .inserts) (b .deletes) below h s w (leb-false r (rankKey (s .key)) e), inserted-low lo hi full r (b .points) (b .inserts) (b .deletes) below h s)
+
+  delete-one : (t : ℕ) (b : Held) → within lo hi t ≡ true → Fit lo hi r b below
+      → Fit lo hi r (deleteOne r t b) below × ((k : ℕ) → says (deleteOne r t b) k (below k) ≡ cond (eqb k t) none (says b k (below k)))
+  delete-one t b w h = go (leb r (rankKey t)) refl
+    where
+      high : Held
+      high = record { points = only (but t) (b .points); inserts = only (but t) (b .inserts); deletes = keep (but t) (b .deletes) }
+
+      low : Held
+      low = record { points = only (but t) (b .points); inserts = only (but t) (b .inserts); deletes = putKey t (keep (but t) (b .deletes)) }
+
+      go : (u : Bool) → leb r (rankKey t) ≡ u
+          → Fit lo hi r (cond u high low) below × ((k : ℕ) → says (cond u high low) k (below k) ≡ cond (eqb k t) none (says b k (below k)))
+      go true e = (taken lo hi full r (b .points) (b .inserts) (b .deletes) below h t, deleted-high lo hi full r (b .points) (b .inserts) (b .deletes) below h t (leb-true r (rankKey t) e))
+      go false e = (delete-low lo hi full r (b .points) (b .inserts) (b .deletes) below h t w (leb-false r (rankKey t) e), deleted-low lo hi full r (b .points) (b .inserts) (b .deletes) below h t)
+
+  -- a batch of inserts: its word, else what was found before
+  pub insert-all : (ss : List Spot) (b : Held) → ((k : ℕ) → List·Memᴰ k (keys ss) → within lo hi k ≡ true) → Fit lo hi r b below
+      → Fit lo hi r (insertAll r ss b) below × ((k : ℕ) → says (insertAll r ss b) k (below k) ≡ orElse (find k ss) (says b k (below k)))
+  insert-all [] b w h = (h, λ k. refl)
+  insert-all (s ∷ ss) b w h =
+      let a = insert-all ss b (λ k i. w k (List·Memᴰ·tail i)) h in
+      let c = insert-one s (insertAll r ss b) (w (s .key) (List·Memᴰ·head refl)) (a .0) in
+      (c .0, λ k. c .1 k ∙ ap (cond (eqb k (s .key)) (some (s .track))) (a .1 k) ∙ else-cond (eqb k (s .key)) (s .track) (find k ss) (says b k (below k)))
+    where
+      else-cond : (t : Bool) (u : ℕ) (o d : Option ℕ) → cond t (some u) (orElse o d) ≡ orElse (cond t (some u) o) d
+      else-cond true u o d = refl
+      else-cond false u o d = refl
+
+  -- a batch of deletes
+  pub delete-all : (ks : List ℕ) (b : Held) → ((k : ℕ) → List·Memᴰ k ks → within lo hi k ≡ true) → Fit lo hi r b below
+      → Fit lo hi r (deleteAll r ks b) below × ((k : ℕ) → says (deleteAll r ks b) k (below k) ≡ cond (has k ks) none (says b k (below k)))
+  delete-all [] b w h = (h, λ k. refl)
+  delete-all (t ∷ ks) b w h =
+      let a = delete-all ks b (λ k i. w k (List·Memᴰ·tail i)) h in
+      let c = delete-one t (deleteAll r ks b) (w t (List·Memᴰ·head refl)) (a .0) in
+      (c .0, λ k. c .1 k ∙ ap (cond (eqb k t) none) (a .1 k) ∙ either (eqb k t) (has k ks) (says b k (below k)))
+    where
+      either : (t u : Bool) (d : Option ℕ) → cond t none (cond u none d) ≡ cond (t || u) none d
+      either true u d = refl
+      either false u d = refl
+
+  module _ (P I : List Spot) (D : List ℕ) (h : Ready lo hi r P I D below) where
+    -- P over 64: the lowest of it goes to I
+    pub spill : (q : Spot) → List·Memᴰ (q .key) (keys P) → ((k : ℕ) → List·Memᴰ k (keys P) → rankKey (q .key) ≤ rankKey k)
+        → Ready lo hi (suc (rankKey (q .key))) (only (but (q .key)) P) (put q I) D below
+    spill q j least =
+        let t = q .key in
+        let g = h .above t j in
+        record {
+          upP = only-rises (but t) P (h .upP);
+          upI = put-up q I (h .upI) (λ i. let z = h .underI t i in omega arith);
+          upD = h .upD;
+          inP = λ k i. h .inP k (only-mem (but t) P i .0);
+          inI = λ k i. ⊎-elim (λ (e : k ≡ t). ap (within lo hi) e ∙ h .inP t j) (λ u. h .inI k u) (put-mem q I i);
+          inD = h .inD;
+          off = λ k i d. ⊎-elim (λ (e : k ≡ t). let z = h .underD k d in let y : rankKey k ≡ rankKey t = ap rankKey e in absurd (omega arith)) (λ u. h .off k u d) (put-mem q I i);
+          above = λ k i. let m = only-mem (but t) P i in strict lo hi full t k (h .inP t j) (h .inP k (m .0)) (λ e. but-not t k (m .1) (sym e)) (least k (m .0));
+          underI = λ k i. ⊎-elim (λ (e : k ≡ t). let y : rankKey k ≡ rankKey t = ap rankKey e in omega arith) (λ u. let z = h .underI k u in omega arith) (put-mem q I i);
+          underD = λ k i. let z = h .underD k i in omega arith;
+          deep = λ k a e. let z = h .deep k a e in omega arith;
+        }
+
+    pub spilled : (q : Spot) → find (q .key) P ≡ some (q .track) → (k : ℕ) → say (only (but (q .key)) P) (put q I) D k (below k) ≡ say P I D k (below k)
+    spilled q f k = rw (find-only (but (q .key)) k P, find-put k q I) (go (same-or-not k (q .key)))
+      where
+        go : (k ≡ q .key) ⊎ (k ≡ q .key → ⊥)
+            → orElse (cond (but (q .key) k) (find k P) none) (orElse (cond (eqb k (q .key)) (some (q .track)) (find k I)) (cond (has k D) none (below k))) ≡ say P I D k (below k)
+        go (inl e) = rw (eq-eqb k (q .key) e, ap (λ (j : ℕ). find j P) e ∙ f)
+        go (inr n) = rw (ne-eqb k (q .key) n)
+
+    -- PUSH: the inserts that don't pass g go below
+    module _ (g : ℕ → Bool) (below′ : ℕ → Option ℕ) where
+      pub push-I : ((k : ℕ) → below′ k ≡ orElse (find k (only (λ j. not (g j)) I)) (below k)) → Ready lo hi r P (only g I) D below′
+      push-I e =
+          record {
+            upP = h .upP;
+            upI = only-rises g I (h .upI);
+            upD = h .upD;
+            inP = h .inP;
+            inI = λ k i. h .inI k (only-mem g I i .0);
+            inD = h .inD;
+            off = λ k i j. h .off k (only-mem g I i .0) j;
+            above = h .above;
+            underI = λ k i. h .underI k (only-mem g I i .0);
+            underD = h .underD;
+            deep = λ k a i. go k a (find k (only (λ j. not (g j)) I)) refl (sym (e k) ∙ i);
+          }
+        where
+          go : (k a : ℕ) (o : Option ℕ) → find k (only (λ j. not (g j)) I) ≡ o → orElse o (below k) ≡ some a → rankKey k < r
+          go k a none f i = h .deep k a i
+          go k a (some b) f i = h .underI k (only-mem (λ j. not (g j)) I (find-mem k (only (λ j. not (g j)) I) f) .0)
+
+      pub pushed-I : ((k : ℕ) → below′ k ≡ orElse (find k (only (λ j. not (g j)) I)) (below k)) → (k : ℕ) → say P (only g I) D k (below′ k) ≡ say P I D k (below k)
+      pushed-I e k = ap (orElse (find k P)) (rw (e k, find-only g k I, find-only (λ j. not (g j)) k I) (go (g k) (find k I) refl))
+        where
+          go : (t : Bool) (o : Option ℕ) → find k I ≡ o
+              → orElse (cond t o none) (cond (has k D) none (orElse (cond (not t) o none) (below k))) ≡ orElse o (cond (has k D) none (below k))
+          go true none f = refl
+          go true (some a) f = refl
+          go false none f = refl
+          go false (some a) f = rw (has-not k D (λ i. h .off k (find-mem k I f) i))
+
+      -- and the deletes that don't
+      pub push-D : ((k : ℕ) → below′ k ≡ cond (has k (keep (λ j. not (g j)) D)) none (below k)) → Ready lo hi r P I (keep g D) below′
+      push-D e =
+          record {
+            upP = h .upP;
+            upI = h .upI;
+            upD = keep-rises g 0 D (h .upD);
+            inP = h .inP;
+            inI = h .inI;
+            inD = λ k i. h .inD k (keep-mem g D i .0);
+            off = λ k i j. h .off k i (keep-mem g D j .0);
+            above = h .above;
+            underI = h .underI;
+            underD = λ k i. h .underD k (keep-mem g D i .0);
+            deep = λ k a i. go k a (has k (keep (λ j. not (g j)) D)) (sym (e k) ∙ i);
+          }
+        where
+          go : (k a : ℕ) (t : Bool) → cond t none (below k) ≡ some a → rankKey k < r
+          go k a true i = absurd (some≢none (sym i))
+          go k a false i = h .deep k a i
+
+      pub pushed-D : ((k : ℕ) → below′ k ≡ cond (has k (keep (λ j. not (g j)) D)) none (below k)) → (k : ℕ) → say P I (keep g D) k (below′ k) ≡ say P I D k (below k)
+      pushed-D e k =
+          ap (λ (o : Option ℕ). orElse (find k P) (orElse (find k I) o)) (rw (e k, has-keep g k D, has-keep (λ j. not (g j)) k D) (go (g k) (has k D)))
+        where
+          go : (t u : Bool) → cond (cond t u false) none (cond (cond (not t) u false) none (below k)) ≡ cond u none (below k)
+          go true true = refl
+          go true false = refl
+          go false true = refl
+          go false false = refl
+
+-- 4. a node cut: the buffers' keys that pass g, over the part of what is below
+pub cut : (lo hi lo′ hi′ r : ℕ) (P I : List Spot) (D : List ℕ) (below below′ : ℕ → Option ℕ) (g : ℕ → Bool)
+    → ((k : ℕ) → g k ≡ true → within lo hi k ≡ true → within lo′ hi′ k ≡ true) → ((k a : ℕ) → below′ k ≡ some a → below k ≡ some a)
+    → Ready lo hi r P I D below → Ready lo′ hi′ r (only g P) (only g I) (keep g D) below′
+cut lo hi lo′ hi′ r P I D below below′ g w d h =
+    record {
+      upP = only-rises g P (h .upP);
+      upI = only-rises g I (h .upI);
+      upD = keep-rises g 0 D (h .upD);
+      inP = λ k i. let m = only-mem g P i in w k (m .1) (h .inP k (m .0));
+      inI = λ k i. let m = only-mem g I i in w k (m .1) (h .inI k (m .0));
+      inD = λ k i. let m = keep-mem g D i in w k (m .1) (h .inD k (m .0));
+      off = λ k i j. h .off k (only-mem g I i .0) (keep-mem g D j .0);
+      above = λ k i. h .above k (only-mem g P i .0);
+      underI = λ k i. h .underI k (only-mem g I i .0);
+      underD = λ k i. h .underD k (keep-mem g D i .0);
+      deep = λ k a e. h .deep k a (d k a e);
+    }
+
+pub cut-says : (P I : List Spot) (D : List ℕ) (g : ℕ → Bool) (k : ℕ) (d : Option ℕ) → g k ≡ true → say (only g P) (only g I) (keep g D) k d ≡ say P I D k d
+cut-says P I D g k d e = rw (find-only g k P, find-only g k I, has-keep g k D, e)

@@ -1,0 +1,124 @@
+-- A node in memory during an update: its children stand in a store, its buffers are ready, and f is what is found through it. Each step of
+-- settle, push, split and fill leads from one such state to another; a state with the sizes right can be stored.
+-- Assumes nothing.
+use mathlib.Core.Path.{_≡_, refl, ap, ap₂, sym, _∙_, subst}
+use mathlib.Core.Logic.{_⊎_, inl, inr, ⊎-elim}
+use mathlib.Core.Bool.{Bool, true, false, not, cond, _&&_, _||_, true≢false, false≢true}
+use mathlib.Core.List.{List, [], _∷_, _++_, List·Memᴰ, List·Memᴰ·head, List·Memᴰ·tail, List·Memᴰ·not-nil, List·Memᴰ·cases-cons}
+use mathlib.Core.Option.{Option, none, some}
+use Prim.Native.Nat.{ℕ, zero, suc, _<_, _≤_}
+use native.Mathlib.Omega.{arith}
+use lib.ListN.{length}
+use lib.Dec.{eqb, ltb, leb}
+use borrow.Author.Tests.{eqb-true, eq-eqb, ne-eqb, ltb-true, lt-ltb, leb-true, le-leb}
+use Rattle.octets.specs.Lists.{all, every, keep, has, rest, rising, risingFrom}
+use Rattle.spot.specs.declared.Spot.{Spot}
+use Rattle.spot.specs.Spots.{keys, find, put}
+use Rattle.spot.specs.Keys.{rankKey, allKeys, within}
+use Rattle.block.specs.declared.Entry.{Entry}
+use Rattle.block.specs.Node.{Node, Store, openBelow}
+use Rattle.block.specs.declared.Asked.{Asked}
+use Rattle.block.specs.declared.Asked.the-variants.{Root, Child}
+use Rattle.block.specs.NodeRules.{names, nodeOk, buffersRise, namedOnce, lowsRise, pointsAbove, filled, lowest, lows, agrees, notBelow, leafBuffersEmpty, childCountOk, childBlocksOk, fewest}
+use Rattle.tree.specs.Part.{Part, nextLow, parts, children}
+use Rattle.tree.specs.Lookup.{orElse, down, lookup}
+use Rattle.tree.specs.Reach.{reach}
+use Rattle.tree.specs.Sound.{soundAt, inRange}
+use Rattle.tree.proofs.Laws.{all-at, all-cons, all-nil, and-left, and-right, and-both, every-mem, or-left, or-right}
+use Rattle.tree.proofs.Canon.{same-or-not, less-or-not, some≢none}
+use Rattle.tree.proofs.Sets.{every-make, every-left, every-right}
+use Rattle.tree.proofs.Frame.{Same, reaches-same, sounds-same, lookups-same}
+use Rattle.update.proofs.Change.{covers, reaches, Sound, Changed, changed-as}
+use Rattle.update.proofs.Spread.{Steps, steps-make, start, childAt, child-found, child-changed, child-steps, down-from, part-bounds, within-from, within-to, within-yes}
+use Rattle.tree.proofs.Buffers.{only, find-mem}
+use Rattle.update.proofs.Ready.{say, Ready, but, lower, fill-I, filled-I, fill-child, filled-child, fill-dead, filled-dead, top-taken, top-gone}
+use Rattle.update.proofs.Moves.{Held, Fit, says}
+use Rattle.update.proofs.Loose.{word, look, lookup-step, Opened, opened, part}
+use Rattle.update.proofs.Node.{beneath, Rules, rules-of, rules-back, steps-of, ready-of, ready-lowest, nothing-below}
+
+-- what is found below the entries es of a node with the range [lo, hi)
+abbrev pub under : ℕ → Store → ℕ → ℕ → List Entry → ℕ → Option ℕ
+under l m lo hi es k = down (lookup l m k) k (parts lo hi es)
+
+pub record Open (l : ℕ) (m : Store) (lo hi r : ℕ) (es : List Entry) (b : Held) (f : ℕ → Option ℕ) : Type 0 where
+  pub kids : Sound l m (parts lo hi es)
+  pub steps : Steps lo hi es
+  pub ready : Fit lo hi r b (under l m lo hi es)
+  pub found : (k : ℕ) → within lo hi k ≡ true → says b k (under l m lo hi es k) ≡ f k
+
+abbrev pub heldOf : Node → Held
+heldOf n = record { points = n .points; inserts = n .inserts; deletes = n .deletes }
+
+-- a node that is read: its P isn't empty, and q is the lowest of it
+pub open-node : (l : ℕ) (m : Store) (p : Part) → p .lo ≤ p .hi → Sound (suc l) m (p ∷ []) → (q : ℕ) → List·Memᴰ q (keys (m (p .block) .points))
+    → ((k : ℕ) → List·Memᴰ k (keys (m (p .block) .points)) → rankKey q ≤ rankKey k)
+    → Open l m (p .lo) (p .hi) (rankKey q) (m (p .block) .entries) (heldOf (m (p .block))) (λ k. lookup (suc l) m k p)
+open-node l m p h s q i least =
+    let o = opened l m p s in
+    let n = m (p .block) in
+    record {
+      kids = o .kids;
+      steps = steps-of l p n h (o .ok) (o .inside);
+      ready = ready-of l m p n (o .kids .each) (rules-of l p n (o .ok) (o .inside)) q i least;
+      found = λ k w. sym (lookup-step l m k p);
+    }
+
+-- or it is one of the lowest, with nothing below: 0 serves as the lowest rank
+pub open-lowest : (l : ℕ) (m : Store) (p : Part) → p .lo ≤ p .hi → Sound (suc l) m (p ∷ []) → lowest (m (p .block)) ≡ true
+    → Open l m (p .lo) (p .hi) 0 (m (p .block) .entries) (heldOf (m (p .block))) (λ k. lookup (suc l) m k p)
+open-lowest l m p h s e =
+    let o = opened l m p s in
+    let n = m (p .block) in
+    record {
+      kids = o .kids;
+      steps = steps-of l p n h (o .ok) (o .inside);
+      ready = ready-lowest l m p n (o .kids .each) (rules-of l p n (o .ok) (o .inside)) e;
+      found = λ k w. sym (lookup-step l m k p);
+    }
+
+-- only the buffers change
+pub open-held : (l : ℕ) (m : Store) (lo hi r r′ : ℕ) (es : List Entry) (b b′ : Held) (f g : ℕ → Option ℕ) → Open l m lo hi r es b f
+    → Fit lo hi r′ b′ (under l m lo hi es) → ((k : ℕ) → within lo hi k ≡ true → says b′ k (under l m lo hi es k) ≡ g k)
+    → Open l m lo hi r′ es b′ g
+open-held l m lo hi r r′ es b b′ f g o a e = record { kids = o .kids; steps = o .steps; ready = a; found = e }
+
+-- the store changes elsewhere
+pub ready-ext : (lo hi r : ℕ) (P I : List Spot) (D : List ℕ) (below below′ : ℕ → Option ℕ) → ((k : ℕ) → below′ k ≡ below k) → Ready lo hi r P I D below → Ready lo hi r P I D below′
+ready-ext lo hi r P I D below below′ e h =
+    record { upP = h .upP; upI = h .upI; upD = h .upD; inP = h .inP; inI = h .inI; inD = h .inD; off = h .off; above = h .above; underI = h .underI; underD = h .underD; deep = λ k a i. h .deep k a (sym (e k) ∙ i) }
+
+pub open-frame : (l : ℕ) (x y : Store) (lo hi r : ℕ) (es : List Entry) (b : Held) (f : ℕ → Option ℕ) → Same x y (reaches l x (parts lo hi es)) → Open l x lo hi r es b f → Open l y lo hi r es b f
+open-frame l x y lo hi r es b f a o =
+    let e = lookups-same x y l (parts lo hi es) a in
+    record {
+      kids = record { each = sounds-same x y l (parts lo hi es) a ∙ o .kids .each; once = rw (reaches-same x y l (parts lo hi es) a) (o .kids .once) };
+      steps = o .steps;
+      ready = ready-ext lo hi r (b .points) (b .inserts) (b .deletes) (under l x lo hi es) (under l y lo hi es) e (o .ready);
+      found = λ k w. ap (says b k) (e k) ∙ o .found k w;
+    }
+
+-- A child changes, into one or more, and the buffers with it. `after` is what is then found below.
+module _ (l : ℕ) (New : ℕ → Type 0) (x y : Store) (lo hi r : ℕ) (us vs : List Entry) (e e′ : Entry) (es : List Entry) (b : Held) (f g : ℕ → Option ℕ)
+    (low : e′ .low ≡ e .low) (o : Open l x lo hi r (us ++ (e ∷ vs)) b f)
+    (fresh : (z : ℕ) → New z → List·Memᴰ z (reaches l x (parts lo hi (us ++ (e ∷ vs)))) → ⊥)
+    (c : Changed l New x (childAt lo hi us vs e ∷ []) y (parts (childAt lo hi us vs e .lo) (childAt lo hi us vs e .hi) (e′ ∷ es)) g) where
+  abbrev pub after : ℕ → Option ℕ
+  after k = cond (within (childAt lo hi us vs e .lo) (childAt lo hi us vs e .hi) k) (g k) (under l x lo hi (us ++ (e ∷ vs)) k)
+
+  is-after : (k : ℕ) → under l y lo hi (us ++ ((e′ ∷ es) ++ vs)) k ≡ after k
+  is-after = child-found l New x y lo hi us vs e e′ es g low (o .steps) (o .kids) fresh c
+
+  -- all children then
+  pub open-changed : Changed l New x (parts lo hi (us ++ (e ∷ vs))) y (parts lo hi (us ++ ((e′ ∷ es) ++ vs))) after
+  open-changed = child-changed l New x y lo hi us vs e e′ es g low (o .steps) (o .kids) fresh c
+
+  pub open-child : Steps (childAt lo hi us vs e .lo) (childAt lo hi us vs e .hi) (e′ ∷ es) → (r′ : ℕ) (b′ : Held) (h : ℕ → Option ℕ) → Fit lo hi r′ b′ after
+      → ((k : ℕ) → within lo hi k ≡ true → says b′ k (after k) ≡ h k)
+      → Open l y lo hi r′ (us ++ ((e′ ∷ es) ++ vs)) b′ h
+  open-child st r′ b′ h a q =
+      record {
+        kids = open-changed .sound;
+        steps = child-steps l New x y lo hi us vs e e′ es g low (o .steps) st;
+        ready = ready-ext lo hi r′ (b′ .points) (b′ .inserts) (b′ .deletes) after (under l y lo hi (us ++ ((e′ ∷ es) ++ vs))) is-after a;
+        found = λ k w. ap (says b′ k) (is-after k) ∙ q k w;
+      }

@@ -1,0 +1,351 @@
+-- The buffers of a node in memory, over what is found below it: all the rules but the sizes. Each step of an update keeps them, and what is found.
+-- Assumes nothing.
+use mathlib.Core.Path.{_≡_, refl, ap, ap₂, sym, _∙_}
+use mathlib.Core.Logic.{_⊎_, inl, inr, ⊎-elim}
+use mathlib.Core.Bool.{Bool, true, false, not, cond, _&&_, _||_, true≢false, false≢true}
+use mathlib.Core.List.{List, [], _∷_, _++_, List·Memᴰ, List·Memᴰ·head, List·Memᴰ·tail, List·Memᴰ·not-nil, List·Memᴰ·cases-cons}
+use mathlib.Core.Option.{Option, none, some}
+use Prim.Native.Nat.{ℕ, suc, _<_, _≤_}
+use native.Mathlib.Omega.{arith}
+use lib.Dec.{eqb, ltb}
+use borrow.Author.Tests.{eq-eqb, ne-eqb, eqb-false, ltb-true, lt-ltb, le-ltb, not-true}
+use Rattle.octets.specs.Lists.{keep, has, rising}
+use Rattle.spot.specs.declared.Spot.{Spot}
+use Rattle.spot.specs.Spots.{keys, find, put}
+use Rattle.spot.specs.Keys.{rankKey, allKeys, within}
+use Rattle.tree.specs.Lookup.{orElse}
+use Rattle.tree.proofs.Canon.{same-or-not, less-or-not, some≢none, find-put}
+use Rattle.tree.proofs.Sets.{Apart, has-mem, mem-has, has-not, not-has-mem, in-or-not}
+use Rattle.update.proofs.Spread.{within-from, within-to}
+use Rattle.tree.proofs.Buffers.{rank-inj, only, find-only, keep-mem, has-keep, keep-rises, only-rises, only-mem, find-mem, find-none, mem-find, put-mem, put-up, putKey, has-putKey, putKey-mem, putKey-rises}
+
+-- the word of three buffers on k, and where they have none, d
+abbrev pub say : List Spot → List Spot → List ℕ → ℕ → Option ℕ → Option ℕ
+say P I D k d = orElse (find k P) (orElse (find k I) (cond (has k D) none d))
+
+-- Buffers of a node with the range [lo, hi), where `below` is found below it: P has rank r or more, all else is under r
+pub record Ready (lo hi r : ℕ) (P I : List Spot) (D : List ℕ) (below : ℕ → Option ℕ) : Type 0 where
+  pub upP : rising (keys P) ≡ true
+  pub upI : rising (keys I) ≡ true
+  pub upD : rising D ≡ true
+  pub inP : (k : ℕ) → List·Memᴰ k (keys P) → within lo hi k ≡ true
+  pub inI : (k : ℕ) → List·Memᴰ k (keys I) → within lo hi k ≡ true
+  pub inD : (k : ℕ) → List·Memᴰ k D → within lo hi k ≡ true
+  pub off : Apart (keys I) D
+  pub above : (k : ℕ) → List·Memᴰ k (keys P) → r ≤ rankKey k
+  pub underI : (k : ℕ) → List·Memᴰ k (keys I) → rankKey k < r
+  pub underD : (k : ℕ) → List·Memᴰ k D → rankKey k < r
+  pub deep : (k a : ℕ) → below k ≡ some a → rankKey k < r
+
+-- what is not of the rank that is live below is not found there
+pub too-high : (r : ℕ) (below : ℕ → Option ℕ) → ((k a : ℕ) → below k ≡ some a → rankKey k < r) → (k : ℕ) → r ≤ rankKey k → below k ≡ none
+too-high r below deep k h = go (below k) refl
+  where
+    go : (o : Option ℕ) → below k ≡ o → below k ≡ none
+    go none e = e
+    go (some a) e = let z = deep k a e in absurd (omega arith)
+
+-- all keys but t; the keys under t in rank order
+abbrev pub but : ℕ → ℕ → Bool
+but t k = not (eqb k t)
+
+abbrev pub lower : ℕ → ℕ → Bool
+lower t k = ltb (rankKey k) (rankKey t)
+
+pub but-not : (t k : ℕ) → but t k ≡ true → k ≡ t → ⊥
+but-not t k h = eqb-false k t (not-true (eqb k t) h)
+
+module _ (lo hi : ℕ) (full : hi ≤ allKeys) where
+  under-all : (k : ℕ) → within lo hi k ≡ true → k < allKeys
+  under-all k w = let z = within-to lo hi k w in omega arith
+
+  -- of two keys of the range one is above the other
+  pub strict : (a b : ℕ) → within lo hi a ≡ true → within lo hi b ≡ true → (a ≡ b → ⊥) → rankKey a ≤ rankKey b → rankKey a < rankKey b
+  strict a b u v n h = go (same-or-not (rankKey a) (rankKey b))
+    where
+      go : (rankKey a ≡ rankKey b) ⊎ (rankKey a ≡ rankKey b → ⊥) → rankKey a < rankKey b
+      go (inl e) = absurd (n (rank-inj a b (under-all a u) (under-all b v) e))
+      go (inr g) = omega arith
+
+  module _ (r : ℕ) (P I : List Spot) (D : List ℕ) (below : ℕ → Option ℕ) (h : Ready lo hi r P I D below) where
+    -- where a key of P, of I, of D isn't
+    pub P-not-I : (k : ℕ) → r ≤ rankKey k → find k I ≡ none
+    P-not-I k g = find-none k I (λ i. let z = h .underI k i in omega arith)
+
+    pub P-not-D : (k : ℕ) → r ≤ rankKey k → has k D ≡ false
+    P-not-D k g = has-not k D (λ i. let z = h .underD k i in omega arith)
+
+    pub not-P : (k : ℕ) → rankKey k < r → find k P ≡ none
+    not-P k g = find-none k P (λ i. let z = h .above k i in omega arith)
+
+    pub P-not-below : (k : ℕ) → r ≤ rankKey k → below k ≡ none
+    P-not-below k g = too-high r below (h .deep) k g
+
+    -- the lowest rank may be taken lower, if P and the others allow it
+    pub ready-at : (r′ : ℕ) → ((k : ℕ) → List·Memᴰ k (keys P) → r′ ≤ rankKey k) → ((k : ℕ) → List·Memᴰ k (keys I) → rankKey k < r′)
+        → ((k : ℕ) → List·Memᴰ k D → rankKey k < r′) → ((k a : ℕ) → below k ≡ some a → rankKey k < r′) → Ready lo hi r′ P I D below
+    ready-at r′ a b c d =
+        record { upP = h .upP; upI = h .upI; upD = h .upD; inP = h .inP; inI = h .inI; inD = h .inD; off = h .off; above = a; underI = b; underD = c; deep = d }
+
+    -- 5. FILL, one round. t is the highest of I and of what is live below; `below′` is what is found below afterwards: t is no longer there.
+    module _ (t : ℕ) (wt : within lo hi t ≡ true) (below′ : ℕ → Option ℕ) (gone : below′ t ≡ none)
+        (stays : (k : ℕ) → (k ≡ t → ⊥) → below′ k ≡ below k)
+        (best : (k a : ℕ) → below k ≡ some a → rankKey k ≤ rankKey t) (inn : (k a : ℕ) → below′ k ≡ some a → within lo hi k ≡ true) where
+      -- D's keys from t on may go
+      drop-D : (k : ℕ) → within lo hi k ≡ true → (k ≡ t → ⊥) → cond (has k (keep (lower t) D)) none (below′ k) ≡ cond (has k D) none (below k)
+      drop-D k w n = rw (has-keep (lower t) k D, stays k n) (⊎-elim (λ (g : rankKey k < rankKey t). rw (lt-ltb (rankKey k) (rankKey t) g)) (λ g. high g) (split (rankKey k) (rankKey t)))
+        where
+          split : (a b : ℕ) → (a < b) ⊎ (b ≤ a)
+          split a b = ⊎-elim inr inl (less-or-not b a)
+
+          cond-none : (b : Bool) → none ≡ cond {A = Option ℕ} b none none
+          cond-none true = refl
+          cond-none false = refl
+
+          high : rankKey t ≤ rankKey k → cond (cond (lower t k) (has k D) false) none (below k) ≡ cond (has k D) none (below k)
+          high g =
+              let z = strict t k wt w (λ e. n (sym e)) g in
+              let e : below k ≡ none = too-high (suc (rankKey t)) below (λ j a i. let u = best j a i in omega arith) k z in
+              rw (le-ltb (rankKey k) (rankKey t) g, e) (cond-none (has k D))
+
+      deep′ : (k a : ℕ) → below′ k ≡ some a → rankKey k < rankKey t
+      deep′ k a e = go (same-or-not k t)
+        where
+          go : (k ≡ t) ⊎ (k ≡ t → ⊥) → rankKey k < rankKey t
+          go (inl i) = absurd (some≢none (sym e ∙ ap below′ i ∙ gone))
+          go (inr n) = strict k t (inn k a e) wt n (best k a (sym (stays k n) ∙ e))
+
+      -- (from I; an older copy below may have been taken out)
+      pub fill-I : (s : Spot) → s .key ≡ t → find t I ≡ some (s .track) → ((k : ℕ) → List·Memᴰ k (keys I) → rankKey k ≤ rankKey t)
+          → Ready lo hi (rankKey t) (put s P) (only (but t) I) (keep (lower t) D) below′
+      fill-I s e f top =
+          let r>t : rankKey t < r = h .underI t (find-mem t I f) in
+          record {
+            upP = put-up s P (h .upP) (λ i. let z = h .above t (rw e at i) in omega arith);
+            upI = only-rises (but t) I (h .upI);
+            upD = keep-rises (lower t) 0 D (h .upD);
+            inP = λ k i. ⊎-elim (λ (g : k ≡ s .key). ap (within lo hi) (g ∙ e) ∙ wt) (λ j. h .inP k j) (put-mem s P i);
+            inI = λ k i. h .inI k (only-mem (but t) I i .0);
+            inD = λ k i. h .inD k (keep-mem (lower t) D i .0);
+            off = λ k i j. h .off k (only-mem (but t) I i .0) (keep-mem (lower t) D j .0);
+            above = λ k i. ⊎-elim (λ (g : k ≡ s .key). let z : k ≡ t = g ∙ e in rw z (omega arith)) (λ j. let z = h .above k j in omega arith) (put-mem s P i);
+            underI = λ k i. let m = only-mem (but t) I i in strict k t (h .inI k (m .0)) wt (but-not t k (m .1)) (top k (m .0));
+            underD = λ k i. ltb-true (rankKey k) (rankKey t) (keep-mem (lower t) D i .1);
+            deep = deep′;
+          }
+
+      pub filled-I : (s : Spot) → s .key ≡ t → find t I ≡ some (s .track) → (k : ℕ) → within lo hi k ≡ true
+          → say (put s P) (only (but t) I) (keep (lower t) D) k (below′ k) ≡ say P I D k (below k)
+      filled-I s e f k w = rw (find-put k s P, e, find-only (but t) k I) (go (same-or-not k t))
+        where
+          go : (k ≡ t) ⊎ (k ≡ t → ⊥)
+              → orElse (cond (eqb k t) (some (s .track)) (find k P)) (orElse (cond (but t k) (find k I) none) (cond (has k (keep (lower t) D)) none (below′ k))) ≡ say P I D k (below k)
+          go (inl i) = rw (i, eq-eqb t t refl, not-P t (h .underI t (find-mem t I f)), f)
+          go (inr n) = rw (ne-eqb k t n) (ap (λ (o : Option ℕ). orElse (find k P) (orElse (find k I) o)) (drop-D k w n))
+
+      -- (from a child, and D doesn't name it)
+      pub fill-child : (s : Spot) → s .key ≡ t → below t ≡ some (s .track) → ((k : ℕ) → List·Memᴰ k (keys I) → rankKey k < rankKey t)
+          → Ready lo hi (rankKey t) (put s P) I (keep (lower t) D) below′
+      fill-child s e f top =
+          let r>t : rankKey t < r = h .deep t (s .track) f in
+          record {
+            upP = put-up s P (h .upP) (λ i. let z = h .above t (rw e at i) in omega arith);
+            upI = h .upI;
+            upD = keep-rises (lower t) 0 D (h .upD);
+            inP = λ k i. ⊎-elim (λ (g : k ≡ s .key). ap (within lo hi) (g ∙ e) ∙ wt) (λ j. h .inP k j) (put-mem s P i);
+            inI = h .inI;
+            inD = λ k i. h .inD k (keep-mem (lower t) D i .0);
+            off = λ k i j. h .off k i (keep-mem (lower t) D j .0);
+            above = λ k i. ⊎-elim (λ (g : k ≡ s .key). let z : k ≡ t = g ∙ e in rw z (omega arith)) (λ j. let z = h .above k j in omega arith) (put-mem s P i);
+            underI = top;
+            underD = λ k i. ltb-true (rankKey k) (rankKey t) (keep-mem (lower t) D i .1);
+            deep = deep′;
+          }
+
+      pub filled-child : (s : Spot) → s .key ≡ t → below t ≡ some (s .track) → ((k : ℕ) → List·Memᴰ k (keys I) → rankKey k < rankKey t)
+          → has t D ≡ false → (k : ℕ) → within lo hi k ≡ true
+          → say (put s P) I (keep (lower t) D) k (below′ k) ≡ say P I D k (below k)
+      filled-child s e f top o k w = rw (find-put k s P, e) (go (same-or-not k t))
+        where
+          go : (k ≡ t) ⊎ (k ≡ t → ⊥)
+              → orElse (cond (eqb k t) (some (s .track)) (find k P)) (orElse (find k I) (cond (has k (keep (lower t) D)) none (below′ k))) ≡ say P I D k (below k)
+          go (inl i) = rw (i, eq-eqb t t refl, not-P t (h .deep t (s .track) f), find-none t I (λ j. let z = top t j in absurd (omega arith)), o, f)
+          go (inr n) = rw (ne-eqb k t n) (ap (λ (o : Option ℕ). orElse (find k P) (orElse (find k I) o)) (drop-D k w n))
+
+      -- (from a child, and D names it: neither is left)
+      pub fill-dead : rankKey t < r → ((k : ℕ) → List·Memᴰ k (keys I) → rankKey k < rankKey t) → Ready lo hi (rankKey t) P I (keep (lower t) D) below′
+      fill-dead r>t top =
+          record {
+            upP = h .upP;
+            upI = h .upI;
+            upD = keep-rises (lower t) 0 D (h .upD);
+            inP = h .inP;
+            inI = h .inI;
+            inD = λ k i. h .inD k (keep-mem (lower t) D i .0);
+            off = λ k i j. h .off k i (keep-mem (lower t) D j .0);
+            above = λ k i. let z = h .above k i in omega arith;
+            underI = top;
+            underD = λ k i. ltb-true (rankKey k) (rankKey t) (keep-mem (lower t) D i .1);
+            deep = deep′;
+          }
+
+      pub filled-dead : has t D ≡ true → ((k : ℕ) → List·Memᴰ k (keys I) → rankKey k < rankKey t) → (k : ℕ) → within lo hi k ≡ true
+          → say P I (keep (lower t) D) k (below′ k) ≡ say P I D k (below k)
+      filled-dead o top k w = go (same-or-not k t)
+        where
+          go : (k ≡ t) ⊎ (k ≡ t → ⊥) → say P I (keep (lower t) D) k (below′ k) ≡ say P I D k (below k)
+          go (inl i) = rw (i, has-keep (lower t) t D, o, le-ltb (rankKey t) (rankKey t) (omega arith), gone)
+          go (inr n) = ap (λ (o : Option ℕ). orElse (find k P) (orElse (find k I) o)) (drop-D k w n)
+
+    -- nothing in I and nothing live below: D may go
+    pub fill-ends : ((k : ℕ) → below k ≡ none) → Ready lo hi r P I [] below
+    fill-ends e =
+        record { upP = h .upP; upI = h .upI; upD = refl; inP = h .inP; inI = h .inI; inD = λ k i. absurd (List·Memᴰ·not-nil i); off = λ k i j. List·Memᴰ·not-nil j; above = h .above; underI = h .underI; underD = λ k i. absurd (List·Memᴰ·not-nil i); deep = h .deep }
+
+    pub filled-ends : ((k : ℕ) → below k ≡ none) → (k : ℕ) → say P I [] k (below k) ≡ say P I D k (below k)
+    filled-ends e k = rw (e k) (ap (λ (o : Option ℕ). orElse (find k P) (orElse (find k I) o)) (cond-none (has k D)))
+      where
+        cond-none : (b : Bool) → none ≡ cond {A = Option ℕ} b none none
+        cond-none true = refl
+        cond-none false = refl
+
+    -- a key taken out of all three
+    pub taken : (t : ℕ) → Ready lo hi r (only (but t) P) (only (but t) I) (keep (but t) D) below
+    taken t =
+        record {
+          upP = only-rises (but t) P (h .upP);
+          upI = only-rises (but t) I (h .upI);
+          upD = keep-rises (but t) 0 D (h .upD);
+          inP = λ k i. h .inP k (only-mem (but t) P i .0);
+          inI = λ k i. h .inI k (only-mem (but t) I i .0);
+          inD = λ k i. h .inD k (keep-mem (but t) D i .0);
+          off = λ k i j. h .off k (only-mem (but t) I i .0) (keep-mem (but t) D j .0);
+          above = λ k i. h .above k (only-mem (but t) P i .0);
+          underI = λ k i. h .underI k (only-mem (but t) I i .0);
+          underD = λ k i. h .underD k (keep-mem (but t) D i .0);
+          deep = h .deep;
+        }
+
+    say-taken : (t k : ℕ) (d : Option ℕ) → say (only (but t) P) (only (but t) I) (keep (but t) D) k d ≡ cond (eqb k t) d (say P I D k d)
+    say-taken t k d = rw (find-only (but t) k P, find-only (but t) k I, has-keep (but t) k D) (go (eqb k t))
+      where
+        go : (b : Bool)
+            → orElse (cond (not b) (find k P) none) (orElse (cond (not b) (find k I) none) (cond (cond (not b) (has k D) false) none d)) ≡ cond b d (say P I D k d)
+        go true = refl
+        go false = refl
+
+    -- 6. SETTLE, one change. A delete of rank r or more is done once the key is taken out.
+    pub deleted-high : (t : ℕ) → r ≤ rankKey t → (k : ℕ)
+        → say (only (but t) P) (only (but t) I) (keep (but t) D) k (below k) ≡ cond (eqb k t) none (say P I D k (below k))
+    deleted-high t g k = say-taken t k (below k) ∙ go (same-or-not k t)
+      where
+        go : (k ≡ t) ⊎ (k ≡ t → ⊥) → cond (eqb k t) (below k) (say P I D k (below k)) ≡ cond (eqb k t) none (say P I D k (below k))
+        go (inl i) = rw (i, eq-eqb t t refl) (P-not-below t g)
+        go (inr n) = rw (ne-eqb k t n)
+
+    -- take_top of a node: the same, where t is a key of P
+    pub top-taken : (t : ℕ) → List·Memᴰ t (keys P) → Ready lo hi r (only (but t) P) I D below
+    top-taken t j =
+        record {
+          upP = only-rises (but t) P (h .upP);
+          upI = h .upI;
+          upD = h .upD;
+          inP = λ k i. h .inP k (only-mem (but t) P i .0);
+          inI = h .inI;
+          inD = h .inD;
+          off = h .off;
+          above = λ k i. h .above k (only-mem (but t) P i .0);
+          underI = h .underI;
+          underD = h .underD;
+          deep = h .deep;
+        }
+
+    pub top-gone : (t : ℕ) → List·Memᴰ t (keys P) → (k : ℕ) → say (only (but t) P) I D k (below k) ≡ cond (eqb k t) none (say P I D k (below k))
+    top-gone t j k = rw (find-only (but t) k P) (go (same-or-not k t))
+      where
+        go : (k ≡ t) ⊎ (k ≡ t → ⊥) → orElse (cond (but t k) (find k P) none) (orElse (find k I) (cond (has k D) none (below k))) ≡ cond (eqb k t) none (say P I D k (below k))
+        go (inl i) = let g = h .above t j in rw (i, eq-eqb t t refl, P-not-I t g, P-not-D t g) (P-not-below t g)
+        go (inr n) = rw (ne-eqb k t n)
+
+    -- a delete under r goes to D
+    pub delete-low : (t : ℕ) → within lo hi t ≡ true → rankKey t < r → Ready lo hi r (only (but t) P) (only (but t) I) (putKey t (keep (but t) D)) below
+    delete-low t w g =
+        record {
+          upP = only-rises (but t) P (h .upP);
+          upI = only-rises (but t) I (h .upI);
+          upD = putKey-rises 0 t (keep (but t) D) (omega arith) (keep-rises (but t) 0 D (h .upD)) (λ i. but-not t t (keep-mem (but t) D i .1) refl);
+          inP = λ k i. h .inP k (only-mem (but t) P i .0);
+          inI = λ k i. h .inI k (only-mem (but t) I i .0);
+          inD = λ k i. ⊎-elim (λ (e : k ≡ t). rw e w) (λ j. h .inD k (keep-mem (but t) D j .0)) (putKey-mem t (keep (but t) D) i);
+          off = λ k i j. let m = only-mem (but t) I i in ⊎-elim (λ e. but-not t k (m .1) e) (λ u. h .off k (m .0) (keep-mem (but t) D u .0)) (putKey-mem t (keep (but t) D) j);
+          above = λ k i. h .above k (only-mem (but t) P i .0);
+          underI = λ k i. h .underI k (only-mem (but t) I i .0);
+          underD = λ k i. ⊎-elim (λ (e : k ≡ t). rw e g) (λ j. h .underD k (keep-mem (but t) D j .0)) (putKey-mem t (keep (but t) D) i);
+          deep = h .deep;
+        }
+
+    pub deleted-low : (t k : ℕ) → say (only (but t) P) (only (but t) I) (putKey t (keep (but t) D)) k (below k) ≡ cond (eqb k t) none (say P I D k (below k))
+    deleted-low t k = rw (find-only (but t) k P, find-only (but t) k I, has-putKey k t (keep (but t) D), has-keep (but t) k D) (go (eqb k t))
+      where
+        go : (b : Bool)
+            → orElse (cond (not b) (find k P) none) (orElse (cond (not b) (find k I) none) (cond (b || cond (not b) (has k D) false) none (below k))) ≡ cond b none (say P I D k (below k))
+        go true = refl
+        go false = refl
+
+    -- an insert of rank r or more goes to P
+    pub insert-high : (s : Spot) → within lo hi (s .key) ≡ true → r ≤ rankKey (s .key)
+        → Ready lo hi r (put s (only (but (s .key)) P)) (only (but (s .key)) I) (keep (but (s .key)) D) below
+    insert-high s w g =
+        let t = s .key in
+        let b = taken t in
+        record {
+          upP = put-up s (only (but t) P) (b .upP) (λ i. but-not t t (only-mem (but t) P i .1) refl);
+          upI = b .upI;
+          upD = b .upD;
+          inP = λ k i. ⊎-elim (λ (e : k ≡ t). ap (within lo hi) e ∙ w) (λ j. b .inP k j) (put-mem s (only (but t) P) i);
+          inI = b .inI;
+          inD = b .inD;
+          off = b .off;
+          above = λ k i. ⊎-elim (λ (e : k ≡ t). let z : rankKey k ≡ rankKey t = ap rankKey e in omega arith) (λ j. b .above k j) (put-mem s (only (but t) P) i);
+          underI = b .underI;
+          underD = b .underD;
+          deep = b .deep;
+        }
+
+    pub inserted-high : (s : Spot) (k : ℕ)
+        → say (put s (only (but (s .key)) P)) (only (but (s .key)) I) (keep (but (s .key)) D) k (below k) ≡ cond (eqb k (s .key)) (some (s .track)) (say P I D k (below k))
+    inserted-high s k = rw (find-put k s (only (but (s .key)) P), find-only (but (s .key)) k P, find-only (but (s .key)) k I, has-keep (but (s .key)) k D) (go (eqb k (s .key)))
+      where
+        go : (b : Bool)
+            → orElse (cond b (some (s .track)) (cond (not b) (find k P) none)) (orElse (cond (not b) (find k I) none) (cond (cond (not b) (has k D) false) none (below k))) ≡ cond b (some (s .track)) (say P I D k (below k))
+        go true = refl
+        go false = refl
+
+    -- an insert under r goes to I
+    pub insert-low : (s : Spot) → within lo hi (s .key) ≡ true → rankKey (s .key) < r
+        → Ready lo hi r (only (but (s .key)) P) (put s (only (but (s .key)) I)) (keep (but (s .key)) D) below
+    insert-low s w g =
+        let t = s .key in
+        let b = taken t in
+        record {
+          upP = b .upP;
+          upI = put-up s (only (but t) I) (b .upI) (λ i. but-not t t (only-mem (but t) I i .1) refl);
+          upD = b .upD;
+          inP = b .inP;
+          inI = λ k i. ⊎-elim (λ (e : k ≡ t). ap (within lo hi) e ∙ w) (λ j. b .inI k j) (put-mem s (only (but t) I) i);
+          inD = b .inD;
+          off = λ k i j. ⊎-elim (λ (e : k ≡ t). but-not t k (keep-mem (but t) D j .1) e) (λ u. b .off k u j) (put-mem s (only (but t) I) i);
+          above = b .above;
+          underI = λ k i. ⊎-elim (λ (e : k ≡ t). let z : rankKey k ≡ rankKey t = ap rankKey e in omega arith) (λ j. b .underI k j) (put-mem s (only (but t) I) i);
+          underD = b .underD;
+          deep = b .deep;
+        }
+
+    pub inserted-low : (s : Spot) (k : ℕ)
+        → say (only (but (s .key)) P) (put s (only (but (s .key)) I)) (keep (but (s .key)) D) k (below k) ≡ cond (eqb k (s .key)) (some (s .track)) (say P I D k (below k))
+    inserted-low s k = rw (find-put k s (only (but (s .key)) I), find-only (but (s .key)) k P, find-only (but (s .key)) k I, has-keep (but (s .key)) k D) (go (eqb k (s .key)))
+      where
+        go : (b : Bool)
+            → orElse (cond (not b) (find k P) none) (orElse (cond b (some (s .track)) (cond (not b) (find k I) none)) (cond (cond (not b) (has k D) false) none (below k))) ≡ cond b (some (s .track)) (say P I D k (below k))
+        go true = refl
+        go false = refl

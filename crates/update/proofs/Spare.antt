@@ -1,0 +1,102 @@
+-- Spare blocks: what an update may take, what it took, and one child of many.
+-- Assumes nothing.
+use mathlib.Core.Path.{_≡_, refl, ap, ap₂, sym, _∙_, subst, subst⁻¹}
+use mathlib.Core.Logic.{_⊎_, inl, inr, ⊎-elim}
+use mathlib.Core.Bool.{Bool, true, false, cond, _&&_, true≢false}
+use mathlib.Core.List.{List, [], _∷_, _++_, List·Memᴰ, List·Memᴰ·head, List·Memᴰ·tail, List·Memᴰ·not-nil, List·Memᴰ·cases-cons, Memᴰ·append-left, Memᴰ·append-right, append-nil}
+use mathlib.Core.Option.{Option, none, some}
+use Prim.Native.Nat.{ℕ, zero, suc, _<_, _≤_}
+use native.Mathlib.Omega.{arith}
+use lib.Dec.{eqb, leb}
+use borrow.Author.Tests.{leb-true, le-leb}
+use Rattle.octets.specs.Lists.{every, distinct, rest, rising, risingFrom}
+use Rattle.spot.specs.declared.Spot.{Spot}
+use Rattle.spot.specs.Spots.{keys}
+use Rattle.spot.specs.Keys.{rankKey, allKeys, within}
+use Rattle.block.specs.declared.Entry.{Entry}
+use Rattle.block.specs.Node.{Node, Store}
+use Rattle.block.specs.declared.Asked.the-variants.{Child}
+use Rattle.block.specs.NodeRules.{lows, agrees}
+use Rattle.tree.specs.Part.{Part, nextLow, parts}
+use Rattle.tree.specs.Lookup.{down, lookup}
+use Rattle.tree.specs.Reach.{gather, reach}
+use Rattle.tree.specs.Sound.{soundAt}
+use Rattle.tree.proofs.Laws.{and-left, and-right, and-both, every-mem}
+use Rattle.tree.proofs.Canon.{some≢none}
+use Rattle.tree.proofs.Sets.{Apart, in-or-not, distinct-split, every-left, every-right, every-join}
+use Rattle.tree.proofs.Frame.{gather-append}
+use Rattle.update.proofs.Change.{covers, reaches, Sound, Changed, changed-trans}
+use Rattle.update.proofs.Spread.{Steps, within-yes, within-from, within-to}
+
+-- spare blocks s became s′: those taken
+abbrev pub Taken : List ℕ → List ℕ → ℕ → Type 0
+Taken s s′ z = List·Memᴰ z s × (List·Memᴰ z s′ → ⊥)
+
+abbrev pub Within : List ℕ → List ℕ → Type 0
+Within s′ s = (z : ℕ) → List·Memᴰ z s′ → List·Memᴰ z s
+
+-- what was taken was not reached
+pub taken-fresh : (s s′ bs : List ℕ) → Apart s bs → (z : ℕ) → Taken s s′ z → List·Memᴰ z bs → ⊥
+taken-fresh s s′ bs a z t i = a z (t .0) i
+
+-- what is left isn't reached afterwards
+pub spare-left : (l : ℕ) (s s′ : List ℕ) (x : Store) (ps : List Part) (y : Store) (qs : List Part) (f : ℕ → Option ℕ) → Within s′ s → Apart s (reaches l x ps)
+    → Changed l (Taken s s′) x ps y qs f → Apart s′ (reaches l y qs)
+spare-left l s s′ x ps y qs f w a c z i j = ⊎-elim (λ u. a z (w z i) u) (λ t. t .1 i) (c .reached z j)
+
+-- one update after another, each with what the one before left
+pub spare-trans : (l : ℕ) (s s′ s″ : List ℕ) (x : Store) (ps : List Part) (y : Store) (qs : List Part) (w : Store) (rs : List Part) (f g : ℕ → Option ℕ) → Within s′ s → Within s″ s′
+    → Changed l (Taken s s′) x ps y qs f → Changed l (Taken s′ s″) y qs w rs g → Changed l (Taken s s″) x ps w rs g
+spare-trans l s s′ s″ x ps y qs w rs f g a b c d =
+    changed-trans l (Taken s s′) (Taken s′ s″) (Taken s s″) x ps y qs w rs f g (λ z t. (t .0, λ i. t .1 (b z i))) (λ z t. (a z (t .0), t .1)) exact c d
+  where
+    exact : (z : ℕ) → Taken s s″ z → Taken s s′ z ⊎ Taken s′ s″ z
+    exact z t = ⊎-elim (λ i. inr (i, t .1)) (λ n. inl (t .0, n)) (in-or-not z s′)
+
+-- one of the parts of a sound list is sound, and what is spare of all is spare of it
+pub sound-one : (l : ℕ) (m : Store) (us : List Part) (c : Part) (vs : List Part) → Sound l m (us ++ ((c ∷ []) ++ vs)) → Sound l m (c ∷ [])
+sound-one l m us c vs s =
+    let e = every-right (soundAt l m) us ((c ∷ []) ++ vs) (s .each) in
+    let d = distinct-split (reaches l m us) (reaches l m ((c ∷ []) ++ vs)) (rw (gather-append (reach l m) us ((c ∷ []) ++ vs)) at (s .once)) in
+    record {
+      each = every-left (soundAt l m) (c ∷ []) vs e;
+      once = distinct-split (reaches l m (c ∷ [])) (reaches l m vs) (rw (gather-append (reach l m) (c ∷ []) vs) at (d .right)) .left;
+    }
+
+pub apart-one : (l : ℕ) (m : Store) (s : List ℕ) (us : List Part) (c : Part) (vs : List Part) → Apart s (reaches l m (us ++ ((c ∷ []) ++ vs))) → Apart s (reaches l m (c ∷ []))
+apart-one l m s us c vs a z i j =
+    a z i (rw (gather-append (reach l m) us ((c ∷ []) ++ vs), gather-append (reach l m) (c ∷ []) vs) (Memᴰ·append-right (reaches l m us) (Memᴰ·append-left (reaches l m vs) j)))
+
+-- the lows of a node's entries, where one entry became two
+lows-append : (us vs : List Entry) → lows (us ++ vs) ≡ lows us ++ lows vs
+lows-append [] vs = refl
+lows-append (u ∷ us) vs = ap (λ (r : List ℕ). u .low ∷ r) (lows-append us vs)
+
+rises-two : (a : ℕ) (xs : List ℕ) (y s : ℕ) (zs : List ℕ) → y < s → risingFrom (suc s) zs ≡ true → risingFrom a (xs ++ (y ∷ zs)) ≡ true → risingFrom a (xs ++ (y ∷ s ∷ zs)) ≡ true
+rises-two a [] y s zs h g r =
+    and-both (leb a y) _ (and-left (leb a y) (risingFrom (suc y) zs) r) (and-both (leb (suc y) s) (risingFrom (suc s) zs) (le-leb (suc y) s h) g)
+rises-two a (x ∷ xs) y s zs h g r =
+    and-both (leb a x) _ (and-left (leb a x) (risingFrom (suc x) (xs ++ (y ∷ zs))) r) (rises-two (suc x) xs y s zs h g (and-right (leb a x) (risingFrom (suc x) (xs ++ (y ∷ zs))) r))
+
+-- the numbers after one rise still rise from a smaller start
+rises-from : (a b hi : ℕ) (vs : List Entry) → b < nextLow vs hi → risingFrom a (lows vs) ≡ true → risingFrom (suc b) (lows vs) ≡ true
+rises-from a b hi [] h r = refl
+rises-from a b hi (v ∷ vs) h r = and-both (leb (suc b) (v .low)) _ (le-leb (suc b) (v .low) h) (and-right (leb a (v .low)) (risingFrom (suc (v .low)) (lows vs)) r)
+
+rises-after : (a : ℕ) (xs : List ℕ) (y : ℕ) (zs : List ℕ) → risingFrom a (xs ++ (y ∷ zs)) ≡ true → risingFrom (suc y) zs ≡ true
+rises-after a [] y zs r = and-right (leb a y) (risingFrom (suc y) zs) r
+rises-after a (x ∷ xs) y zs r = rises-after (suc x) xs y zs (and-right (leb a x) (risingFrom (suc x) (xs ++ (y ∷ zs))) r)
+
+-- first child: only the next low bounds the new one; any other: the entry's own low too
+pub lows-first : (hi : ℕ) (e e₁ e₂ : Entry) (vs : List Entry) → e₂ .low < nextLow vs hi → rising (rest (lows (e ∷ vs))) ≡ true → rising (rest (lows ((e₁ ∷ e₂ ∷ []) ++ vs))) ≡ true
+lows-first hi e e₁ e₂ vs h r = and-both (leb 0 (e₂ .low)) _ (le-leb 0 (e₂ .low) (omega arith)) (rises-from 0 (e₂ .low) hi vs h r)
+
+pub lows-two : (hi : ℕ) (u : Entry) (us : List Entry) (e e₁ e₂ : Entry) (vs : List Entry) → e₁ .low ≡ e .low → e .low < e₂ .low → e₂ .low < nextLow vs hi
+    → rising (rest (lows ((u ∷ us) ++ (e ∷ vs)))) ≡ true → rising (rest (lows ((u ∷ us) ++ ((e₁ ∷ e₂ ∷ []) ++ vs)))) ≡ true
+lows-two hi u us e e₁ e₂ vs same h g r =
+    let r′ : risingFrom 0 (lows us ++ (e .low ∷ lows vs)) ≡ true = subst (λ (xs : List ℕ). risingFrom 0 xs ≡ true) (lows-append us (e ∷ vs)) r in
+    subst⁻¹ (λ (xs : List ℕ). risingFrom 0 xs ≡ true) (lows-append us ((e₁ ∷ e₂ ∷ []) ++ vs) ∙ ap (λ (y : ℕ). lows us ++ (y ∷ e₂ .low ∷ lows vs)) same)
+    (rises-two 0 (lows us) (e .low) (e₂ .low) (lows vs) h (rises-from (suc (e .low)) (e₂ .low) hi vs g (rises-after 0 (lows us) (e .low) (lows vs) r′)) r′)
+
+pub lows-same : (us : List Entry) (e e₁ : Entry) (vs : List Entry) → e₁ .low ≡ e .low → lows (us ++ ((e₁ ∷ []) ++ vs)) ≡ lows (us ++ (e ∷ vs))
+lows-same us e e₁ vs h = lows-append us (e₁ ∷ vs) ∙ ap (λ (y : ℕ). lows us ++ (y ∷ lows vs)) h ∙ sym (lows-append us (e ∷ vs))
