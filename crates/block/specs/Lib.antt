@@ -4,3 +4,6 @@ pub mod Node
 pub mod NodeRules
 pub mod HeaderRules
 pub mod Fresh
+pub mod Access
+pub mod Checks
+pub mod Answers

@@ -1,4 +1,22 @@
 // The one place that knows the layout of a card's blocks.
+ghost use mathlib.Core.Path.{_≡_};
+ghost use mathlib.Core.Bool.{true, cond, not, _&&_};
+ghost use Prim.Native.Nat.{_+_, _-_, _*_, _≤_, _<_, min, max};
+ghost use lib.Dec.{eqb};
+ghost use lib.ListN.{length, getD, drop};
+ghost use Rattle.octets.specs.Lists.{every, risingFrom, rising, records, all, upTo};
+ghost use Rattle.octets.specs.Bytes.{be};
+ghost use Rattle.octets.specs.Bitmap.{bit};
+ghost use Rattle.spot.specs.Spots.{keyAt, spotAt};
+ghost use Rattle.block.specs.Table.{version1, tableSized, capacity};
+ghost use Rattle.block.specs.Header.{headOf, headerOf};
+ghost use Rattle.block.specs.Node.{nodeOf, storeOf, pointsFrom, insertsFrom, deletesFrom};
+ghost use Rattle.block.specs.NodeRules.{nodeOk, fewest};
+ghost use Rattle.block.specs.HeaderRules.{headerOk};
+ghost use Rattle.block.specs.Fresh.{formatted};
+ghost use Rattle.block.specs.Answers.{answer};
+ghost use Rattle.block.specs.Access.{frontOf, Small, usedOf, EntryIs};
+ghost use Rattle.block.specs.Checks.{keysAt, isZero, risesUnder, PointsAre, Past, apart, entryFine, firstFine, countFine, sizesFine, leafFine, frontFine, floorOf, keyed, agreesFine, bodyFine, mapFine, numbersFine, freshMarks};
 
 // What a call answers: one of the paper's numbers, and its detail.
 pub struct Answer {
@@ -19,4 +37,555 @@ pub struct Entry {
 pub enum Asked {
     Root,
     Child(Entry),
+}
+
+// The numbers at the front of a node: p, i and d are the sizes of its points, inserts and deletes, c that of its entries.
+pub struct Front {
+    pub used: usize,
+    pub version: usize,
+    pub level: usize,
+    pub p: usize,
+    pub i: usize,
+    pub d: usize,
+    pub c: usize,
+}
+
+// What a pass over the points finds: whether they rise, and the lowest and the highest rank key.
+pub struct Points {
+    pub ok: bool,
+    pub low: u64,
+    pub high: u64,
+}
+
+// ---- sizes
+
+// A table is 9 to 4,096 whole blocks.
+pub fn sized(bytes: usize) -> bool
+    ensures { λ r. ⌜ r ≡ tableSized bytes ⌝ }
+{
+    (bytes % 2048 == 0) & (9 <= bytes / 2048) & (bytes / 2048 <= 4096)
+}
+
+// The spots that a table of this many bytes has room for.
+pub fn capacity_of(bytes: usize) -> usize
+    ensures { λ r. ⌜ r ≡ capacity bytes ⌝ }
+{
+    let blocks = bytes / 2048;
+    if blocks == 0 {
+        return 0;
+    }
+    16 * (blocks - 1)
+}
+
+// ---- reading block 0, of a table
+
+// The table's length, as block 0 has it.
+pub fn bytes_of(t: &[u8]) -> u64
+    requires { ⌜ 2048 ≤ length (now t) ⌝ }
+    ensures { λ r. ⌜ (r ≡ headOf (now (t .entry)) .bytes) × (r < 4294967296) ⌝ }
+{
+    octets::read32(t, 0)
+}
+
+// The number of levels.
+pub fn levels_of(t: &[u8]) -> usize
+    requires { ⌜ 2048 ≤ length (now t) ⌝ }
+    ensures { λ r. ⌜ (r ≡ headOf (now (t .entry)) .levels) × (r < 256) ⌝ }
+{
+    octets::count_at(t, 5)
+}
+
+// The root's block.
+pub fn root_of(t: &[u8]) -> usize
+    requires { ⌜ 2048 ≤ length (now t) ⌝ }
+    ensures { λ r. ⌜ (r ≡ headOf (now (t .entry)) .root) × (r < 65536) ⌝ }
+{
+    octets::read16(t, 6)
+}
+
+// The figure that is never below the live count.
+pub fn bound_of(t: &[u8]) -> u64
+    requires { ⌜ 2048 ≤ length (now t) ⌝ }
+    ensures { λ r. ⌜ (r ≡ headOf (now (t .entry)) .bound) × (r < 4294967296) ⌝ }
+{
+    octets::read32(t, 8)
+}
+
+// Block b is marked as in use.
+pub fn in_use(t: &[u8], b: usize) -> bool
+    requires { ⌜ (2048 ≤ length (now t)) × (b < 4096) ⌝ }
+    ensures { λ r. ⌜ r ≡ bit (headOf (now (t .entry)) .inUse) b ⌝ }
+{
+    octets::test_bit(&t[12..524], b)
+}
+
+// ---- reading a node, in the bytes of its block
+
+// The numbers at the front of a node.
+pub fn front_of(s: &[u8]) -> Front
+    requires { ⌜ length (now s) ≡ 2048 ⌝ }
+    ensures { λ r. ⌜ (r ≡ frontOf (now (s .entry))) × Small r ⌝ }
+{
+    Front {
+        used: octets::read16(s, 0),
+        version: octets::count_at(s, 2),
+        level: octets::count_at(s, 3),
+        p: octets::count_at(s, 4),
+        i: octets::count_at(s, 5),
+        d: octets::count_at(s, 6),
+        c: octets::count_at(s, 7),
+    }
+}
+
+// Where the points, the inserts and the deletes of a node begin.
+pub fn points_from(h: Front) -> usize
+    requires { ⌜ usedOf h ≤ 2048 ⌝ }
+    ensures { λ r. ⌜ r ≡ pointsFrom version1 (h .c) ⌝ }
+{
+    8 + 28 * h.c
+}
+
+pub fn inserts_from(h: Front) -> usize
+    requires { ⌜ usedOf h ≤ 2048 ⌝ }
+    ensures { λ r. ⌜ r ≡ insertsFrom version1 (h .c) (h .p) ⌝ }
+{
+    8 + 28 * h.c + 12 * h.p
+}
+
+pub fn deletes_from(h: Front) -> usize
+    requires { ⌜ usedOf h ≤ 2048 ⌝ }
+    ensures { λ r. ⌜ r ≡ deletesFrom version1 (h .c) (h .p) (h .i) ⌝ }
+{
+    8 + 28 * h.c + 12 * (h.p + h.i)
+}
+
+// The point, the insert and the delete with index j.
+pub fn point_at(s: &[u8], h: Front, j: usize) -> spot::Spot
+    requires { ⌜ (usedOf h ≤ length (now s)) × (length (now s) ≤ 2048) × (j < h .p) ⌝ }
+    ensures { λ r. ⌜ r ≡ spotAt (now (s .entry)) (pointsFrom version1 (h .c) + 12 * j) ⌝ }
+{
+    spot::read_spot(s, points_from(h) + 12 * j)
+}
+
+pub fn insert_at(s: &[u8], h: Front, j: usize) -> spot::Spot
+    requires { ⌜ (usedOf h ≤ length (now s)) × (length (now s) ≤ 2048) × (j < h .i) ⌝ }
+    ensures { λ r. ⌜ r ≡ spotAt (now (s .entry)) (insertsFrom version1 (h .c) (h .p) + 12 * j) ⌝ }
+{
+    spot::read_spot(s, inserts_from(h) + 12 * j)
+}
+
+pub fn delete_at(s: &[u8], h: Front, j: usize) -> u64
+    requires { ⌜ (usedOf h ≤ length (now s)) × (length (now s) ≤ 2048) × (j < h .d) ⌝ }
+    ensures { λ r. ⌜ r ≡ keyAt (now (s .entry)) (deletesFrom version1 (h .c) (h .p) (h .i) + 8 * j) ⌝ }
+{
+    spot::read_key(s, deletes_from(h) + 8 * j)
+}
+
+// The key at a place that is in use, else 0.
+fn key_unless(s: &[u8], at: usize, unused: bool) -> u64
+    requires { ⌜ at + 8 ≤ length (now s) ⌝ }
+    ensures { λ r. ⌜ r ≡ cond unused 0 (keyAt (now (s .entry)) at) ⌝ }
+{
+    if unused {
+        return 0;
+    }
+    spot::read_key(s, at)
+}
+
+// The entry with index i.
+pub fn entry_at(s: &[u8], i: usize) -> Entry
+    requires { ⌜ 36 + 28 * i ≤ length (now s) ⌝ }
+    ensures { λ r. ⌜ EntryIs (now (s .entry)) i r ⌝ }
+{
+    let at = 8 + 28 * i;
+    let block = octets::read16(s, at);
+    let size = octets::count_at(s, at + 2);
+    let low = key_unless(s, at + 4, i == 0);
+    let top = key_unless(s, at + 12, size == 0);
+    let bottom = key_unless(s, at + 20, size == 0);
+    Entry {
+        block,
+        size,
+        low,
+        top,
+        bottom,
+    }
+}
+
+// ---- validating a node
+
+// All bytes from at on are zero.
+fn zeros(s: &[u8], at: usize) -> bool
+    requires { ⌜ at ≤ length (now s) ⌝ }
+    ensures { λ r. ⌜ r ≡ every isZero (drop at (now (s .entry))) ⌝ }
+{
+    let mut ok = true;
+    let mut i = at;
+    while i < s.len() {
+        ok = ok & (s[i] == 0);
+        i += 1;
+    }
+    ok
+}
+
+// The keys of the n records of w bytes from at on rise, and the first is at least floor.
+fn rises(s: &[u8], at: usize, w: usize, n: usize, floor: u64) -> bool
+    requires { ⌜ (8 ≤ w) × (at + w * n ≤ length (now s)) ⌝ }
+    ensures { λ r. ⌜ r ≡ risingFrom floor (keysAt (now (s .entry)) w n at) ⌝ }
+{
+    if n == 0 {
+        return true;
+    }
+    let mut prev = spot::read_key(s, at);
+    let mut ok = floor <= prev;
+    let mut i = 1;
+    while i < n {
+        let k = spot::read_key(s, at + w * i);
+        ok = ok & (prev < k);
+        prev = k;
+        i += 1;
+    }
+    ok
+}
+
+// The same, and all are below low in rank order.
+fn rises_under(s: &[u8], at: usize, w: usize, n: usize, floor: u64, low: u64) -> bool
+    requires { ⌜ (8 ≤ w) × (at + w * n ≤ length (now s)) ⌝ }
+    ensures { λ r. ⌜ r ≡ risesUnder floor low (keysAt (now (s .entry)) w n at) ⌝ }
+{
+    if n == 0 {
+        return true;
+    }
+    let mut prev = spot::read_key(s, at);
+    let mut ok = (floor <= prev) & (spot::rank_key(prev) < low);
+    let mut i = 1;
+    while i < n {
+        let k = spot::read_key(s, at + w * i);
+        ok = ok & ((prev < k) & (spot::rank_key(k) < low));
+        prev = k;
+        i += 1;
+    }
+    ok
+}
+
+fn smaller(a: u64, b: u64) -> u64
+    ensures { λ r. ⌜ r ≡ min a b ⌝ }
+{
+    if a < b { a } else { b }
+}
+
+fn greater(a: u64, b: u64) -> u64
+    ensures { λ r. ⌜ r ≡ max a b ⌝ }
+{
+    if a < b { b } else { a }
+}
+
+// One pass over P: whether it rises from floor on, and its lowest and highest in rank order.
+fn points_of(s: &[u8], at: usize, n: usize, floor: u64) -> Points
+    requires { ⌜ at + 12 * n ≤ length (now s) ⌝ }
+    ensures { λ r. ⌜ PointsAre floor (keysAt (now (s .entry)) 12 n at) r ⌝ }
+{
+    if n == 0 {
+        return Points {
+            ok: true,
+            low: 18446744073709551615,
+            high: 0,
+        };
+    }
+    let mut prev = spot::read_key(s, at);
+    let mut ok = floor <= prev;
+    let mut low = spot::rank_key(prev);
+    let mut high = low;
+    let mut i = 1;
+    while i < n {
+        let k = spot::read_key(s, at + 12 * i);
+        let r = spot::rank_key(k);
+        ok = ok & (prev < k);
+        low = smaller(low, r);
+        high = greater(high, r);
+        prev = k;
+        i += 1;
+    }
+    Points { ok, low, high }
+}
+
+// The first of the n spots from at on, not before the one at from, whose key is at least k.
+fn past(s: &[u8], at: usize, n: usize, from: usize, k: u64) -> usize
+    requires { ⌜ (at + 12 * n ≤ length (now s)) × (from ≤ n) ⌝ }
+    ensures { λ r. ⌜ Past (now (s .entry)) at n from k r ⌝ }
+{
+    let mut i = from;
+    while i < n {
+        if k <= spot::read_key(s, at + 12 * i) {
+            return i;
+        }
+        i += 1;
+    }
+    i
+}
+
+// No key of the n spots from at on is one of the d identities from ad on; both rise.
+fn apart_ok(s: &[u8], at: usize, n: usize, ad: usize, d: usize) -> bool
+    requires { ⌜ (at + 12 * n ≤ length (now s)) × (ad + 8 * d ≤ length (now s)) × (rising (keysAt (now s) 12 n at) ≡ true) × (rising (keysAt (now s) 8 d ad) ≡ true) ⌝ }
+    ensures { λ r. ⌜ r ≡ apart (keysAt (now (s .entry)) 12 n at) (keysAt (now (s .entry)) 8 d ad) ⌝ }
+{
+    let mut i = 0;
+    let mut j = 0;
+    while j < d {
+        let b = spot::read_key(s, ad + 8 * j);
+        i = past(s, at, n, i, b);
+        if n <= i {
+            return true;
+        }
+        if spot::read_key(s, at + 12 * i) == b {
+            return false;
+        }
+        j += 1;
+    }
+    true
+}
+
+// The entry at a place.
+fn entry_ok(s: &[u8], a: usize, blocks: usize, full: bool, low: u64) -> bool
+    requires { ⌜ a + 28 ≤ length (now s) ⌝ }
+    ensures { λ r. ⌜ r ≡ entryFine blocks full low (now (s .entry)) a ⌝ }
+{
+    let b = octets::read16(s, a);
+    let n = octets::count_at(s, a + 2);
+    let top = spot::read_key(s, a + 12);
+    ((1 <= b) & (b < blocks))
+        & (octets::count_at(s, a + 3) == 0)
+        & (((n == 0) & (octets::read64(s, a + 12) == 0) & (octets::read64(s, a + 20) == 0))
+            | ((n != 0) & full & (spot::rank_key(top) < low)))
+}
+
+// The entries, by what each shows.
+fn entries_ok(s: &[u8], c: usize, blocks: usize, full: bool, low: u64) -> bool
+    requires { ⌜ 8 + 28 * c ≤ length (now s) ⌝ }
+    ensures { λ r. ⌜ r ≡ all (records (entryFine blocks full low (now (s .entry))) 28 c 8) ⌝ }
+{
+    let mut ok = true;
+    let mut i = 0;
+    while i < c {
+        ok = ok & entry_ok(s, 8 + 28 * i, blocks, full, low);
+        i += 1;
+    }
+    ok
+}
+
+// The first entry's range field is zero, the others' rise.
+fn first_ok(s: &[u8], c: usize) -> bool
+    requires { ⌜ 40 + 28 * c ≤ length (now s) ⌝ }
+    ensures { λ r. ⌜ r ≡ firstFine (now (s .entry)) c ⌝ }
+{
+    if c == 0 {
+        return true;
+    }
+    (octets::read64(s, 12) == 0) & rises(s, 40, 28, c - 1, 0)
+}
+
+// The number of children, of a leaf and of an inner node.
+fn count_ok(level: usize, few: usize, c: usize) -> bool
+    ensures { λ r. ⌜ r ≡ countFine level few c ⌝ }
+{
+    ((level == 0) & (c == 0)) | ((level != 0) & ((few <= c) & (c <= 8)))
+}
+
+// The sizes of points, inserts and deletes, of a filled node and of one with nothing below.
+fn sizes_ok(p: usize, i: usize, d: usize) -> bool
+    ensures { λ r. ⌜ r ≡ sizesFine p i d ⌝ }
+{
+    ((32 <= p) & (p <= 64) & (i <= 64) & (d <= 16)) | ((p < 32) & (i == 0) & (d == 0))
+}
+
+// A leaf has no inserts and no deletes.
+fn leaf_ok(level: usize, i: usize, d: usize) -> bool
+    ensures { λ r. ⌜ r ≡ leafFine level i d ⌝ }
+{
+    (level != 0) | ((i == 0) & (d == 0))
+}
+
+// The front of a node, read at this level.
+fn front_ok(h: Front, level: usize, few: usize) -> bool
+    requires { ⌜ Small h ⌝ }
+    ensures { λ r. ⌜ r ≡ frontFine level few h ⌝ }
+{
+    let used = 8 + 28 * h.c + 12 * (h.p + h.i) + 8 * h.d;
+    (h.used == used)
+        & (used <= 1896)
+        & (h.version == 1)
+        & (h.level == level)
+        & count_ok(h.level, few, h.c)
+        & sizes_ok(h.p, h.i, h.d)
+        & leaf_ok(h.level, h.i, h.d)
+}
+
+// Where the range begins that leads to a node.
+fn floor_of(a: Asked) -> u64
+    ensures { λ r. ⌜ r ≡ floorOf a ⌝ }
+{
+    match a {
+        Asked::Root => 0,
+        Asked::Child(e) => e.low,
+    }
+}
+
+// The fewest children of an inner node. The keys of what leads there are of 64 bits by their type, which the entry as a record does not say.
+fn fewest_of(a: Asked) -> usize
+    ensures { λ r. ⌜ (r ≡ fewest a) × (keyed a ≡ true) ⌝ }
+{
+    match a {
+        Asked::Root => 2,
+        Asked::Child(e) => 4,
+    }
+}
+
+// The entry agrees with the points: their number p, the lowest and the highest of their rank keys.
+fn agrees_ok(a: Asked, p: usize, low: u64, high: u64) -> bool
+    ensures { λ r. ⌜ r ≡ agreesFine a p low high ⌝ }
+{
+    match a {
+        Asked::Root => true,
+        Asked::Child(e) => {
+            (e.size == p)
+                & ((p == 0) | ((spot::rank_key(e.top) == high) & (spot::rank_key(e.bottom) == low)))
+        }
+    }
+}
+
+// What follows the front of a node.
+fn body_ok(s: &[u8], blocks: usize, a: Asked, h: Front) -> bool
+    requires { ⌜ (length (now s) ≡ 2048) × (usedOf h ≤ 1896) × (h .used ≡ usedOf h) ⌝ }
+    ensures { λ r. ⌜ r ≡ bodyFine (now (s .entry)) blocks a h ⌝ }
+{
+    let at = 8 + 28 * h.c;
+    let ai = at + 12 * h.p;
+    let ad = at + 12 * (h.p + h.i);
+    let floor = floor_of(a);
+    let q = points_of(s, at, h.p, floor);
+    let low = q.low;
+    if !(q.ok & rises_under(s, ai, 12, h.i, floor, low) & rises_under(s, ad, 8, h.d, floor, low)) {
+        return false;
+    }
+    apart_ok(s, ai, h.i, ad, h.d)
+        & zeros(s, h.used)
+        & entries_ok(s, h.c, blocks, 32 <= h.p, low)
+        & first_ok(s, h.c)
+        & agrees_ok(a, h.p, low, q.high)
+}
+
+// All that a node block, read at this level, and the entry leading to it can show.
+pub fn node_ok(s: &[u8], blocks: usize, level: usize, a: Asked) -> bool
+    requires { ⌜ length (now s) ≡ 2048 ⌝ }
+    ensures { λ r. ⌜ r ≡ nodeOk level a (nodeOf blocks (now (s .entry))) ⌝ }
+{
+    let h = front_of(s);
+    if !front_ok(h, level, fewest_of(a)) {
+        return false;
+    }
+    body_ok(s, blocks, a, h)
+}
+
+// The same of block b of a table.
+pub fn block_ok(t: &[u8], b: usize, level: usize, a: Asked) -> bool
+    requires { ⌜ b * 2048 + 2048 ≤ length (now t) ⌝ }
+    ensures { λ r. ⌜ r ≡ nodeOk level a (storeOf (now (t .entry)) b) ⌝ }
+{
+    let from = b * 2048;
+    let to = from + 2048;
+    node_ok(&t[from..to], t.len() / 2048, level, a)
+}
+
+// ---- validating block 0
+
+// No bit from b on is set.
+fn clear_from(m: &[u8], b: usize) -> bool
+    requires { ⌜ (length (now m) ≡ 512) × (b ≤ 4096) ⌝ }
+    ensures { λ r. ⌜ r ≡ every (λ k. not (bit (now (m .entry)) k)) (upTo b (4096 - b)) ⌝ }
+{
+    let i = b / 8;
+    if 512 <= i {
+        return true;
+    }
+    ((octets::count_at(m, i) >> (b % 8)) == 0) & zeros(m, i + 1)
+}
+
+// The map marks block 0 and the root, and no block past the last.
+fn map_ok(m: &[u8], blocks: usize, root: usize) -> bool
+    requires { ⌜ (length (now m) ≡ 512) × (blocks ≤ 4096) × (root < blocks) ⌝ }
+    ensures { λ r. ⌜ r ≡ mapFine blocks root (now (m .entry)) ⌝ }
+{
+    octets::test_bit(m, 0) & octets::test_bit(m, root) & clear_from(m, blocks)
+}
+
+// The numbers of block 0, in a table of this many bytes.
+fn numbers_ok(s: &[u8], bytes: usize) -> bool
+    requires { ⌜ length (now s) ≡ 2048 ⌝ }
+    ensures { λ r. ⌜ r ≡ numbersFine bytes (now (s .entry)) ⌝ }
+{
+    let levels = octets::count_at(s, 5);
+    let root = octets::read16(s, 6);
+    (octets::read32(s, 0) == bytes as u64)
+        & (octets::count_at(s, 4) == 1)
+        & (1 <= levels)
+        & (levels <= 7)
+        & (1 <= root)
+        & (root < bytes / 2048)
+        & (octets::read32(s, 8) <= capacity_of(bytes) as u64)
+        & sized(bytes)
+}
+
+// All that block 0 can show, in a table of this many bytes.
+pub fn head_ok(s: &[u8], bytes: usize) -> bool
+    requires { ⌜ length (now s) ≡ 2048 ⌝ }
+    ensures { λ r. ⌜ r ≡ headerOk bytes (headerOf (now (s .entry))) ⌝ }
+{
+    if !numbers_ok(s, bytes) {
+        return false;
+    }
+    map_ok(&s[12..524], bytes / 2048, octets::read16(s, 6)) & zeros(s, 524)
+}
+
+// The same of a table.
+pub fn header_ok(t: &[u8]) -> bool
+    requires { ⌜ 2048 ≤ length (now t) ⌝ }
+    ensures { λ r. ⌜ r ≡ headerOk (length (now (t .entry))) (headOf (now (t .entry))) ⌝ }
+{
+    head_ok(&t[0..2048], t.len())
+}
+
+// ---- making a table
+
+// The bytes of a fresh table that are not zero, past its length.
+fn write_fresh(t: &mut [u8])
+    requires { ⌜ 4096 ≤ length (now t) ⌝ }
+    ensures { λ r. ⌜ now (t .exit) ≡ freshMarks (now (t .entry)) ⌝ }
+{
+    t[4] = 1;
+    t[5] = 1;
+    t[7] = 1;
+    t[12] = 3;
+    t[2049] = 8;
+    t[2050] = 1;
+}
+
+// The empty table: one leaf and one level.
+pub fn format(table: &mut [u8]) -> Answer
+    ensures answered { λ r. ⌜ r ≡ cond (tableSized (length (now (table .entry)))) (answer 0 0) (answer 1 0) ⌝ }
+    ensures written { λ r. ⌜ now (table .exit) ≡ cond (tableSized (length (now (table .entry)))) (formatted (length (now (table .entry)))) (now (table .entry)) ⌝ }
+{
+    let n = table.len();
+    if !sized(n) {
+        return Answer {
+            number: 1,
+            detail: 0,
+        };
+    }
+    octets::zero(table, n);
+    octets::write32(table, 0, n as u64);
+    write_fresh(table);
+    Answer {
+        number: 0,
+        detail: 0,
+    }
 }

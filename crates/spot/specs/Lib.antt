@@ -1,3 +1,4 @@
 pub mod Keys
 pub mod Spots
 pub mod Query
+pub mod Sorted

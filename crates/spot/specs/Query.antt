@@ -1,10 +1,11 @@
 -- What a Report or a Top asks for. Everything above asks a query only by `placed`, `meets` and `wantsKey`.
 -- Assumes nothing.
 use Prim.Native.Nat.{ℕ, _+_, _*_}
-use mathlib.Core.Bool.{Bool}
+use mathlib.Core.Bool.{Bool, _&&_}
 use mathlib.Core.List.{[], _∷_}
 use lib.Dec.{ltb, leb}
 use lib.IntN.{ℤ}
+use lib.Signed.{leZ}
 use Rattle.octets.specs.Lists.{all}
 use Rattle.spot.specs.Keys.{word, biased, rankOf}
 use Rattle.spot.specs.declared.Spot.{Spot}
@@ -36,3 +37,7 @@ wantsKey q k = all (placed q k ∷ leb (q .least) (rankOf k) ∷ [])
 
 abbrev pub wants : Query → Spot → Bool
 wants q s = wantsKey q (s .key)
+
+-- the same of a place and a rank as they are, with no key made of them
+abbrev pub wanted : ℤ → ℤ → ℤ → ℤ → ℤ → Bool
+wanted place rank x1 x2 y = leZ x1 place && leZ place x2 && leZ y rank

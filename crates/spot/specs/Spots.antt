@@ -6,7 +6,7 @@ use mathlib.Core.List.{List, [], _∷_, _++_}
 use mathlib.Core.Option.{Option, none, some}
 use lib.Dec.{leb, eqb}
 use Rattle.octets.specs.Lists.{keep}
-use Rattle.octets.specs.Bytes.{be, bytesOf}
+use Rattle.octets.specs.Bytes.{be, bytesOf, putBe}
 use Rattle.spot.specs.Keys.{word, turned, rankKey}
 use Rattle.spot.specs.declared.Spot.{Spot}
 
@@ -24,6 +24,13 @@ keyBytes k = bytesOf 4 (turned (k / word)) ++ bytesOf 4 (turned (k % word))
 
 unfoldable pub spotBytes : Spot → List ℕ
 spotBytes s = keyBytes (s .key) ++ bytesOf 4 (s .track)
+
+-- s with a key's 8 bytes at index i, and with a spot's 12
+unfoldable pub putKey : List ℕ → ℕ → ℕ → List ℕ
+putKey s i k = putBe 4 (putBe 4 s i (turned (k / word))) (i + 4) (turned (k % word))
+
+unfoldable pub putSpot : List ℕ → ℕ → Spot → List ℕ
+putSpot s i x = putBe 4 (putKey s i (x .key)) (i + 8) (x .track)
 
 -- "the spots, 12 bytes each as on the card"
 abbrev pub spotsBytes : List Spot → List ℕ

@@ -1,4 +1,14 @@
 // Spots, their keys, and queries over them. The only crate that meets signed numbers.
+ghost use mathlib.Core.Path.{_≡_};
+ghost use Prim.Native.Nat.{_+_, _≤_, _<_};
+ghost use lib.IntN.{_-ℤ_};
+ghost use lib.ListN.{length};
+ghost use mir.Syntax.{w32};
+ghost use mir.Val.{toZ, ofZ};
+ghost use Rattle.octets.specs.Bytes.{be, putBe};
+ghost use Rattle.spot.specs.Keys.{biased, unbiased, turned, key, placeOf, rankIn, rankKey};
+ghost use Rattle.spot.specs.Spots.{keyAt, spotAt, putKey, putSpot};
+ghost use Rattle.spot.specs.Query.{query, topQuery, placed, wantsKey, wanted};
 
 // A spot: its key, which stands for place and rank together, and its track number.
 pub struct Spot {
@@ -11,4 +21,143 @@ pub struct Query {
     pub from: u64,
     pub last: u64,
     pub least: u64,
+}
+
+// A signed number moved up by 2^31, so that the order stays.
+pub fn bias(x: i32) -> u64
+    ensures { λ r. ⌜ (r ≡ biased x) × (r < 4294967296) ⌝ }
+{
+    ((x as i64) + 2147483648) as u64
+}
+
+// And back.
+pub fn unbias(u: u64) -> i32
+    requires { ⌜ u < 4294967296 ⌝ }
+    ensures { λ r. ⌜ r ≡ unbiased u ⌝ }
+{
+    ((u as i64) - 2147483648) as i32
+}
+
+// The two's complement of a number moved up by 2^31, and back.
+fn turn(u: u64) -> u64
+    requires { ⌜ u < 4294967296 ⌝ }
+    ensures { λ r. ⌜ (r ≡ turned u) × (r < 4294967296) ⌝ }
+{
+    (u + 2147483648) % 4294967296
+}
+
+pub fn read_i32(s: &[u8], at: usize) -> i32
+    requires { ⌜ at + 4 ≤ length (now s) ⌝ }
+    ensures { λ r. ⌜ r ≡ toZ w32 (be 4 (now (s .entry)) at) ⌝ }
+{
+    unbias(turn(octets::read32(s, at)))
+}
+
+pub fn write_i32(s: &mut [u8], at: usize, v: i32)
+    requires { ⌜ at + 4 ≤ length (now s) ⌝ }
+    ensures { λ r. ⌜ now (s .exit) ≡ putBe 4 (now (s .entry)) at (ofZ w32 v) ⌝ }
+{
+    octets::write32(s, at, turn(bias(v)));
+}
+
+// The difference of two signed numbers, which 64 bits hold.
+pub fn gap(a: i32, b: i32) -> i64
+    ensures { λ r. ⌜ r ≡ a -ℤ b ⌝ }
+{
+    (a as i64) - (b as i64)
+}
+
+pub fn key_of(place: i32, rank: i32) -> u64
+    ensures { λ r. ⌜ r ≡ key place rank ⌝ }
+{
+    bias(place) * 4294967296 + bias(rank)
+}
+
+// A key with its halves the other way round.
+pub fn rank_key(k: u64) -> u64
+    ensures { λ r. ⌜ r ≡ rankKey k ⌝ }
+{
+    k % 4294967296 * 4294967296 + k / 4294967296
+}
+
+pub fn place_of(k: u64) -> i32
+    ensures { λ r. ⌜ r ≡ placeOf k ⌝ }
+{
+    unbias(k / 4294967296)
+}
+
+pub fn rank_in(k: u64) -> i32
+    ensures { λ r. ⌜ r ≡ rankIn k ⌝ }
+{
+    unbias(k % 4294967296)
+}
+
+pub fn read_key(s: &[u8], at: usize) -> u64
+    requires { ⌜ at + 8 ≤ length (now s) ⌝ }
+    ensures { λ r. ⌜ r ≡ keyAt (now (s .entry)) at ⌝ }
+{
+    turn(octets::read32(s, at)) * 4294967296 + turn(octets::read32(s, at + 4))
+}
+
+pub fn write_key(s: &mut [u8], at: usize, k: u64)
+    requires { ⌜ at + 8 ≤ length (now s) ⌝ }
+    ensures { λ r. ⌜ now (s .exit) ≡ putKey (now (s .entry)) at k ⌝ }
+{
+    octets::write32(s, at, turn(k / 4294967296));
+    octets::write32(s, at + 4, turn(k % 4294967296));
+}
+
+pub fn read_spot(s: &[u8], at: usize) -> Spot
+    requires { ⌜ at + 12 ≤ length (now s) ⌝ }
+    ensures { λ r. ⌜ r ≡ spotAt (now (s .entry)) at ⌝ }
+{
+    let key = read_key(s, at);
+    let track = octets::read32(s, at + 8) as u32;
+    Spot { key, track }
+}
+
+pub fn write_spot(s: &mut [u8], at: usize, spot: Spot)
+    requires { ⌜ at + 12 ≤ length (now s) ⌝ }
+    ensures { λ r. ⌜ now (s .exit) ≡ putSpot (now (s .entry)) at spot ⌝ }
+{
+    let k = spot.key;
+    let t = spot.track as u64;
+    write_key(s, at, k);
+    octets::write32(s, at + 8, t);
+}
+
+pub fn make_query(x1: i32, x2: i32, y: i32) -> Query
+    ensures { λ r. ⌜ r ≡ query x1 x2 y ⌝ }
+{
+    let from = bias(x1) * 4294967296;
+    let last = bias(x2) * 4294967296 + 4294967295;
+    let least = bias(y);
+    Query { from, last, least }
+}
+
+pub fn top_query(x1: i32, x2: i32, least: u64) -> Query
+    ensures { λ r. ⌜ r ≡ topQuery x1 x2 least ⌝ }
+{
+    let from = bias(x1) * 4294967296;
+    let last = bias(x2) * 4294967296 + 4294967295;
+    Query { from, last, least }
+}
+
+pub fn placed(q: Query, k: u64) -> bool
+    ensures { λ r. ⌜ r ≡ placed q k ⌝ }
+{
+    (q.from <= k) & (k <= q.last)
+}
+
+pub fn wants(q: Query, k: u64) -> bool
+    ensures { λ r. ⌜ r ≡ wantsKey q k ⌝ }
+{
+    placed(q, k) & (q.least <= k % 4294967296)
+}
+
+// The same of a place and a rank as they are.
+pub fn wanted(place: i32, rank: i32, x1: i32, x2: i32, y: i32) -> bool
+    ensures { λ r. ⌜ r ≡ wanted place rank x1 x2 y ⌝ }
+{
+    (x1 <= place) & (place <= x2) & (y <= rank)
 }

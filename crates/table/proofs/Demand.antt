@@ -1,7 +1,7 @@
 -- Demand 3, from the promises of the calls alone.
 -- Assumes nothing.
 use mathlib.Core.Path.{_≡_, refl, ap, sym, _∙_, subst}
-use mathlib.Core.Bool.{true, not}
+use mathlib.Core.Bool.{true, not, _&&_}
 use mathlib.Core.List.{List, [], _∷_}
 use Prim.Native.Nat.{ℕ, _-_, _*_, _/_, _≤_}
 use native.Mathlib.Omega.{arith}
@@ -9,7 +9,7 @@ use lib.ListN.{length}
 use Rattle.spot.specs.declared.Spot.{Spot}
 use Rattle.block.specs.Fresh.{formatted}
 use Rattle.block.specs.Table.{tableSized}
-use Rattle.spot.specs.Query.{query}
+use Rattle.spot.specs.Keys.{signed32}
 use Rattle.tree.specs.Sound.{sound}
 use Rattle.tree.specs.Walk.{liveSpots}
 use Rattle.table.specs.Calls.{Call, format, add, withdraw, report, top, count, check, rebuild, argumentsFit}
@@ -17,6 +17,7 @@ use Rattle.table.specs.Answers.{lengths}
 use Rattle.table.specs.Model.{PlainSpot, outputAfter}
 use Rattle.table.specs.History.{Event, MetBy, History, Agreed, FullExactly, MarksExactly, AllAgreed, Demand3, replyIn}
 use Rattle.tree.proofs.Fresh.{fresh-sized, fresh-sound, fresh-empty}
+use Rattle.octets.proofs.Tests.{and-left, and-right}
 use Rattle.table.proofs.Histories.{TreeLaws, keyReplyIn, map-accepted, step}
 use Rattle.table.proofs.Plain.{keyed, AllFit, Like, like, bad-table}
 use Rattle.table.proofs.Sorted.{stays-held, says-full}
@@ -25,7 +26,7 @@ use Rattle.tree.proofs.Second.{report-second}
 use Rattle.tree.proofs.Tops.{top-finds, top-rises}
 use Rattle.tree.proofs.TopSecond.{top-second, top-walk-second}
 use Rattle.tree.proofs.Bound.{report-bound}
-use Rattle.tree.proofs.Exact.{marks-exact}
+use Rattle.tree.proofs.ReadWords.{marks-exact-words}
 
 tree-laws : TreeLaws
 tree-laws =
@@ -66,16 +67,23 @@ full-exactly count t ss e z h a = tt
 full-exactly check t ss e z h a = tt
 full-exactly rebuild t ss e z h a = tt
 
-marks-exactly : (c : Call) (t : List ℕ) (e : Event) → sound t ≡ true → MetBy c t e → MarksExactly c t e
-marks-exactly format t e s p = tt
-marks-exactly (add place rank track) t e s p = tt
-marks-exactly (withdraw place rank) t e s p = tt
-marks-exactly (report x1 x2 y) t e s p =
-    λ z b l. rw (p .1 .marks ∙ map-accepted _ _ _ z) (marks-exact t s (query x1 x2 y) b l)
-marks-exactly (top x1 x2 k) t e s p = tt
-marks-exactly count t e s p = tt
-marks-exactly check t e s p = tt
-marks-exactly rebuild t e s p = tt
+marks-exactly : (c : Call) (t : List ℕ) (e : Event) → sound t ≡ true → argumentsFit c ≡ true → MetBy c t e → MarksExactly c t e
+unfolding argumentsFit
+marks-exactly format t e s a p = tt
+marks-exactly (add place rank track) t e s a p = tt
+marks-exactly (withdraw place rank) t e s a p = tt
+marks-exactly (report x1 x2 y) t e s a p =
+    let f = and-left (signed32 x1 && signed32 x2) (signed32 y) a in
+    λ z b l.
+    rw (p .1 .marks ∙ map-accepted _ _ _ z)
+    (marks-exact-words t x1 x2 y s (and-left (signed32 x1) (signed32 x2) f) (and-right (signed32 x1) (signed32 x2) f)
+    (and-right (signed32 x1 && signed32 x2) (signed32 y) a)
+    b
+    l)
+marks-exactly (top x1 x2 k) t e s a p = tt
+marks-exactly count t e s a p = tt
+marks-exactly check t e s a p = tt
+marks-exactly rebuild t e s a p = tt
 
 one-step : (t : List ℕ) (ss : List PlainSpot) (e : Event) → tableSized (length t) ≡ true → sound t ≡ true → keyed ss ≡ liveSpots t → AllFit ss
     → length ss ≤ 16 * (length t / 2048 - 1)
@@ -109,7 +117,7 @@ all-agreed : (t : List ℕ) (ss : List PlainSpot) (es : List Event) → tableSiz
 all-agreed t ss [] z s same fit n h = tt
 all-agreed t ss (e ∷ es) z s same fit n h =
     let k = one-step t ss e z s same fit n (h .0) (h .1) in
-    (k .agreed, k .full, marks-exactly (e .call) t e s (h .1), all-agreed (e .table′) _ es (ap tableSized (k .sized) ∙ z) (k .agreed .staysSound) (k .holds) (k .fit) (k .held) (h .2))
+    (k .agreed, k .full, marks-exactly (e .call) t e s (h .0) (h .1), all-agreed (e .table′) _ es (ap tableSized (k .sized) ∙ z) (k .agreed .staysSound) (k .holds) (k .fit) (k .held) (h .2))
 
 -- every history of calls that keep their promises, from a formatted table on, answers as the model does
 pub demand3 : Demand3

@@ -130,6 +130,18 @@ AllAgreed t ss (e ∷ es) =
     let r = replyIn (e .call) t ss e in
     Agreed (e .call) t (r .answer) (outputAfter r (e .output)) e × FullExactly (e .call) t ss e × MarksExactly (e .call) t e × AllAgreed (e .table′) (r .next) es
 
+-- Demand 3, sentence by sentence:
+--   "For every list of calls (..; any arguments, refused ones included)"            `es : List Event`, each with a `Call` whose arguments fit their 32 bits
+--   "that starts on a freshly formatted table"                                      `formatted bytes`, for every length that Format accepts
+--   "each call lent it whole as the one before left it, with no other writer"       `History`: the next event is met on `table′` of this one
+--   "every call leaves the table sound"                                             `Agreed .staysSound`
+--   "gives the same number, detail and spots, in the same order, as the scope       `Agreed .answer`, `Agreed .output`: against `reply` of the model, begun
+--    paper's plain list, begun empty and fed the same calls and lent lengths"       with [], and fed the call and `lengths` alone (`replyIn`)
+--   "With scratch enough, "full" comes exactly when .."                             `FullExactly`
+--   "Each accepted report marks exactly the blocks that the scope paper has it read" `MarksExactly`: block 0 and `ReadBlock`
+--   "at most 1, plus 36 for each level of the tree, plus 9 for each whole 16 spots" `Agreed .bounded`
+--   "On a second table of that length, equal in the marked blocks, whatever the     `Agreed .second`: any table u of that length with the same bytes in the
+--    others hold, that call gives the same report and marks."                       marked blocks, sound or not
 -- "Demand 3 is a single claim about a whole history. The table starts as an accepted Format leaves it, whatever its bytes were"
 abbrev pub Demand3 : Type 0
 Demand3 = (bytes : ℕ) → tableSized bytes ≡ true → (es : List Event) → History (formatted bytes) es → AllAgreed (formatted bytes) [] es

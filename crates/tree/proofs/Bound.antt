@@ -37,7 +37,8 @@ use Rattle.tree.proofs.Places.{within-yes, within-high, within-from, wi
 use Rattle.tree.proofs.Walks.{once-whole}
 use Rattle.tree.proofs.Apart.{has-mem, keep-in, Apart, fewer, apart-append, apart-distinct, mem-has}
 use Rattle.tree.proofs.Tables.{sound-tree, sound-header, live-finds, report-finds}
-use Rattle.tree.proofs.Visits.{visits, onto, onto-length, walk-reads, ones-few}
+use Rattle.tree.specs.Trace.{visits}
+use Rattle.tree.proofs.Visits.{onto, onto-length, walk-reads, ones-few}
 
 -- what is known of a point counted: it is wanted, no higher than `High` says, and live in its part or among the deletes counted
 record Owed (q : Query) (lo hi : ℕ) (look : ℕ → Option ℕ) (High : ℕ → Type 0) (ds : List ℕ) (k : ℕ) : Type 0 where

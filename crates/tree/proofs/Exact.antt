@@ -35,7 +35,8 @@ use Rattle.tree.proofs.Second.{read-mem, read-header, read-low, few}
 use Rattle.tree.proofs.Tables.{sound-tree, sound-header}
 use Rattle.tree.proofs.Canon.{same-or-not}
 use Rattle.tree.proofs.Apart.{Apart, fewer, apart-append, apart-distinct, keep-in}
-use Rattle.tree.proofs.Visits.{visits, onto, read-in, ones-up-to}
+use Rattle.tree.specs.Trace.{visits}
+use Rattle.tree.proofs.Visits.{onto, read-in, ones-up-to}
 use Rattle.tree.proofs.Once.{gather-mem, gather-in, onto-from, visits-apart, onto-apart}
 use Rattle.tree.proofs.Bound.{table-reads}
 

@@ -22,3 +22,7 @@ pub mod Frame
 pub mod Buffers
 pub mod Rules
 pub mod Entries
+pub mod Traces
+pub mod Sources
+pub mod MapBits
+pub mod ReadWords

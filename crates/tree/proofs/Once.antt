@@ -13,7 +13,8 @@ use Rattle.tree.specs.Part.{Part, children}
 use Rattle.tree.specs.Reach.{gather, reach}
 use Rattle.tree.specs.Walk.{Walk, walked, blocksRead, isBroken, admits, walk, once}
 use Rattle.tree.proofs.Apart.{Apart, apart-append, apart-distinct, distinct-apart, keep-in}
-use Rattle.tree.proofs.Visits.{visits, onto, walk-reads}
+use Rattle.tree.specs.Trace.{visits}
+use Rattle.tree.proofs.Visits.{onto, walk-reads}
 use Rattle.tree.proofs.Walks.{once-distinct}
 
 pub gather-mem : (f : Part → List ℕ) (ps : List Part) {b : ℕ} → List·Memᴰ b (gather f ps) → (c : Part) × List·Memᴰ c ps × List·Memᴰ b (f c)

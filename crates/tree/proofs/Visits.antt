@@ -15,6 +15,7 @@ use Rattle.block.specs.Node.{Store}
 use Rattle.block.specs.Table.{mapBlocks}
 use Rattle.tree.specs.Part.{Part, children}
 use Rattle.tree.specs.Reach.{gather}
+use Rattle.tree.specs.Trace.{visits}
 use Rattle.spot.specs.declared.Query.{Query}
 use Rattle.tree.specs.Walk.{Walk, broken, walked, blocksRead, isBroken, admits, through, enter, walk}
 use Rattle.spot.specs.Spots.{putAll}
@@ -24,11 +25,6 @@ use Rattle.tree.proofs.Canon.{same-or-not}
 use Rattle.tree.proofs.Walks.{Grows, through-stays, walk-grows}
 use Rattle.tree.proofs.Marks.{map-bit}
 use Rattle.tree.proofs.Apart.{fewer, mem-has, keep-in, keep-apart, upTo-from, upTo-apart}
-
--- the blocks read of a part, a node's before its children's: the node's own, and those of the children that the query admits
-unfoldable pub visits : ℕ → Store → Query → Part → List ℕ
-visits zero m q p = []
-visits (suc l) m q p = p .block ∷ gather (visits l m q) (keep (admits q) (children p (m (p .block))))
 
 -- onto a list, the first first, so that the last stands in front
 abbrev pub onto : List ℕ → List ℕ → List ℕ

@@ -2,7 +2,9 @@ pub mod Part
 pub mod Lookup
 pub mod Reach
 pub mod Walk
+pub mod Trace
 pub mod ReadMap
 pub mod Sound
 pub mod Read
 pub mod Top
+pub mod SameList

@@ -1,0 +1,362 @@
+-- The tests of the code are the rules of a node.
+-- Assumes nothing.
+use mathlib.Core.Path.{_≡_, refl, sym, ap, ap₂, subst, _∙_}
+use mathlib.Core.Bool.{Bool, true, false, not, cond, _&&_, _||_}
+use mathlib.Core.Logic.{_⊎_, inl, inr, ⊎-elim}
+use mathlib.Core.List.{List, [], _∷_, _++_, map}
+use Prim.Native.Nat.{ℕ, _+_, _-_, _*_, _≤_, _<_}
+use native.Mathlib.Omega.{arith}
+use lib.Dec.{leb, ltb, eqb}
+use lib.ListN.{drop}
+use borrow.Author.Tests.{eqb-true, leb-true, lt-leb, ltb-true}
+use Rattle.octets.specs.Lists.{all, every, records, rising, risingFrom, distinct, minimum}
+use Rattle.octets.specs.Bytes.{be}
+use Rattle.spot.specs.Keys.{rankKey}
+use Rattle.spot.specs.Spots.{keyAt}
+use Rattle.spot.proofs.Card.{keyAt-lt}
+use Rattle.spot.proofs.Halves.{rank-small}
+use Rattle.block.specs.declared.Entry.{Entry}
+use Rattle.block.specs.declared.Front.{Front}
+use Rattle.block.specs.declared.Asked.{Asked}
+use Rattle.block.specs.Table.{blockOk, version1}
+use Rattle.block.specs.Node.{Node, nodeOf, nodeFrom, laidOut, usedBytes, entryAt, entryBlank, firstBlank, firstOpen}
+use Rattle.block.specs.NodeRules.{nodeOk, fewest, buffersRise, namedOnce, pointsAbove, tops, filled, lowest}
+use Rattle.block.specs.Access.{frontOf}
+use Rattle.block.specs.Checks.{_and_, keyed, isZero, under, apart, keysAt, lastKey, risesUnder, floorOf, sizesFine, entryFine, firstFine, frontFine, listsFine, restFine, bodyFine}
+use Rattle.octets.proofs.Tests.{and-left, and-right, and-both, or-either, bool-ext, all-at, all-cons, all-nil, every-left, every-right, every-join}
+use Rattle.octets.proofs.Sets.{distinct-split, distinct-join}
+use Rattle.octets.proofs.Rising.{rising-lower, rising-distinct}
+use Rattle.octets.proofs.Records.{left, left-first, none-left, records-cong}
+use Rattle.block.proofs.Shut.{fst, snd, pair, and-stop, and-go, in-left, in-right}
+use Rattle.block.proofs.Apart.{apart-test, apart-fact}
+use Rattle.block.proofs.Above.{above, above-under, least-above, above-apart}
+use Rattle.block.proofs.Agree.{agrees-is}
+use Rattle.spot.proofs.Buffers.{keys-records}
+use Rattle.block.proofs.Views.{every-entry, every-top, tests-mono, tests-both}
+use Rattle.block.proofs.Marks.{fine-full, fine-thin, fine-blank, fine-block, fine-top, fine-empty}
+use Rattle.block.proofs.Rules.{floor-forward, floor-back, names-are, count-is, filled-is, lowest-is, leaf-is, lows-is, blocks-is}
+
+module _ (s : List ℕ) (blocks level : ℕ) (a : Asked) (keys64 : keyed a ≡ true) (c p i d : ℕ) where
+  abbrev node : Node
+  node = nodeFrom version1 blocks s c p i d
+
+  abbrev head : Front
+  head = record { used = be 2 s 0; version = be 1 s 2; level = be 1 s 3; p = p; i = i; d = d; c = c }
+
+  abbrev ps : List ℕ
+  ps = keysAt s 12 p (8 + 28 * c)
+
+  abbrev is : List ℕ
+  is = keysAt s 12 i (8 + 28 * c + 12 * p)
+
+  abbrev ds : List ℕ
+  ds = keysAt s 8 d (8 + 28 * c + 12 * (p + i))
+
+  abbrev es : List Entry
+  es = firstOpen (records (entryAt s) 28 c 8)
+
+  abbrev low : ℕ
+  low = minimum lastKey (map rankKey ps)
+
+  -- what stands below P in rank order
+  abbrev ks : List ℕ
+  ks = (is ++ ds) ++ tops es
+
+  abbrev empties : ℕ → Bool
+  empties e = eqb (be 1 s (e + 2)) 0
+
+  abbrev topped : ℕ → Bool
+  topped e = empties e || under low (keyAt s (e + 12))
+
+  tops-are : every (under low) (tops es) ≡ all (records topped 28 c 8)
+  unfolding entryAt
+  tops-are =
+      every-top (under low) es ∙ every-entry (λ e. eqb (e .size) 0 || under low (e .top)) (λ e. refl) s c
+      ∙ ap all (records-cong _ topped 28 c 8 8 (λ j l. unused (be 1 s (8 + 28 * j + 2)) (keyAt s (8 + 28 * j + 12))))
+    where
+      unused : (n k : ℕ) → eqb n 0 || under low (cond (eqb n 0) 0 k) ≡ eqb n 0 || under low k
+      unused n k = pick (eqb n 0)
+        where
+          pick : (b : Bool) → b || under low (cond b 0 k) ≡ b || under low k
+          pick true = refl
+          pick false = refl
+
+  above-are : pointsAbove node ≡ above rankKey ks ps
+  unfolding pointsAbove nodeFrom
+  above-are = ap₂ (λ (x y : List ℕ). above rankKey ((x ++ ds) ++ tops es) y) (keys-records s 12 i (8 + 28 * c + 12 * p)) (keys-records s 12 p (8 + 28 * c))
+
+  abbrev full : Bool
+  full = leb 32 p && leb p 64 && leb i 64 && leb d 16
+
+  abbrev thin : Bool
+  thin = ltb p 32 && eqb i 0 && eqb d 0
+
+  full-p : full ≡ true → leb 32 p ≡ true
+  full-p h = and-left (leb 32 p) (leb p 64) (and-left (leb 32 p && leb p 64) (leb i 64) (and-left (leb 32 p && leb p 64 && leb i 64) (leb d 16) h))
+
+  thin-p : thin ≡ true → leb 32 p ≡ false
+  thin-p h = lt-leb 32 p (ltb-true p 32 (and-left (ltb p 32) (eqb i 0) (and-left (ltb p 32 && eqb i 0) (eqb d 0) h)))
+
+  thin-i : thin ≡ true → is ≡ []
+  thin-i h = none-left (keyAt s) 12 i (8 + 28 * c + 12 * p) (eqb-true i 0 (and-right (ltb p 32) (eqb i 0) (and-left (ltb p 32 && eqb i 0) (eqb d 0) h)))
+
+  thin-d : thin ≡ true → ds ≡ []
+  thin-d h = none-left (keyAt s) 8 d (8 + 28 * c + 12 * (p + i)) (eqb-true d 0 (and-right (ltb p 32 && eqb i 0) (eqb d 0) h))
+
+  -- ---- from the rules to the tests
+  module _ (ok : nodeOk level a node ≡ true) where
+    laid : laidOut version1 s c p i d ≡ true
+    unfolding nodeOk nodeFrom
+    laid = all-at _ ok 0
+
+    kinds : (filled node ≡ true) ⊎ (lowest node ≡ true)
+    unfolding nodeOk
+    kinds = or-either (filled node) (lowest node) (all-at _ ok 7)
+
+    kind : (full ≡ true) ⊎ ((thin ≡ true) × (all (records empties 28 c 8) ≡ true))
+    kind =
+        ⊎-elim (λ h. inl (sym (filled-is blocks s c p i d) ∙ h))
+        (λ h. let q : thin && all (records empties 28 c 8) ≡ true = sym (lowest-is blocks s c p i d) ∙ h in
+        inr (and-left thin (all (records empties 28 c 8)) q, and-right thin (all (records empties 28 c 8)) q))
+        kinds
+
+    to-head : frontFine level (fewest a) head ≡ true
+    unfolding frontFine nodeOk laidOut sizesFine nodeFrom
+    to-head =
+        pair
+        (pair
+        (pair (pair (pair (pair (all-at _ laid 0) (all-at _ laid 1)) (all-at _ laid 2)) (all-at _ ok 1)) (sym (count-is blocks s c p i d a) ∙ all-at _ ok 2))
+        (⊎-elim (λ h. in-left thin h) (λ h. in-right full (h .0)) kind))
+        (sym (leaf-is blocks s c p i d) ∙ all-at _ ok 8)
+
+    used : be 2 s 0 ≡ usedBytes version1 c p i d
+    unfolding laidOut
+    used = eqb-true _ _ (all-at _ laid 0)
+
+    above-ok : above rankKey ks ps ≡ true
+    unfolding nodeOk
+    above-ok = sym above-are ∙ all-at _ ok 6
+
+    under-full : full ≡ true → every (under low) ks ≡ true
+    under-full h =
+        let at : ℕ = 8 + 28 * c in
+        let first : ps ≡ keyAt s at ∷ left (keyAt s) 12 p at 1 = left-first (keyAt s) 12 p at (omega (arith, leb-true 32 p (full-p h))) in
+        let b : rankKey (keyAt s at) < 18446744073709551616 = rank-small (keyAt s at) (keyAt-lt s at) in
+        subst (λ (l : List ℕ). every (λ k. ltb (rankKey k) (minimum lastKey (map rankKey l))) ks ≡ true) (sym first)
+        (above-under rankKey lastKey (keyAt s at) ks (left (keyAt s) 12 p at 1) (omega arith) (ap (above rankKey ks) (sym first) ∙ above-ok))
+
+    under-i : every (under low) is ≡ true
+    under-i =
+        ⊎-elim (λ h. every-left (under low) is ds (every-left (under low) (is ++ ds) (tops es) (under-full h)))
+        (λ h. ap (every (under low)) (thin-i (h .0))) kind
+
+    under-d : every (under low) ds ≡ true
+    under-d =
+        ⊎-elim (λ h. every-right (under low) is ds (every-left (under low) (is ++ ds) (tops es) (under-full h)))
+        (λ h. ap (every (under low)) (thin-d (h .0))) kind
+
+    rise : (xs : List ℕ) → ((f : ℕ → Bool) → every f (ps ++ (is ++ ds)) ≡ true → every f xs ≡ true) → rising xs ≡ true → risingFrom (floorOf a) xs ≡ true
+    unfolding nodeOk
+    rise xs part h = floor-forward a node (ps ++ (is ++ ds)) xs (names-are blocks s c p i d) part (all-at _ ok 10) h
+
+    buffers : buffersRise node ≡ true
+    unfolding nodeOk
+    buffers = all-at _ ok 3
+
+    to-lists : listsFine s a head ≡ true
+    unfolding listsFine buffersRise nodeFrom
+    to-lists =
+        pair
+        (pair (rise ps (λ f q. every-left f ps (is ++ ds) q) (ap rising (sym (keys-records s 12 p (8 + 28 * c))) ∙ all-at _ buffers 0))
+        (and-both _ _
+        (rise is (λ f q. every-left f is ds (every-right f ps (is ++ ds) q)) (ap rising (sym (keys-records s 12 i (8 + 28 * c + 12 * p))) ∙ all-at _ buffers 1))
+        under-i))
+        (and-both _ _ (rise ds (λ f q. every-right f is ds (every-right f ps (is ++ ds) q)) (all-at _ buffers 2)) under-d)
+
+    to-apart : apart is ds ≡ true
+    unfolding nodeOk namedOnce
+    to-apart =
+        apart-test is ds (distinct-split is ds (distinct-split ps (is ++ ds) (ap distinct (sym (names-are blocks s c p i d)) ∙ all-at _ ok 4) .right) .off)
+
+    to-zeros : every isZero (drop (be 2 s 0) s) ≡ true
+    unfolding laidOut
+    to-zeros = ap (λ (k : ℕ). every isZero (drop k s)) used ∙ all-at _ laid 3
+
+    shown : all (records (λ e. entryBlank s e && blockOk blocks (be 2 s e)) 28 c 8) ≡ true
+    unfolding laidOut nodeOk
+    shown = tests-both (entryBlank s) 28 (λ e. blockOk blocks (be 2 s e)) c 8 (all-at _ laid 4) (sym (blocks-is blocks s c p i d) ∙ all-at _ ok 11)
+
+    abbrev both : ℕ → Bool
+    both e = entryBlank s e && blockOk blocks (be 2 s e)
+
+    to-entries : all (records (entryFine blocks (leb 32 p) low s) 28 c 8) ≡ true
+    to-entries =
+        ⊎-elim
+        (λ h.
+        subst (λ (f : Bool). all (records (entryFine blocks f low s) 28 c 8) ≡ true) (sym (full-p h))
+        (tests-mono (λ e. both e && topped e) 28 (entryFine blocks true low s)
+        (λ e q. fine-full blocks low s e (and-left (entryBlank s e) (blockOk blocks (be 2 s e)) (and-left (both e) (topped e) q)) (and-right (entryBlank s e) (blockOk blocks (be 2 s e)) (and-left (both e) (topped e) q)) (and-right (both e) (topped e) q))
+        c 8 (tests-both both 28 topped c 8 shown (sym tops-are ∙ every-right (under low) (is ++ ds) (tops es) (under-full h)))))
+        (λ h.
+        tests-mono (λ e. both e && empties e) 28 (entryFine blocks (leb 32 p) low s)
+        (λ e q. fine-thin blocks low s e (leb 32 p) (and-left (entryBlank s e) (blockOk blocks (be 2 s e)) (and-left (both e) (empties e) q)) (and-right (entryBlank s e) (blockOk blocks (be 2 s e)) (and-left (both e) (empties e) q)) (and-right (both e) (empties e) q))
+        c 8 (tests-both both 28 empties c 8 shown (h .1)))
+        kind
+
+    to-first : firstFine s c ≡ true
+    unfolding firstFine laidOut firstBlank nodeOk
+    to-first =
+        ⊎-elim (λ h. in-left (eqb (be 8 s 12) 0 && rising (keysAt s 28 (c - 1) 40)) h)
+        (λ h. in-right (eqb c 0) (and-both _ _ h (sym (lows-is blocks s c p i d) ∙ all-at _ ok 5)))
+        (or-either (eqb c 0) (eqb (be 8 s 12) 0) (all-at _ laid 5))
+
+    to-body : bodyFine s blocks a head ≡ true
+    unfolding bodyFine restFine nodeOk
+    to-body = pair to-lists (pair (pair (pair (pair to-apart to-zeros) to-entries) to-first) (sym (agrees-is blocks s c i d a keys64 p) ∙ all-at _ ok 9))
+
+  -- ---- and back
+  module _ (hd : frontFine level (fewest a) head ≡ true) (bd : bodyFine s blocks a head ≡ true) where
+    lists : listsFine s a head ≡ true
+    unfolding bodyFine
+    lists = fst _ _ bd
+
+    more : restFine s blocks a head ≡ true
+    unfolding bodyFine
+    more = snd _ _ bd
+
+    used-back : eqb (be 2 s 0) (usedBytes version1 c p i d) ≡ true
+    unfolding frontFine
+    used-back = fst _ _ (fst _ _ (fst _ _ (fst _ _ (fst _ _ (fst _ _ hd)))))
+
+    rise-p : risingFrom (floorOf a) ps ≡ true
+    unfolding listsFine
+    rise-p = fst _ _ (fst _ _ lists)
+
+    both-i : risesUnder (floorOf a) low is ≡ true
+    unfolding listsFine
+    both-i = snd _ _ (fst _ _ lists)
+
+    both-d : risesUnder (floorOf a) low ds ≡ true
+    unfolding listsFine
+    both-d = snd _ _ lists
+
+    rise-i : risingFrom (floorOf a) is ≡ true
+    rise-i = and-left (risingFrom (floorOf a) is) (every (under low) is) both-i
+
+    rise-d : risingFrom (floorOf a) ds ≡ true
+    rise-d = and-left (risingFrom (floorOf a) ds) (every (under low) ds) both-d
+
+    under-id : every (under low) (is ++ ds) ≡ true
+    under-id =
+        every-join (under low) is ds (and-right (risingFrom (floorOf a) is) (every (under low) is) both-i)
+        (and-right (risingFrom (floorOf a) ds) (every (under low) ds) both-d)
+
+    entries : all (records (entryFine blocks (leb 32 p) low s) 28 c 8) ≡ true
+    unfolding restFine
+    entries = snd _ _ (fst _ _ (fst _ _ more))
+
+    sizes : sizesFine p i d ≡ true
+    unfolding frontFine
+    sizes = snd _ _ (fst _ _ hd)
+
+    from-laid : laidOut version1 s c p i d ≡ true
+    unfolding laidOut frontFine restFine firstFine firstBlank
+    from-laid =
+        all-cons _ _ used-back
+        (all-cons _ _ (snd _ _ (fst _ _ (fst _ _ (fst _ _ (fst _ _ (fst _ _ hd))))))
+        (all-cons _ _ (snd _ _ (fst _ _ (fst _ _ (fst _ _ (fst _ _ hd)))))
+        (all-cons _ _ (ap (λ (k : ℕ). every isZero (drop k s)) (sym (eqb-true (be 2 s 0) (usedBytes version1 c p i d) used-back)) ∙ snd _ _ (fst _ _ (fst _ _ (fst _ _ more))))
+        (all-cons _ _ (tests-mono (entryFine blocks (leb 32 p) low s) 28 (entryBlank s) (λ e q. fine-blank blocks low s e (leb 32 p) q) c 8 entries)
+        (all-cons _ _
+        (⊎-elim (λ h. in-left (eqb (be 8 s 12) 0) h)
+        (λ h. in-right (eqb c 0) (and-left (eqb (be 8 s 12) 0) (rising (keysAt s 28 (c - 1) 40)) h))
+        (or-either (eqb c 0) (eqb (be 8 s 12) 0 && rising (keysAt s 28 (c - 1) 40)) (snd _ _ (fst _ _ more))))
+        all-nil)))))
+
+    from-rise : buffersRise node ≡ true
+    unfolding buffersRise nodeFrom
+    from-rise =
+        all-cons _ _ (ap rising (keys-records s 12 p (8 + 28 * c)) ∙ rising-lower 0 (floorOf a) ps (omega arith) rise-p)
+        (all-cons _ _ (ap rising (keys-records s 12 i (8 + 28 * c + 12 * p)) ∙ rising-lower 0 (floorOf a) is (omega arith) rise-i)
+        (all-cons _ _ (rising-lower 0 (floorOf a) ds (omega arith) rise-d) all-nil))
+
+    from-named : namedOnce node ≡ true
+    unfolding namedOnce restFine
+    from-named =
+        ap distinct (names-are blocks s c p i d)
+        ∙ distinct-join ps (is ++ ds) (rising-distinct (floorOf a) ps rise-p)
+        (distinct-join is ds (rising-distinct (floorOf a) is rise-i) (rising-distinct (floorOf a) ds rise-d) (apart-fact is ds (fst _ _ (fst _ _ (fst _ _ (fst _ _ more))))))
+        (above-apart rankKey (is ++ ds) ps (least-above rankKey lastKey (is ++ ds) ps under-id))
+
+    from-lows : rising (keysAt s 28 (c - 1) 40) ≡ true
+    unfolding restFine firstFine
+    from-lows =
+        ⊎-elim (λ h. let e : c - 1 ≡ 0 = omega (arith, eqb-true c 0 h) in ap (λ (k : ℕ). rising (keysAt s 28 k 40)) e)
+        (λ h. and-right (eqb (be 8 s 12) 0) (rising (keysAt s 28 (c - 1) 40)) h)
+        (or-either (eqb c 0) (eqb (be 8 s 12) 0 && rising (keysAt s 28 (c - 1) 40)) (snd _ _ (fst _ _ more)))
+
+    from-above : pointsAbove node ≡ true
+    from-above =
+        above-are
+        ∙ least-above rankKey lastKey ks ps
+        (every-join (under low) (is ++ ds) (tops es) under-id
+        (tops-are ∙ tests-mono (entryFine blocks (leb 32 p) low s) 28 topped (λ e q. fine-top blocks low s e (leb 32 p) q) c 8 entries))
+
+    from-kind : filled node || lowest node ≡ true
+    unfolding sizesFine
+    from-kind =
+        ⊎-elim (λ h. in-left (lowest node) (filled-is blocks s c p i d ∙ h))
+        (λ h. in-right (filled node)
+        (lowest-is blocks s c p i d
+        ∙ and-both _ _ h
+        (tests-mono (entryFine blocks false low s) 28 empties (λ e q. fine-empty blocks low s e q) c 8
+        (subst (λ (f : Bool). all (records (entryFine blocks f low s) 28 c 8) ≡ true) (thin-p h) entries))))
+        (or-either full thin sizes)
+
+    from-all : nodeOk level a node ≡ true
+    unfolding nodeOk frontFine restFine nodeFrom
+    from-all =
+        all-cons _ _ from-laid
+        (all-cons _ _ (snd _ _ (fst _ _ (fst _ _ (fst _ _ hd))))
+        (all-cons _ _ (count-is blocks s c p i d a ∙ snd _ _ (fst _ _ (fst _ _ hd)))
+        (all-cons _ _ from-rise
+        (all-cons _ _ from-named
+        (all-cons _ _ (lows-is blocks s c p i d ∙ from-lows)
+        (all-cons _ _ from-above
+        (all-cons _ _ from-kind
+        (all-cons _ _ (leaf-is blocks s c p i d ∙ snd _ _ hd)
+        (all-cons _ _ (agrees-is blocks s c i d a keys64 p ∙ snd _ _ more)
+        (all-cons _ _ (floor-back a node ps is ds (names-are blocks s c p i d) rise-p rise-i rise-d)
+        (all-cons _ _ (blocks-is blocks s c p i d ∙ tests-mono (entryFine blocks (leb 32 p) low s) 28 (λ e. blockOk blocks (be 2 s e)) (λ e q. fine-block blocks low s e (leb 32 p) q) c 8 entries)
+        all-nil)))))))))))
+
+  same : (frontFine level (fewest a) head and bodyFine s blocks a head) ≡ nodeOk level a node
+  same =
+      bool-ext (frontFine level (fewest a) head and bodyFine s blocks a head) (nodeOk level a node) (λ q. from-all (fst _ _ q) (snd _ _ q)) (λ q. pair (to-head q) (to-body q))
+
+-- the node of a block passes exactly if its front and its body pass
+pub node-is : (s : List ℕ) (blocks level : ℕ) (a : Asked) → keyed a ≡ true
+    → (frontFine level (fewest a) (frontOf s) and bodyFine s blocks a (frontOf s)) ≡ nodeOk level a (nodeOf blocks s)
+unfolding frontOf nodeOf
+node-is s blocks level a k = same s blocks level a k (be 1 s 7) (be 1 s 4) (be 1 s 5) (be 1 s 6)
+
+pub used-fits : (level few : ℕ) (h : Front) → frontFine level few h ≡ true → usedBytes version1 (h .c) (h .p) (h .i) (h .d) ≤ 1896
+unfolding frontFine
+used-fits level few h q = leb-true _ _ (snd _ _ (fst _ _ (fst _ _ (fst _ _ (fst _ _ (fst _ _ q))))))
+
+pub used-is : (level few : ℕ) (h : Front) → frontFine level few h ≡ true → h .used ≡ usedBytes version1 (h .c) (h .p) (h .i) (h .d)
+unfolding frontFine
+used-is level few h q = eqb-true _ _ (fst _ _ (fst _ _ (fst _ _ (fst _ _ (fst _ _ (fst _ _ q))))))
+
+-- a call that tests the front, and one that tests the body
+module _ (s : List ℕ) (blocks level : ℕ) (a : Asked) (keys64 : keyed a ≡ true) {f : ℕ} {h : Front} {r : Bool} (ef : f ≡ fewest a) (eh : h ≡ frontOf s)
+    (er : r ≡ frontFine level f h) where
+  front-is : r ≡ frontFine level (fewest a) (frontOf s)
+  front-is = cc
+
+  pub node-stop : not r ≡ true → false ≡ nodeOk level a (nodeOf blocks s)
+  node-stop t = and-stop (bodyFine s blocks a (frontOf s)) front-is t ∙ node-is s blocks level a keys64
+
+  pub node-go : not r ≡ false → {q : Bool} → q ≡ bodyFine s blocks a h → q ≡ nodeOk level a (nodeOf blocks s)
+  node-go t e =
+      and-go (frontFine level (fewest a) (frontOf s)) front-is t (e ∙ ap (λ (x : Front). bodyFine s blocks a x) eh) ∙ node-is s blocks level a keys64

@@ -1,0 +1,16 @@
+pub mod Shut
+pub mod Passes
+pub mod Apart
+pub mod Above
+pub mod Body
+pub mod Views
+pub mod Marks
+pub mod Agree
+pub mod Rules
+pub mod Bridge
+pub mod Heads
+pub mod Clear
+pub mod Making
+pub mod Reading
+pub mod Facts
+pub mod Frames

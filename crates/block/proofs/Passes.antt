@@ -1,0 +1,179 @@
+-- Passes over the records of a block: what is done so far and what is left make up the whole.
+-- Assumes nothing.
+use mathlib.Core.Path.{_≡_, sym, ap, _∙_}
+use mathlib.Core.Bool.{Bool, true, _&&_, and-assoc, and-true}
+use mathlib.Core.List.{List, [], _∷_, map}
+use Prim.Native.Nat.{ℕ, suc, _+_, _*_, _≤_, _<_, min, max}
+use native.Mathlib.Nat.{le-antisymm}
+use native.Mathlib.Omega.{arith}
+use lib.Dec.{leb, ltb}
+use lib.ListN.{length, getD, drop}
+use lib.Seq.{drop-cons, drop-length}
+use native.Mathlib.Numerals.{add-one}
+use Rattle.octets.specs.Lists.{every, records, risingFrom, all, maximum, minimum}
+use Rattle.spot.specs.Keys.{rankKey}
+use Rattle.spot.specs.Spots.{keyAt}
+use Rattle.spot.proofs.Card.{keyAt-lt}
+use Rattle.spot.proofs.Halves.{rank-small}
+use Rattle.block.specs.declared.Points.{Points}
+use Rattle.block.specs.Checks.{keysAt, isZero, under, risesUnder, lastKey, PointsAre}
+use Rattle.octets.proofs.Records.{left, left-all, left-cons, left-none, left-first, none-left}
+use Rattle.block.proofs.Shut.{shuffle}
+
+-- ---- zero bytes
+
+module _ (s : List ℕ) (at : ℕ) where
+  pub zeros-next : (ok : Bool) (i : ℕ) → every isZero (drop at s) ≡ ok && every isZero (drop i s) → i < length s
+      → every isZero (drop at s) ≡ (ok && isZero (getD s i 0)) && every isZero (drop (i + 1) s)
+  zeros-next ok i p h =
+      p ∙ ap (λ (l : List ℕ). ok && every isZero l) (drop-cons s i 0 h)
+      ∙ ap (λ (k : ℕ). ok && (isZero (getD s i 0) && every isZero (drop k s))) (sym (add-one i))
+      ∙ sym (and-assoc ok (isZero (getD s i 0)) (every isZero (drop (i + 1) s)))
+
+  pub zeros-end : (ok : Bool) (i : ℕ) → every isZero (drop at s) ≡ ok && every isZero (drop i s) → i ≤ length s → length s ≤ i
+      → ok ≡ every isZero (drop at s)
+  zeros-end ok i p h k =
+      sym (p ∙ ap (λ (j : ℕ). ok && every isZero (drop j s)) (le-antisymm h k) ∙ ap (λ (l : List ℕ). ok && every isZero l) (drop-length s) ∙ and-true ok)
+
+-- ---- rising keys
+
+module _ (s : List ℕ) (w n at floor : ℕ) where
+  pub rise-none : n ≡ 0 → true ≡ risingFrom floor (keysAt s w n at)
+  rise-none e = sym (ap (risingFrom floor) (none-left (keyAt s) w n at e))
+
+  -- after the test of key `prev` and of those before it
+  abbrev pub RiseInv : Bool → ℕ → ℕ → Type 0
+  RiseInv ok prev i = risingFrom floor (keysAt s w n at) ≡ ok && risingFrom (suc prev) (left (keyAt s) w n at i)
+
+  pub rise-start : {prev : ℕ} → 0 < n → prev ≡ keyAt s at → RiseInv (leb floor prev) prev 1
+  rise-start h e =
+      ap (risingFrom floor) (left-first (keyAt s) w n at h)
+      ∙ ap (λ (k : ℕ). leb floor k && risingFrom (suc k) (left (keyAt s) w n at 1)) (sym e)
+
+  pub rise-next : (ok : Bool) (prev : ℕ) {k : ℕ} (i : ℕ) → RiseInv ok prev i → i < n → k ≡ keyAt s (at + w * i) → RiseInv (ok && ltb prev k) k (i + 1)
+  rise-next ok prev {k} i p h e =
+      p ∙ ap (λ (l : List ℕ). ok && risingFrom (suc prev) l) (left-cons (keyAt s) w n at i h)
+      ∙ ap (λ (x : ℕ). ok && (leb (suc prev) x && risingFrom (suc x) (left (keyAt s) w n at (i + 1)))) (sym e)
+      ∙ sym (and-assoc ok (ltb prev k) (risingFrom (suc k) (left (keyAt s) w n at (i + 1))))
+
+  pub rise-end : (ok : Bool) (prev i : ℕ) → RiseInv ok prev i → n ≤ i → ok ≡ risingFrom floor (keysAt s w n at)
+  rise-end ok prev i p h =
+      sym (p ∙ ap (λ (l : List ℕ). ok && risingFrom (suc prev) l) (left-none (keyAt s) w n at i h) ∙ and-true ok)
+
+  -- the same, with the rank order's bound
+  module _ (low : ℕ) where
+    pub both-none : n ≡ 0 → true ≡ risesUnder floor low (keysAt s w n at)
+    both-none e = sym (ap (risesUnder floor low) (none-left (keyAt s) w n at e))
+
+    abbrev pub BothInv : Bool → ℕ → ℕ → Type 0
+    BothInv ok prev i = risesUnder floor low (keysAt s w n at) ≡ ok && risesUnder (suc prev) low (left (keyAt s) w n at i)
+
+    pub both-start : {prev r : ℕ} → 0 < n → prev ≡ keyAt s at → r ≡ rankKey prev → BothInv (leb floor prev && ltb r low) prev 1
+    both-start {prev} h e g =
+        ap (risesUnder floor low) (left-first (keyAt s) w n at h)
+        ∙ ap (λ (k : ℕ). risesUnder floor low (k ∷ left (keyAt s) w n at 1)) (sym e)
+        ∙ shuffle true (leb floor prev) (under low prev) (risingFrom (suc prev) (left (keyAt s) w n at 1)) (every (under low) (left (keyAt s) w n at 1))
+        ∙ ap (λ (q : ℕ). (leb floor prev && ltb q low) && risesUnder (suc prev) low (left (keyAt s) w n at 1)) (sym g)
+
+    pub both-next : (ok : Bool) (prev : ℕ) {k r : ℕ} (i : ℕ) → BothInv ok prev i → i < n → k ≡ keyAt s (at + w * i) → r ≡ rankKey k
+        → BothInv (ok && (ltb prev k && ltb r low)) k (i + 1)
+    both-next ok prev {k} i p h e g =
+        p ∙ ap (λ (l : List ℕ). ok && risesUnder (suc prev) low l) (left-cons (keyAt s) w n at i h)
+        ∙ ap (λ (x : ℕ). ok && risesUnder (suc prev) low (x ∷ left (keyAt s) w n at (i + 1))) (sym e)
+        ∙ shuffle ok (ltb prev k) (under low k) (risingFrom (suc k) (left (keyAt s) w n at (i + 1))) (every (under low) (left (keyAt s) w n at (i + 1)))
+        ∙ ap (λ (q : ℕ). (ok && (ltb prev k && ltb q low)) && risesUnder (suc k) low (left (keyAt s) w n at (i + 1))) (sym g)
+
+    pub both-end : (ok : Bool) (prev i : ℕ) → BothInv ok prev i → n ≤ i → ok ≡ risesUnder floor low (keysAt s w n at)
+    both-end ok prev i p h =
+        sym (p ∙ ap (λ (l : List ℕ). ok && risesUnder (suc prev) low l) (left-none (keyAt s) w n at i h) ∙ and-true ok)
+
+-- ---- one pass over P
+
+module _ (s : List ℕ) (n at floor : ℕ) where
+  pub record PointsInv (ok : Bool) (prev low high i : ℕ) : Type 0 where
+    pub rise : RiseInv s 12 n at floor ok prev i
+    pub least : minimum lastKey (map rankKey (keysAt s 12 n at)) ≡ min low (minimum lastKey (map rankKey (left (keyAt s) 12 n at i)))
+    pub most : maximum (map rankKey (keysAt s 12 n at)) ≡ max high (maximum (map rankKey (left (keyAt s) 12 n at i)))
+    pub fits : low ≤ lastKey
+
+  pub points-none : {r : Points} → n ≡ 0 → r .ok ≡ true → r .low ≡ lastKey → r .high ≡ 0 → PointsAre floor (keysAt s 12 n at) r
+  points-none e p q h =
+      let g : keysAt s 12 n at ≡ [] = none-left (keyAt s) 12 n at e in
+      record {
+        rise = p ∙ sym (ap (risingFrom floor) g);
+        least = q ∙ sym (ap (λ (l : List ℕ). minimum lastKey (map rankKey l)) g);
+        most = h ∙ sym (ap (λ (l : List ℕ). maximum (map rankKey l)) g);
+      }
+
+  pub points-start : {prev low : ℕ} → 0 < n → prev ≡ keyAt s at → low ≡ rankKey prev → PointsInv (leb floor prev) prev low low 1
+  points-start {prev} {low} h e g =
+      let first : keysAt s 12 n at ≡ prev ∷ left (keyAt s) 12 n at 1 =
+      left-first (keyAt s) 12 n at h ∙ ap (λ (k : ℕ). k ∷ left (keyAt s) 12 n at 1) (sym e)
+      in
+      record {
+        rise = rise-start s 12 n at floor h e;
+        least =
+            ap (λ (l : List ℕ). minimum lastKey (map rankKey l)) first
+            ∙ ap (λ (q : ℕ). min q (minimum lastKey (map rankKey (left (keyAt s) 12 n at 1)))) (sym g);
+        most =
+            ap (λ (l : List ℕ). maximum (map rankKey l)) first
+            ∙ ap (λ (q : ℕ). max q (maximum (map rankKey (left (keyAt s) 12 n at 1)))) (sym g);
+        fits = let b : rankKey prev < 18446744073709551616 = rank-small prev (rw e (keyAt-lt s at)) in omega arith;
+      }
+
+  pub points-next : (ok : Bool) (prev low high : ℕ) {k r low' high' : ℕ} (i : ℕ) → PointsInv ok prev low high i → i < n → k ≡ keyAt s (at + 12 * i)
+      → r ≡ rankKey k → low' ≡ min low r → high' ≡ max high r → PointsInv (ok && ltb prev k) k low' high' (i + 1)
+  points-next ok prev low high {k} {r} {low'} {high'} i p h e g el eh =
+      let next : left (keyAt s) 12 n at i ≡ k ∷ left (keyAt s) 12 n at (i + 1) =
+      left-cons (keyAt s) 12 n at i h ∙ ap (λ (x : ℕ). x ∷ left (keyAt s) 12 n at (i + 1)) (sym e)
+      in
+      let m : ℕ = minimum lastKey (map rankKey (left (keyAt s) 12 n at (i + 1))) in
+      let t : ℕ = maximum (map rankKey (left (keyAt s) 12 n at (i + 1))) in
+      record {
+        rise = rise-next s 12 n at floor ok prev i (p .rise) h e;
+        least =
+            p .least ∙ ap (λ (l : List ℕ). min low (minimum lastKey (map rankKey l))) next
+            ∙ ap (λ (q : ℕ). min low (min q m)) (sym g) ∙ min-swap low r m ∙ ap (λ (q : ℕ). min q m) (sym el);
+        most =
+            p .most ∙ ap (λ (l : List ℕ). max high (maximum (map rankKey l))) next
+            ∙ ap (λ (q : ℕ). max high (max q t)) (sym g) ∙ max-swap high r t ∙ ap (λ (q : ℕ). max q t) (sym eh);
+        fits = let f = p .fits in omega arith;
+      }
+    where
+      min-swap : (a b c : ℕ) → min a (min b c) ≡ min (min a b) c
+      min-swap a b c = omega arith
+
+      max-swap : (a b c : ℕ) → max a (max b c) ≡ max (max a b) c
+      max-swap a b c = omega arith
+
+  pub points-end : {r : Points} (ok : Bool) (prev low high i : ℕ) → PointsInv ok prev low high i → n ≤ i → r .ok ≡ ok → r .low ≡ low → r .high ≡ high
+      → PointsAre floor (keysAt s 12 n at) r
+  points-end ok prev low high i p h eo el eh =
+      let e : left (keyAt s) 12 n at i ≡ [] = left-none (keyAt s) 12 n at i h in
+      let f = p .fits in
+      let lo : min low lastKey ≡ low = omega arith in
+      let hi : max high 0 ≡ high = omega arith in
+      record {
+        rise = eo ∙ rise-end s 12 n at floor ok prev i (p .rise) h;
+        least = el ∙ sym (p .least ∙ ap (λ (l : List ℕ). min low (minimum lastKey (map rankKey l))) e ∙ lo);
+        most = eh ∙ sym (p .most ∙ ap (λ (l : List ℕ). max high (maximum (map rankKey l))) e ∙ hi);
+      }
+
+-- ---- tests at every record
+
+module _ (f : ℕ → Bool) (w n at : ℕ) where
+  abbrev pub TestsInv : Bool → ℕ → Type 0
+  TestsInv ok i = all (records f w n at) ≡ ok && all (left f w n at i)
+
+  pub tests-start : TestsInv true 0
+  tests-start = ap all (left-all f w n at)
+
+  pub tests-next : (ok : Bool) {r : Bool} (i : ℕ) → TestsInv ok i → i < n → r ≡ f (at + w * i) → TestsInv (ok && r) (i + 1)
+  unfolding all
+  tests-next ok {r} i p h e =
+      p ∙ ap (λ (l : List Bool). ok && all l) (left-cons f w n at i h)
+      ∙ ap (λ (b : Bool). ok && (b && all (left f w n at (i + 1)))) (sym e) ∙ sym (and-assoc ok r (all (left f w n at (i + 1))))
+
+  pub tests-end : (ok : Bool) (i : ℕ) → TestsInv ok i → n ≤ i → ok ≡ all (records f w n at)
+  unfolding all
+  tests-end ok i p h = sym (p ∙ ap (λ (l : List Bool). ok && all l) (left-none f w n at i h) ∙ and-true ok)

@@ -1,0 +1,105 @@
+-- The rules of a node, as tests of its numbers.
+-- Assumes nothing.
+use mathlib.Core.Path.{_≡_, refl, sym, ap, ap₂, _∙_}
+use mathlib.Core.Bool.{Bool, true, false, not, cond, _&&_, _||_}
+use mathlib.Core.List.{List, [], _∷_, _++_, append-assoc}
+use Prim.Native.Nat.{ℕ, _+_, _-_, _*_}
+use lib.Dec.{leb, ltb, eqb}
+use lib.ListN.{length}
+use Rattle.octets.specs.Lists.{all, every, records, isEmpty, rest, rising, risingFrom}
+use Rattle.octets.specs.Bytes.{be}
+use Rattle.spot.specs.Spots.{keyAt, spotAt}
+use Rattle.block.specs.declared.Entry.{Entry}
+use Rattle.block.specs.declared.Asked.{Asked}
+use Rattle.block.specs.declared.Asked.the-variants.{Root, Child}
+use Rattle.block.specs.Table.{blockOk, version1}
+use Rattle.block.specs.Node.{Node, nodeFrom, entryAt, firstOpen}
+use Rattle.block.specs.NodeRules.{names, fewest, childCountOk, filled, lowest, leafBuffersEmpty, notBelow, lows, zeroFirst, lowsRise, childBlocksOk}
+use Rattle.block.specs.Checks.{keysAt, countFine, leafFine, floorOf}
+use Rattle.octets.proofs.Tests.{and-left, and-both, every-join}
+use Rattle.octets.proofs.Rising.{rising-rest, rising-from}
+use Rattle.octets.proofs.Records.{length-records, empty-records}
+use Rattle.block.proofs.Shut.{cond-or, all2, all4}
+use Rattle.spot.proofs.Buffers.{keys-records}
+use Rattle.block.proofs.Views.{length-open, empty-open, open-zero, every-entry, rest-lows}
+
+-- ---- ranges
+
+rising-floor : (a : ℕ) (xs : List ℕ) → rising xs ≡ true → every (leb a) xs ≡ true → risingFrom a xs ≡ true
+rising-floor a [] p q = refl
+rising-floor a (x ∷ xs) p q = and-both _ _ (and-left (leb a x) (every (leb a) xs) q) (rising-rest 0 x xs p)
+
+pub floor-forward : (a : Asked) (n : Node) (ks xs : List ℕ) → names n ≡ ks → ((f : ℕ → Bool) → every f ks ≡ true → every f xs ≡ true)
+    → notBelow a n ≡ true → rising xs ≡ true → risingFrom (floorOf a) xs ≡ true
+unfolding notBelow floorOf
+floor-forward Root n ks xs q part h p = p
+floor-forward (Child e) n ks xs q part h p = rising-floor (e .low) xs p (part (λ k. leb (e .low) k) (ap (every (λ k. leb (e .low) k)) (sym q) ∙ h))
+
+pub floor-back : (a : Asked) (n : Node) (xs ys zs : List ℕ) → names n ≡ xs ++ (ys ++ zs) → risingFrom (floorOf a) xs ≡ true → risingFrom (floorOf a) ys ≡ true
+    → risingFrom (floorOf a) zs ≡ true → notBelow a n ≡ true
+unfolding notBelow floorOf
+floor-back Root n xs ys zs q u v w = refl
+floor-back (Child e) n xs ys zs q u v w =
+    let f : ℕ → Bool = λ k. leb (e .low) k in
+    ap (every f) q
+    ∙ every-join f xs (ys ++ zs) (rising-from (e .low) xs u) (every-join f ys zs (rising-from (e .low) ys v) (rising-from (e .low) zs w))
+
+leaf-or : (b x : Bool) → cond b x true ≡ not b || x
+leaf-or true x = refl
+leaf-or false x = refl
+
+module _ (blocks : ℕ) (s : List ℕ) (c p i d : ℕ) where
+  abbrev node : Node
+  node = nodeFrom version1 blocks s c p i d
+
+  abbrev es : List Entry
+  es = firstOpen (records (entryAt s) 28 c 8)
+
+  es-length : length es ≡ c
+  es-length = length-open (records (entryAt s) 28 c 8) ∙ length-records (entryAt s) 28 c 8
+
+  es-empty : isEmpty es ≡ eqb c 0
+  es-empty = empty-open (records (entryAt s) 28 c 8) ∙ empty-records (entryAt s) 28 c 8
+
+  pub names-are : names node ≡ keysAt s 12 p (8 + 28 * c) ++ (keysAt s 12 i (8 + 28 * c + 12 * p) ++ keysAt s 8 d (8 + 28 * c + 12 * (p + i)))
+  unfolding names nodeFrom
+  names-are =
+      ap₂ (λ (x y : List ℕ). (x ++ y) ++ keysAt s 8 d (8 + 28 * c + 12 * (p + i))) (keys-records s 12 p (8 + 28 * c)) (keys-records s 12 i (8 + 28 * c + 12 * p))
+      ∙ append-assoc (keysAt s 12 p (8 + 28 * c)) (keysAt s 12 i (8 + 28 * c + 12 * p)) (keysAt s 8 d (8 + 28 * c + 12 * (p + i)))
+
+  pub count-is : (a : Asked) → childCountOk a node ≡ countFine (be 1 s 3) (fewest a) c
+  unfolding childCountOk nodeFrom countFine
+  count-is a =
+      let b : Bool = eqb (be 1 s 3) 0 in
+      cond-or b (isEmpty es) (all (leb (fewest a) (length es) ∷ leb (length es) 8 ∷ []))
+      ∙ ap₂ (λ (x : Bool) (n : ℕ). (b && x) || (not b && all (leb (fewest a) n ∷ leb n 8 ∷ []))) es-empty es-length
+      ∙ ap (λ (x : Bool). (b && eqb c 0) || (not b && x)) (all2 (leb (fewest a) c) (leb c 8))
+
+  pub filled-is : filled node ≡ (leb 32 p && leb p 64 && leb i 64 && leb d 16)
+  unfolding filled nodeFrom
+  filled-is =
+      rw (length-records (spotAt s) 12 p (8 + 28 * c), length-records (spotAt s) 12 i (8 + 28 * c + 12 * p), length-records (keyAt s) 8 d (8 + 28 * c + 12 * (p + i)))
+      (all4 (leb 32 p) (leb p 64) (leb i 64) (leb d 16))
+
+  pub lowest-is : lowest node ≡ (ltb p 32 && eqb i 0 && eqb d 0) && all (records (λ a. eqb (be 1 s (a + 2)) 0) 28 c 8)
+  unfolding lowest nodeFrom entryAt
+  lowest-is =
+      rw (length-records (spotAt s) 12 p (8 + 28 * c), empty-records (spotAt s) 12 i (8 + 28 * c + 12 * p), empty-records (keyAt s) 8 d (8 + 28 * c + 12 * (p + i)), every-entry (λ e. eqb (e .size) 0) (λ e. refl) s c)
+      (all4 (ltb p 32) (eqb i 0) (eqb d 0) (all (records (λ a. eqb (be 1 s (a + 2)) 0) 28 c 8)))
+
+  pub leaf-is : leafBuffersEmpty node ≡ leafFine (be 1 s 3) i d
+  unfolding leafBuffersEmpty nodeFrom leafFine
+  leaf-is =
+      leaf-or (eqb (be 1 s 3) 0) (all (isEmpty (records (spotAt s) 12 i (8 + 28 * c + 12 * p)) ∷ isEmpty (records (keyAt s) 8 d (8 + 28 * c + 12 * (p + i))) ∷ []))
+      ∙ ap₂ (λ (x y : Bool). not (eqb (be 1 s 3) 0) || all (x ∷ y ∷ [])) (empty-records (spotAt s) 12 i (8 + 28 * c + 12 * p)) (empty-records (keyAt s) 8 d (8 + 28 * c + 12 * (p + i)))
+      ∙ ap (λ (x : Bool). not (eqb (be 1 s 3) 0) || x) (all2 (eqb i 0) (eqb d 0))
+
+  pub lows-is : lowsRise node ≡ rising (keysAt s 28 (c - 1) 40)
+  unfolding lowsRise nodeFrom
+  lows-is =
+      all2 (zeroFirst (lows es)) (rising (rest (lows es)))
+      ∙ ap₂ (λ (x : Bool) (l : List ℕ). x && rising l) (open-zero (records (entryAt s) 28 c 8)) (rest-lows s c)
+
+  pub blocks-is : childBlocksOk node ≡ all (records (λ a. blockOk blocks (be 2 s a)) 28 c 8)
+  unfolding childBlocksOk nodeFrom entryAt
+  blocks-is = every-entry (λ e. blockOk blocks (e .block)) (λ e. refl) s c

@@ -1,0 +1,73 @@
+-- What the lists of a node are, as records of its bytes.
+-- Assumes nothing.
+use mathlib.Core.Path.{_≡_, refl, sym, ap, _∙_}
+use mathlib.Core.Bool.{Bool, true, false, cond, _&&_, _||_}
+use mathlib.Core.List.{List, [], _∷_}
+use Prim.Native.Nat.{ℕ, zero, suc, _+_, _-_, _*_}
+use native.Mathlib.Omega.{arith}
+use lib.Dec.{eqb}
+use lib.ListN.{length}
+use Rattle.octets.specs.Lists.{all, every, records, isEmpty, rest}
+use Rattle.spot.specs.Spots.{keyAt}
+use Rattle.block.specs.declared.Entry.{Entry}
+use Rattle.block.specs.Node.{entryAt, openBelow, firstOpen}
+use Rattle.block.specs.NodeRules.{lows, zeroFirst, tops}
+use Rattle.block.specs.Checks.{keysAt}
+use Rattle.octets.proofs.Tests.{and-both}
+use Rattle.octets.proofs.Records.{every-records, tests-at, tests-make}
+
+-- ---- tests at every record
+
+module _ (f : ℕ → Bool) (w : ℕ) (g : ℕ → Bool) where
+  pub tests-mono : ((a : ℕ) → f a ≡ true → g a ≡ true) → (n at : ℕ) → all (records f w n at) ≡ true → all (records g w n at) ≡ true
+  tests-mono h n at p = tests-make g w n at (λ i l. h (at + w * i) (tests-at f w n at i p l))
+
+  pub tests-both : (n at : ℕ) → all (records f w n at) ≡ true → all (records g w n at) ≡ true → all (records (λ a. f a && g a) w n at) ≡ true
+  tests-both n at p q = tests-make (λ a. f a && g a) w n at (λ i l. and-both _ _ (tests-at f w n at i p l) (tests-at g w n at i q l))
+
+-- ---- entries
+
+pub length-open : (es : List Entry) → length (firstOpen es) ≡ length es
+length-open [] = refl
+length-open (e ∷ es) = refl
+
+pub empty-open : (es : List Entry) → isEmpty (firstOpen es) ≡ isEmpty es
+empty-open [] = refl
+empty-open (e ∷ es) = refl
+
+pub open-zero : (es : List Entry) → zeroFirst (lows (firstOpen es)) ≡ true
+open-zero [] = refl
+open-zero (e ∷ es) = refl
+
+-- a test of entries that doesn't look at the range field
+module _ (g : Entry → Bool) (blind : (e : Entry) → g (openBelow e) ≡ g e) where
+  every-open : (es : List Entry) → every g (firstOpen es) ≡ every g es
+  every-open [] = refl
+  every-open (e ∷ es) = ap (λ (b : Bool). b && every g es) (blind e)
+
+  pub every-entry : (s : List ℕ) (n : ℕ) → every g (firstOpen (records (entryAt s) 28 n 8)) ≡ all (records (λ a. g (entryAt s a)) 28 n 8)
+  every-entry s n = every-open (records (entryAt s) 28 n 8) ∙ every-records g (entryAt s) 28 n 8
+
+-- a test of the tops is one of the entries
+pub every-top : (u : ℕ → Bool) (es : List Entry) → every u (tops es) ≡ every (λ e. eqb (e .size) 0 || u (e .top)) es
+every-top u [] = refl
+every-top u (e ∷ es) =
+    pick (eqb (e .size) 0) ∙ ap (λ (b : Bool). (eqb (e .size) 0 || u (e .top)) && b) (every-top u es)
+  where
+    pick : (b : Bool) → every u (cond b (tops es) (e .top ∷ tops es)) ≡ (b || u (e .top)) && every u (tops es)
+    pick true = refl
+    pick false = refl
+
+-- the lows from the second entry on
+lows-records : (s : List ℕ) (n at : ℕ) → lows (records (entryAt s) 28 n at) ≡ keysAt s 28 n (at + 4)
+unfolding entryAt
+lows-records s zero at = refl
+lows-records s (suc n) at =
+    let e : at + 28 + 4 ≡ at + 4 + 28 = omega arith in
+    ap (λ (l : List ℕ). keyAt s (at + 4) ∷ l) (lows-records s n (at + 28) ∙ ap (λ (k : ℕ). keysAt s 28 n k) e)
+
+pub rest-lows : (s : List ℕ) (c : ℕ) → rest (lows (firstOpen (records (entryAt s) 28 c 8))) ≡ keysAt s 28 (c - 1) 40
+rest-lows s zero = refl
+rest-lows s (suc c) =
+    let e : suc c - 1 ≡ c = omega arith in
+    lows-records s c 36 ∙ ap (λ (k : ℕ). keysAt s 28 k 40) (sym e)

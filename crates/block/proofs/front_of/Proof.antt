@@ -1,0 +1,48 @@
+-- `block::front_of` meets its contract: the fields are those of `frontOf`.
+-- Assumes nothing.
+use denote.Ref.{now}
+use borrow.Author.Needs.{needs}
+use Rattle.octets.proofs.Bytes.{be-one}
+use Rattle.block.specs.Access.{frontOf}
+use Rattle.block.proofs.front_of.Statement.{statement}
+use Rattle.block.proofs.front_of.Tie as tie
+
+read16-requires : tie.Need-read16-requires
+read16-requires c κs = search needs
+
+count-at-requires : tie.Need-count-at-requires
+count-at-requires c κs = search needs
+
+count-at-requires-2 : tie.Need-count-at-requires-2
+count-at-requires-2 c κs = search needs
+
+count-at-requires-3 : tie.Need-count-at-requires-3
+count-at-requires-3 c κs = search needs
+
+count-at-requires-4 : tie.Need-count-at-requires-4
+count-at-requires-4 c κs = search needs
+
+count-at-requires-5 : tie.Need-count-at-requires-5
+count-at-requires-5 c κs = search needs
+
+count-at-requires-6 : tie.Need-count-at-requires-6
+count-at-requires-6 c κs = search needs
+
+returns : tie.Need-returns
+unfolding frontOf
+returns c =
+    let s = now (c .before .before .before .before .before .before .before .before .args .s) in
+    (cc (be-one s 2, be-one s 3, be-one s 4, be-one s 5, be-one s 6, be-one s 7), search needs)
+
+pub front-of-spec : {M : Type 1} → statement M
+front-of-spec =
+    tie.close
+    (tie.spec
+    read16-requires
+    count-at-requires
+    count-at-requires-2
+    count-at-requires-3
+    count-at-requires-4
+    count-at-requires-5
+    count-at-requires-6
+    returns)

@@ -1,0 +1,82 @@
+-- `block::rises_under` meets its contract: the loop's invariant is `BothInv`: what is done and what is left make up the whole.
+-- Assumes nothing.
+use Prim.Native.Nat.{_≤_, _-_}
+use native.Mathlib.Omega.{arith}
+use denote.Ref.{now}
+use borrow.Author.Needs.{needs}
+use Rattle.octets.proofs.Order.{stride}
+use Rattle.block.proofs.Passes.{BothInv, both-none, both-start, both-next, both-end}
+use Rattle.block.proofs.rises_under.Statement.{statement}
+use Rattle.block.proofs.rises_under.Tie as tie
+
+abbrev Inv-loop : tie.InvT-loop
+Inv-loop s at w n floor low prev₀ ok₀ i₀ prev ok i = (1 ≤ i) × (i ≤ n) × BothInv s w n at floor low ok prev i
+
+abbrev μ-loop : tie.MeasureT-loop
+μ-loop s at w n floor low prev₀ ok₀ i₀ prev ok i = n - i
+
+returns : tie.Need-returns Inv-loop μ-loop
+returns c = let a = c .before .before .args in both-none (now (a .s)) (a .w) (a .n) (a .at) (a .floor) (a .low) (c .if1 .taken)
+
+read-key-requires : tie.Need-read-key-requires Inv-loop μ-loop
+read-key-requires c κs = let a = c .before .before .args in omega (arith, stride (a .w) {i = 0} {n = a .n} (omega arith))
+
+rank-key-requires : tie.Need-rank-key-requires Inv-loop μ-loop
+rank-key-requires c κs = search needs
+
+loop-holds : tie.Need-loop-holds Inv-loop μ-loop
+loop-holds c =
+    let a = c .before .before .before .before .args in
+    (omega arith, omega arith, both-start (now (a .s)) (a .w) (a .n) (a .at) (a .floor) (a .low) (omega arith) (c .before .read-key .ensures) (c .rank-key .ensures))
+
+mul-read-key : tie.Need-mul-read-key Inv-loop μ-loop
+mul-read-key c = omega (arith, stride (c .before .before .before .before .before .before .args .w) {i = c .before .loop .i} {n = c .before .before .before .before .before .before .args .n} (omega arith))
+
+add-read-key : tie.Need-add-read-key Inv-loop μ-loop
+add-read-key c = omega (arith, stride (c .before .before .before .before .before .before .args .w) {i = c .before .loop .i} {n = c .before .before .before .before .before .before .args .n} (omega arith))
+
+read-key-requires-2 : tie.Need-read-key-requires-2 Inv-loop μ-loop
+read-key-requires-2 c κs = omega (arith, stride (c .before .before .before .before .before .before .args .w) {i = c .before .loop .i} {n = c .before .before .before .before .before .before .args .n} (omega arith))
+
+rank-key-requires-2 : tie.Need-rank-key-requires-2 Inv-loop μ-loop
+rank-key-requires-2 c κs = search needs
+
+add-i : tie.Need-add-i Inv-loop μ-loop
+add-i c = omega arith
+
+loop-less : tie.Need-loop-less Inv-loop μ-loop
+loop-less c = omega arith
+
+loop-again : tie.Need-loop-again Inv-loop μ-loop
+loop-again c =
+    let a = c .before .before .before .before .before .before .before .before .args in
+    let l = c .before .before .before .loop in (
+      omega arith,
+      omega arith,
+      both-next (now (a .s)) (a .w) (a .n) (a .at) (a .floor) (a .low) (l .ok) (l .prev) (l .i) (l .inv .2) (omega arith) (c .before .read-key2 .ensures) (c .rank-key2 .ensures),
+    )
+
+returns-2 : tie.Need-returns-2 Inv-loop μ-loop
+returns-2 c =
+    let a = c .before .before .before .before .before .before .args in
+    let l = c .before .loop in
+    both-end (now (a .s)) (a .w) (a .n) (a .at) (a .floor) (a .low) (l .ok) (l .prev) (l .i) (l .inv .2) (omega arith)
+
+pub rises-under-spec : {M : Type 1} → statement M
+rises-under-spec =
+    tie.close
+    (tie.spec
+    Inv-loop
+    μ-loop
+    returns
+    read-key-requires
+    rank-key-requires
+    loop-holds
+    mul-read-key
+    add-read-key
+    read-key-requires-2
+    rank-key-requires-2
+    add-i
+    loop-less
+    loop-again
+    returns-2)

@@ -1,0 +1,14 @@
+pub mod Order
+pub mod Tests
+pub mod Sets
+pub mod Once
+pub mod Rising
+pub mod UpTo
+pub mod Extremes
+pub mod Records
+pub mod Bytes
+pub mod Parts
+pub mod Digits
+pub mod Bits
+pub mod Marks
+pub mod Codec

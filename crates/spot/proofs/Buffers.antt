@@ -1,0 +1,200 @@
+-- Lists of spots: what is found, named and kept in order when spots are filtered, joined and put in.
+-- Assumes nothing.
+use mathlib.Core.Path.{_≡_, refl, ap, sym, _∙_}
+use mathlib.Core.Logic.{_⊎_, inl, inr, ⊎-elim}
+use mathlib.Core.Bool.{Bool, true, false, cond, or-true, true≢false}
+use mathlib.Core.List.{List, [], _∷_, _++_, List·Memᴰ, List·Memᴰ·head, List·Memᴰ·tail, List·Memᴰ·not-nil, List·Memᴰ·cases-cons}
+use mathlib.Core.Option.{Option, none, some}
+use Prim.Native.Nat.{ℕ, zero, suc, _+_, _<_, _≤_}
+use native.Mathlib.Omega.{arith}
+use lib.Dec.{eqb, leb}
+use lib.ListN.{length}
+use borrow.Author.Tests.{eq-eqb, ne-eqb, le-leb, lt-leb}
+use Rattle.octets.specs.Lists.{every, keep, has, distinct, rising, risingFrom, records}
+use Rattle.octets.proofs.Order.{same-or-not, less-or-not}
+use Rattle.octets.proofs.Tests.{cond-mem, every-mem, every-make, keep-mem, keep-length}
+use Rattle.octets.proofs.Sets.{distinct-head, distinct-tail, distinct-cons}
+use Rattle.octets.proofs.Rising.{rising-first, rising-rest, rising-make, rising-lower, rising-least, keep-rises as kept-rise}
+use Rattle.spot.specs.declared.Spot.{Spot}
+use Rattle.spot.specs.Spots.{keyAt, spotAt, keys, find, put, putAll}
+use Rattle.spot.specs.Sorted.{only}
+use Rattle.spot.proofs.Canon.{some≢none, cond-none, find-here, find-past, find-put, put-rises, length-put}
+
+-- ---- names
+
+pub keys-length : (ss : List Spot) → length (keys ss) ≡ length ss
+keys-length [] = refl
+keys-length (s ∷ ss) = ap suc (keys-length ss)
+
+pub keys-append : (xs ys : List Spot) → keys (xs ++ ys) ≡ keys xs ++ keys ys
+keys-append [] ys = refl
+keys-append (x ∷ xs) ys = ap (λ (l : List ℕ). x .key ∷ l) (keys-append xs ys)
+
+pub keys-mem : (ss : List Spot) {s : Spot} → List·Memᴰ s ss → List·Memᴰ (s .key) (keys ss)
+keys-mem [] i = absurd (List·Memᴰ·not-nil i)
+keys-mem (x ∷ xs) {s} i =
+    ⊎-elim (λ (e : s ≡ x). List·Memᴰ·head (ap (λ (y : Spot). y .key) e)) (λ j. List·Memᴰ·tail (keys-mem xs j)) (List·Memᴰ·cases-cons i)
+
+pub keys-records : (s : List ℕ) (w n at : ℕ) → keys (records (spotAt s) w n at) ≡ records (keyAt s) w n at
+unfolding spotAt
+keys-records s w zero at = refl
+keys-records s w (suc n) at = ap (λ (l : List ℕ). keyAt s at ∷ l) (keys-records s w n (at + w))
+
+-- what is found is a key, and a key is found
+pub find-mem : (k : ℕ) (ss : List Spot) {a : ℕ} → find k ss ≡ some a → List·Memᴰ k (keys ss)
+find-mem k [] e = absurd (some≢none (sym e))
+find-mem k (s ∷ ss) {a} e =
+    ⊎-elim (λ h. List·Memᴰ·head h) (λ (n : k ≡ s .key → ⊥). List·Memᴰ·tail (find-mem k ss (rw (ne-eqb k (s .key) n) at e))) (same-or-not k (s .key))
+
+pub find-none : (k : ℕ) (ss : List Spot) → (List·Memᴰ k (keys ss) → ⊥) → find k ss ≡ none
+find-none k ss n = go (find k ss) refl
+  where
+    go : (o : Option ℕ) → find k ss ≡ o → find k ss ≡ none
+    go none e = e
+    go (some a) e = absurd (n (find-mem k ss e))
+
+pub mem-find : (k : ℕ) (ss : List Spot) → List·Memᴰ k (keys ss) → (a : ℕ) × (find k ss ≡ some a)
+mem-find k [] i = absurd (List·Memᴰ·not-nil i)
+mem-find k (s ∷ ss) i =
+    ⊎-elim (λ (e : k ≡ s .key). (s .track, rw (eq-eqb k (s .key) e)))
+    (λ (n : k ≡ s .key → ⊥). let r = mem-find k ss (⊎-elim (λ e. absurd (n e)) (λ j. j) (List·Memᴰ·cases-cons i)) in (r .0, rw (ne-eqb k (s .key) n) (r .1)))
+    (same-or-not k (s .key))
+
+-- a spot of a list that rises is found by its key
+pub find-member : (a : ℕ) (ss : List Spot) {s : Spot} → risingFrom a (keys ss) ≡ true → List·Memᴰ s ss → find (s .key) ss ≡ some (s .track)
+find-member a [] h i = absurd (List·Memᴰ·not-nil i)
+find-member a (x ∷ xs) {s} h i =
+    ⊎-elim (λ (e : s ≡ x). find-here (s .key) x xs (ap (λ (y : Spot). y .key) e) ∙ ap (λ (y : Spot). some (y .track)) (sym e))
+    (λ (j : List·Memᴰ s xs).
+    find-past (s .key) x xs (λ e. let l = rising-least (suc (x .key)) (keys xs) (rising-rest a (x .key) (keys xs) h) (keys-mem xs j) in omega arith)
+    ∙ find-member (suc (x .key)) xs (rising-rest a (x .key) (keys xs) h) j)
+    (List·Memᴰ·cases-cons i)
+
+-- a key that fails a test which every key of the list passes is not found
+pub find-fails : (g : ℕ → Bool) (k : ℕ) (ss : List Spot) → every g (keys ss) ≡ true → g k ≡ false → find k ss ≡ none
+find-fails g k ss h e = find-none k ss (λ i. true≢false (sym (every-mem g (keys ss) h i) ∙ e))
+
+-- in two lists one after the other
+pub find-first : (k : ℕ) (xs ys : List Spot) → List·Memᴰ k (keys xs) → find k (xs ++ ys) ≡ find k xs
+find-first k [] ys i = absurd (List·Memᴰ·not-nil i)
+find-first k (x ∷ xs) ys i =
+    ⊎-elim (λ (e : k ≡ x .key). find-here k x (xs ++ ys) e ∙ sym (find-here k x xs e))
+    (λ (n : k ≡ x .key → ⊥).
+    find-past k x (xs ++ ys) n ∙ find-first k xs ys (⊎-elim (λ e. absurd (n e)) (λ j. j) (List·Memᴰ·cases-cons i)) ∙ sym (find-past k x xs n))
+    (same-or-not k (x .key))
+
+pub find-second : (k : ℕ) (xs ys : List Spot) → (List·Memᴰ k (keys xs) → ⊥) → find k (xs ++ ys) ≡ find k ys
+find-second k [] ys n = refl
+find-second k (x ∷ xs) ys n = find-past k x (xs ++ ys) (λ e. n (List·Memᴰ·head e)) ∙ find-second k xs ys (λ i. n (List·Memᴰ·tail i))
+
+-- ---- the spots whose keys pass a test
+
+pub find-only : (g : ℕ → Bool) (k : ℕ) (ss : List Spot) → find k (only g ss) ≡ cond (g k) (find k ss) none
+find-only g k [] = sym (cond-none (g k))
+find-only g k (s ∷ ss) = go (g (s .key)) refl (find-only g k ss)
+  where
+    go : (b : Bool) → g (s .key) ≡ b → find k (only g ss) ≡ cond (g k) (find k ss) none → find k (cond b (s ∷ only g ss) (only g ss)) ≡ cond (g k) (find k (s ∷ ss)) none
+    go true q ih =
+        ⊎-elim (λ (e : k ≡ s .key). rw (ap g e ∙ q, eq-eqb k (s .key) e)) (λ (n : k ≡ s .key → ⊥). rw (ne-eqb k (s .key) n) ih) (same-or-not k (s .key))
+    go false q ih =
+        ⊎-elim (λ (e : k ≡ s .key). ih ∙ rw (ap g e ∙ q)) (λ (n : k ≡ s .key → ⊥). rw (ne-eqb k (s .key) n) ih) (same-or-not k (s .key))
+
+pub keys-only : (g : ℕ → Bool) (ss : List Spot) → keys (only g ss) ≡ keep g (keys ss)
+keys-only g [] = refl
+keys-only g (s ∷ ss) = go (g (s .key)) (keys-only g ss)
+  where
+    go : (b : Bool) → keys (only g ss) ≡ keep g (keys ss) → keys (cond b (s ∷ only g ss) (only g ss)) ≡ cond b (s .key ∷ keep g (keys ss)) (keep g (keys ss))
+    go true h = ap (λ (r : List ℕ). s .key ∷ r) h
+    go false h = h
+
+pub only-rises : (g : ℕ → Bool) (ss : List Spot) → rising (keys ss) ≡ true → rising (keys (only g ss)) ≡ true
+only-rises g ss h = rw (keys-only g ss) (kept-rise g 0 (keys ss) h)
+
+pub only-mem : (g : ℕ → Bool) (ss : List Spot) {k : ℕ} → List·Memᴰ k (keys (only g ss)) → List·Memᴰ k (keys ss) × (g k ≡ true)
+only-mem g ss i = keep-mem g (keys ss) (rw (keys-only g ss) at i)
+
+pub length-only : (g : ℕ → Bool) (ss : List Spot) → length (only g ss) ≤ length ss
+length-only g ss = keep-length _ ss
+
+pub keep-pass : (g : ℕ → Bool) (ss : List Spot) → every g (keys (only g ss)) ≡ true
+keep-pass g ss = every-make g (keys (only g ss)) (λ k i. only-mem g ss i .1)
+
+-- ---- the spots that pass a test
+
+pub kept-key : (f : Spot → Bool) (ss : List Spot) {k : ℕ} → List·Memᴰ k (keys (keep f ss)) → List·Memᴰ k (keys ss)
+kept-key f [] i = i
+kept-key f (s ∷ ss) {k} i = go (f s) i (λ j. kept-key f ss j)
+  where
+    go : (b : Bool) → List·Memᴰ k (keys (cond b (s ∷ keep f ss) (keep f ss))) → (List·Memᴰ k (keys (keep f ss)) → List·Memᴰ k (keys ss)) → List·Memᴰ k (keys (s ∷ ss))
+    go true j ih = ⊎-elim (λ e. List·Memᴰ·head e) (λ h. List·Memᴰ·tail (ih h)) (List·Memᴰ·cases-cons j)
+    go false j ih = List·Memᴰ·tail (ih j)
+
+pub keep-rises : (f : Spot → Bool) (a : ℕ) (ss : List Spot) → risingFrom a (keys ss) ≡ true → risingFrom a (keys (keep f ss)) ≡ true
+keep-rises f a [] h = refl
+keep-rises f a (s ∷ ss) h = go (f s) (keep-rises f (suc (s .key)) ss (rising-rest a (s .key) (keys ss) h))
+  where
+    go : (b : Bool) → risingFrom (suc (s .key)) (keys (keep f ss)) ≡ true → risingFrom a (keys (cond b (s ∷ keep f ss) (keep f ss))) ≡ true
+    go true ih = rising-make a (s .key) (keys (keep f ss)) (rising-first a (s .key) (keys ss) h) ih
+    go false ih = rising-lower a (suc (s .key)) (keys (keep f ss)) (omega (arith, rising-first a (s .key) (keys ss) h)) ih
+
+pub keep-every : (f : Spot → Bool) (g : ℕ → Bool) (ss : List Spot) → every g (keys ss) ≡ true → every g (keys (keep f ss)) ≡ true
+keep-every f g ss h = every-make g (keys (keep f ss)) (λ k i. every-mem g (keys ss) h (kept-key f ss i))
+
+pub keep-distinct : (f : Spot → Bool) (ss : List Spot) → distinct (keys ss) ≡ true → distinct (keys (keep f ss)) ≡ true
+keep-distinct f [] h = refl
+keep-distinct f (s ∷ ss) h = go (f s) (keep-distinct f ss (distinct-tail (s .key) (keys ss) h))
+  where
+    go : (b : Bool) → distinct (keys (keep f ss)) ≡ true → distinct (keys (cond b (s ∷ keep f ss) (keep f ss))) ≡ true
+    go true ih = distinct-cons (s .key) (keys (keep f ss)) (λ i. distinct-head (s .key) (keys ss) h (kept-key f ss i)) ih
+    go false ih = ih
+
+-- ---- a spot put in, and several
+
+pub put-mem : (s : Spot) (ss : List Spot) {k : ℕ} → List·Memᴰ k (keys (put s ss)) → (k ≡ s .key) ⊎ List·Memᴰ k (keys ss)
+put-mem s [] i = ⊎-elim inl (λ j. absurd (List·Memᴰ·not-nil j)) (List·Memᴰ·cases-cons i)
+put-mem s (x ∷ xs) {k} i =
+    ⊎-elim (λ (g : s .key ≤ x .key). List·Memᴰ·cases-cons (rw (le-leb (s .key) (x .key) g) at i))
+    (λ (g : x .key < s .key). ⊎-elim (λ e. inr (List·Memᴰ·head e)) (λ j. ⊎-elim inl (λ h. inr (List·Memᴰ·tail h)) (put-mem s xs j)) (List·Memᴰ·cases-cons (rw (lt-leb (s .key) (x .key) g) at i)))
+    (less-or-not (s .key) (x .key))
+
+-- what is put into a list is new, or was there
+pub put-from : (s : Spot) (xs : List Spot) {x : Spot} → List·Memᴰ x (put s xs) → (x ≡ s) ⊎ List·Memᴰ x xs
+put-from s [] k = List·Memᴰ·cases-cons k
+put-from s (y ∷ ys) k =
+    ⊎-elim (λ c. List·Memᴰ·cases-cons (c .1))
+    (λ j. ⊎-elim (λ e. inr (List·Memᴰ·head e)) (λ i. ⊎-elim inl (λ h. inr (List·Memᴰ·tail h)) (put-from s ys i)) (List·Memᴰ·cases-cons j))
+    (cond-mem (leb (s .key) (y .key)) (s ∷ y ∷ ys) (y ∷ put s ys) k)
+
+pub putAll-from : (own found : List Spot) {x : Spot} → List·Memᴰ x (putAll own found) → List·Memᴰ x own ⊎ List·Memᴰ x found
+putAll-from [] found k = inr k
+putAll-from (s ∷ ss) found k =
+    ⊎-elim (λ e. inl (List·Memᴰ·head e)) (λ j. ⊎-elim (λ i. inl (List·Memᴰ·tail i)) inr (putAll-from ss found j)) (put-from s (putAll ss found) k)
+
+pub put-up : (s : Spot) (ss : List Spot) → rising (keys ss) ≡ true → (List·Memᴰ (s .key) (keys ss) → ⊥) → rising (keys (put s ss)) ≡ true
+put-up s ss h n = put-rises 0 s ss (omega arith) h (find-none (s .key) ss n)
+
+pub find-putAll-own : (k : ℕ) (own acc : List Spot) → List·Memᴰ k (keys own) → find k (putAll own acc) ≡ find k own
+find-putAll-own k [] acc i = absurd (List·Memᴰ·not-nil i)
+find-putAll-own k (s ∷ ss) acc i =
+    find-put k s (putAll ss acc) ∙
+    ⊎-elim (λ (e : k ≡ s .key). rw (eq-eqb k (s .key) e))
+    (λ (n : k ≡ s .key → ⊥). rw (ne-eqb k (s .key) n) (find-putAll-own k ss acc (⊎-elim (λ e. absurd (n e)) (λ j. j) (List·Memᴰ·cases-cons i))))
+    (same-or-not k (s .key))
+
+pub find-putAll-other : (k : ℕ) (own acc : List Spot) → (List·Memᴰ k (keys own) → ⊥) → find k (putAll own acc) ≡ find k acc
+find-putAll-other k [] acc n = refl
+find-putAll-other k (s ∷ ss) acc n =
+    find-put k s (putAll ss acc) ∙ rw (ne-eqb k (s .key) (λ e. n (List·Memᴰ·head e))) (find-putAll-other k ss acc (λ i. n (List·Memᴰ·tail i)))
+
+-- new keys, each once, put in: the list still rises
+pub putAll-rises : (own acc : List Spot) → rising (keys acc) ≡ true → distinct (keys own) ≡ true → ((k : ℕ) → has k (keys own) ≡ true → find k acc ≡ none)
+    → rising (keys (putAll own acc)) ≡ true
+putAll-rises [] acc u d h = u
+putAll-rises (s ∷ ss) acc u d h =
+    put-rises 0 s (putAll ss acc) (omega arith)
+    (putAll-rises ss acc u (distinct-tail (s .key) (keys ss) d) (λ k j. h k (rw j (or-true (eqb k (s .key))))))
+    (find-putAll-other (s .key) ss acc (distinct-head (s .key) (keys ss) d) ∙ h (s .key) (rw (eq-eqb (s .key) (s .key) refl)))
+
+pub length-putAll : (own acc : List Spot) → length (putAll own acc) ≡ length own + length acc
+length-putAll [] acc = omega arith
+length-putAll (s ∷ ss) acc = omega (arith, length-put s (putAll ss acc), length-putAll ss acc)

@@ -1,0 +1,10 @@
+pub mod Signed
+pub mod Halves
+pub mod Orders
+pub mod Card
+pub mod Places
+pub mod Canon
+pub mod Buffers
+pub mod Ranks
+pub mod Stored
+pub mod Sorted

@@ -1,0 +1,148 @@
+-- The order of keys is the order of places and ranks: for numbers of 32 bits, each test of keys is a test of whole numbers. Keys and identities are
+-- each made from the other.
+-- Assumes nothing.
+use mathlib.Core.Path.{_≡_, refl, sym, ap, ap₂, subst, _∙_}
+use mathlib.Core.Logic.{_⊎_, inl, inr, ⊎-elim, _↔_}
+use mathlib.Core.Bool.{Bool, true, false, _&&_, _||_, and-true}
+use mathlib.Core.List.{[], _∷_}
+use Prim.Native.Nat.{ℕ, _+_, _*_, _/_, _%_, _<_}
+use native.Mathlib.Nat.{div-add-mod'}
+use native.Mathlib.Omega.{arith}
+use lib.Arith.{digits-div, digits-mod}
+use lib.Dec.{T, leb, ltb, eqb, ltb→lt, lt→ltb}
+use lib.IntN.{ℤ, pos, negsuc}
+use lib.Signed.{leZ, ltZ, _<ℤ_, ltZ-yes}
+use borrow.Author.Tests.{le-leb}
+use Rattle.octets.specs.Lists.{all}
+use Rattle.octets.proofs.Order.{leb-same}
+use Rattle.spot.specs.Keys.{word, allKeys, biased, unbiased, key, placeOf, rankIn, rankKey, rankOf}
+use Rattle.spot.specs.Query.{query, topQuery, everything, wantsKey, placed, wanted}
+use Rattle.spot.proofs.Signed.{Fits, biased-lt, biased-inj, unbiased-biased, biased-unbiased, unbiased-fits, leZ-biased, ltZ-biased}
+use Rattle.spot.proofs.Halves.{pair-small, high, low, lex-to, lex-from, pair-lt, pair-eq, rank-is}
+
+-- ---- keys and identities
+
+module _ (p r : ℤ) (fr : Fits r) where
+  pub key-place : key p r / word ≡ biased p
+  key-place = digits-div (biased p) (biased-lt r fr)
+
+  pub key-rank : key p r % word ≡ biased r
+  key-rank = digits-mod (biased p) (biased-lt r fr)
+
+  pub rank-first : rankKey (key p r) ≡ biased r * word + biased p
+  rank-first = rank-is (key p r) ∙ ap₂ (λ (x y : ℕ). x * word + y) key-rank key-place
+
+  pub rank-of : Fits p → rankOf (key p r) ≡ biased r
+  rank-of fp = ap (λ (x : ℕ). x / word) rank-first ∙ digits-div (biased r) (biased-lt p fp)
+
+  pub key-small : Fits p → key p r < allKeys
+  key-small fp = pair-small (biased p) (biased r) (biased-lt p fp) (biased-lt r fr)
+
+  pub place-of-key : Fits p → placeOf (key p r) ≡ p
+  unfolding placeOf
+  place-of-key fp = ap unbiased key-place ∙ unbiased-biased p fp
+
+  pub rank-in-key : rankIn (key p r) ≡ r
+  unfolding rankIn
+  rank-in-key = ap unbiased key-rank ∙ unbiased-biased r fr
+
+pub place-fits : (k : ℕ) → k < allKeys → Fits (placeOf k)
+unfolding placeOf
+place-fits k h = unbiased-fits (k / word) (high k h)
+
+pub rank-fits : (k : ℕ) → Fits (rankIn k)
+unfolding rankIn
+rank-fits k = unbiased-fits (k % word) (low k)
+
+pub key-of-parts : (k : ℕ) → key (placeOf k) (rankIn k) ≡ k
+unfolding placeOf rankIn
+key-of-parts k = ap₂ (λ (x y : ℕ). x * word + y) (biased-unbiased (k / word)) (biased-unbiased (k % word)) ∙ div-add-mod' k word
+
+-- both ends
+pub key-lowest : key (negsuc 2147483647) (negsuc 2147483647) ≡ 0
+key-lowest = refl
+
+pub key-highest : key (pos 2147483647) (pos 2147483647) ≡ 18446744073709551615
+key-highest = refl
+
+pub query-whole : query (negsuc 2147483647) (pos 2147483647) (negsuc 2147483647) ≡ everything
+unfolding query
+query-whole = refl
+
+-- ---- the two orders
+
+lt-of : (x y : ℤ) → Fits x → Fits y → biased x < biased y → x <ℤ y
+lt-of x y f g h = ltZ-yes (subst T (sym (ltZ-biased x y f g)) (lt→ltb (biased x) (biased y) h))
+
+lt-to : (x y : ℤ) → Fits x → Fits y → x <ℤ y → biased x < biased y
+lt-to x y f g h = ltb→lt (biased x) (biased y) (subst T (ltZ-biased x y f g) (h .lt))
+
+-- pairs of signed numbers, the first above the second
+lex : (p r q s : ℤ) → Fits p → Fits r → Fits q → Fits s → key p r < key q s ↔ (p <ℤ q) ⊎ ((p ≡ q) × (r <ℤ s))
+lex p r q s fp fr fq fs = (
+  λ h. ⊎-elim (λ l. inl (lt-of p q fp fq l)) (λ l. inr (biased-inj p q fp fq (l .0), lt-of r s fr fs (l .1)))
+      (lex-to (biased p) (biased r) (biased q) (biased s) (biased-lt r fr) (biased-lt s fs) h),
+  λ h. lex-from (biased p) (biased r) (biased q) (biased s) (biased-lt r fr) (biased-lt s fs)
+      (⊎-elim (λ l. inl (lt-to p q fp fq l)) (λ l. inr (ap biased (l .0), lt-to r s fr fs (l .1))) h),
+)
+
+module _ (p r q s : ℤ) (fp : Fits p) (fr : Fits r) (fq : Fits q) (fs : Fits s) where
+  -- "The place order compares places, then ranks"
+  pub key-order : key p r < key q s ↔ (p <ℤ q) ⊎ ((p ≡ q) × (r <ℤ s))
+  key-order = lex p r q s fp fr fq fs
+
+  -- "The rank order compares ranks, then places"
+  pub rank-key-order : rankKey (key p r) < rankKey (key q s) ↔ (r <ℤ s) ⊎ ((r ≡ s) × (p <ℤ q))
+  rank-key-order = rw (rank-first p r fr, rank-first q s fs) (lex r p s q fr fp fs fq)
+
+  -- one identity, one key
+  pub key-inj : key p r ≡ key q s → (p ≡ q) × (r ≡ s)
+  key-inj e =
+      (sym (place-of-key p r fr fp) ∙ ap placeOf e ∙ place-of-key q s fs fq, sym (rank-in-key p r fr) ∙ ap rankIn e ∙ rank-in-key q s fs)
+
+  -- the same as tests
+  pub place-order : ltZ p q || (eqb (biased p) (biased q) && ltZ r s) ≡ ltb (key p r) (key q s)
+  place-order =
+      rw (ltZ-biased p q fp fq, ltZ-biased r s fr fs)
+      (pair-lt (biased p) (biased r) (biased q) (biased s) (biased-lt r fr) (biased-lt s fs))
+
+  pub rank-order : ltZ r s || (eqb (biased r) (biased s) && ltZ p q) ≡ ltb (rankKey (key p r)) (rankKey (key q s))
+  rank-order =
+      rw (ltZ-biased r s fr fs, ltZ-biased p q fp fq)
+      (pair-lt (biased r) (biased p) (biased s) (biased q) (biased-lt p fp) (biased-lt q fq) ∙
+      ap₂ (λ (x y : ℕ). ltb x y) (sym (rank-first p r fr)) (sym (rank-first q s fs)))
+
+  pub same-identity : eqb (biased p) (biased q) && eqb (biased r) (biased s) ≡ eqb (key p r) (key q s)
+  same-identity = pair-eq (biased p) (biased r) (biased q) (biased s) (biased-lt r fr) (biased-lt s fs)
+
+-- ---- queries
+
+places-of : (p r x1 x2 : ℕ) → r < word
+    → leb x1 p && leb p x2 ≡ leb (x1 * word) (p * word + r) && leb (p * word + r) (x2 * word + 4294967295)
+places-of p r x1 x2 h =
+    ap₂ (λ (a b : Bool). a && b) (leb-same x1 p (x1 * word) (p * word + r) (λ l. omega arith) (λ l. omega arith))
+    (leb-same p x2 (p * word + r) (x2 * word + 4294967295) (λ l. omega arith) (λ l. omega arith))
+
+all-three : (a b c : Bool) → a && b && c ≡ all (all (a ∷ b ∷ []) ∷ c ∷ [])
+unfolding all
+all-three true true true = refl
+all-three true true false = refl
+all-three true false c = refl
+all-three false b c = refl
+
+module _ (p r x1 x2 : ℤ) (fp : Fits p) (fr : Fits r) (f1 : Fits x1) (f2 : Fits x2) where
+  in-places : leZ x1 p && leZ p x2
+      ≡ leb (biased x1 * word) (biased p * word + biased r) && leb (biased p * word + biased r) (biased x2 * word + 4294967295)
+  in-places = rw (leZ-biased x1 p f1 fp, leZ-biased p x2 fp f2) (places-of (biased p) (biased r) (biased x1) (biased x2) (biased-lt r fr))
+
+  -- "x1 ≤ place ≤ x2 and rank ≥ y"
+  pub report-wants : (y : ℤ) → Fits y → wanted p r x1 x2 y ≡ wantsKey (query x1 x2 y) (key p r)
+  unfolding wantsKey placed query
+  report-wants y fy =
+      ap₂ (λ (a b : Bool). a && b) in-places (leZ-biased y r fy fr ∙ ap (leb (biased y)) (sym (rank-of p r fr fp))) ∙
+      all-three _ _ _
+
+  -- "x1 ≤ place ≤ x2"
+  pub top-wants : leZ x1 p && leZ p x2 ≡ wantsKey (topQuery x1 x2 0) (key p r)
+  unfolding wantsKey placed topQuery
+  top-wants = sym (and-true _) ∙ ap₂ (λ (a b : Bool). a && b) in-places (sym (le-leb 0 (rankOf (key p r)) (omega arith))) ∙ all-three _ _ _

@@ -1,0 +1,50 @@
+-- `spot::write_key` meets its contract: its two writes are those of `putKey`.
+-- Assumes nothing.
+use borrow.Author.Needs.{needs}
+use mathlib.Core.Path.{ap, ap₂, _∙_}
+use mathlib.Core.List.{List}
+use Prim.Native.Nat.{ℕ, _+_}
+use Rattle.octets.specs.Bytes.{putBe}
+use Rattle.spot.specs.Spots.{putKey}
+use Rattle.spot.proofs.write_key.Statement.{statement}
+use Rattle.spot.proofs.write_key.Tie as tie
+
+turn-requires : tie.Need-turn-requires
+turn-requires c κs = search needs
+
+write32-requires : tie.Need-write32-requires
+write32-requires c κs = search needs
+
+add-write32 : tie.Need-add-write32
+add-write32 c = search needs
+
+turn-requires-2 : tie.Need-turn-requires-2
+turn-requires-2 c κs = search needs
+
+write32-requires-2 : tie.Need-write32-requires-2
+write32-requires-2 c κs = search needs
+
+same-length : tie.Need-same-length
+same-length c = search needs
+
+returns : tie.Need-returns
+unfolding putKey
+returns c =
+    let second = c .before .before in
+    let first = second .before .before .before .before .before in
+    let a = first .before .before .before .before .args in
+    second .write322 .ensures
+    ∙ ap₂ (λ (l : List ℕ) (v : ℕ). putBe 4 l (a .at + 4) v) (first .write32 .ensures ∙ ap (putBe 4 (a .s .now) (a .at)) (first .before .turn .ensures .0))
+    (second .before .turn2 .ensures .0)
+
+pub write-key-spec : {M : Type 1} → statement M
+write-key-spec =
+    tie.close
+    (tie.spec
+    turn-requires
+    write32-requires
+    add-write32
+    turn-requires-2
+    write32-requires-2
+    same-length
+    returns)

@@ -1,0 +1,36 @@
+-- `spot::write_spot` meets its contract: its two writes are those of `putSpot`.
+-- Assumes nothing.
+use borrow.Author.Needs.{needs}
+use mathlib.Core.Path.{ap, _∙_}
+use mathlib.Core.List.{List}
+use Prim.Native.Nat.{ℕ, _+_}
+use Rattle.octets.specs.Bytes.{putBe}
+use Rattle.spot.specs.Spots.{putSpot}
+use Rattle.spot.proofs.write_spot.Statement.{statement}
+use Rattle.spot.proofs.write_spot.Tie as tie
+
+cast-t : tie.Need-cast-t
+cast-t c = search needs
+
+write-key-requires : tie.Need-write-key-requires
+write-key-requires c κs = search needs
+
+add-write32 : tie.Need-add-write32
+add-write32 c = search needs
+
+write32-requires : tie.Need-write32-requires
+write32-requires c κs = search needs
+
+same-length : tie.Need-same-length
+same-length c = search needs
+
+returns : tie.Need-returns
+unfolding putSpot
+returns c =
+    let first = c .before .before .before .before .before .before in
+    let a = first .before .before .before .before .args in
+    c .before .before .write32 .ensures ∙ ap (λ (l : List ℕ). putBe 4 l (a .at + 8) (a .spot .track)) (first .write-key .ensures)
+
+pub write-spot-spec : {M : Type 1} → statement M
+write-spot-spec =
+    tie.close (tie.spec cast-t write-key-requires add-write32 write32-requires same-length returns)
