@@ -1,6 +1,7 @@
 -- What a node block, and the entry that leads to it, can show of the rules in "When a table is sound". Each rule is a test with a name; `nodeOk` is all of them.
 -- Assumes nothing.
-use Prim.Native.Nat.{ℕ}
+use mathlib.Core.Path.{_≡_}
+use Prim.Native.Nat.{ℕ, _+_, _*_, _≤_}
 use mathlib.Core.Bool.{Bool, true, cond, _||_}
 use mathlib.Core.List.{List, [], _∷_, _++_, map}
 use lib.ListN.{length}
@@ -12,7 +13,7 @@ use Rattle.block.specs.declared.Entry.{Entry}
 use Rattle.block.specs.declared.Asked.{Asked}
 use Rattle.block.specs.declared.Asked.the-variants.{Root, Child}
 use Rattle.block.specs.Table.{blockOk}
-use Rattle.block.specs.Node.{Node}
+use Rattle.block.specs.Node.{Node, storeOf}
 
 -- the keys that a node names
 unfoldable pub names : Node → List ℕ
@@ -117,3 +118,10 @@ nodeOk level a n =
     notBelow a n ∷
     childBlocksOk n ∷
     [])
+
+-- a block of a table in which a node stands that keeps the rules of some level
+pub record ValidBlock (t : List ℕ) (b : ℕ) : Type 0 where
+  pub level : ℕ
+  pub asked : Asked
+  pub ok : nodeOk level asked (storeOf t b) ≡ true
+  pub inside : b * 2048 + 2048 ≤ length t

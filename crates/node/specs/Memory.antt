@@ -7,7 +7,7 @@ use mathlib.Core.List.{List, [], _∷_, _++_, List·Memᴰ}
 use lib.ListN.{length, take, drop}
 use Rattle.block.specs.declared.Entry.{Entry}
 use Rattle.block.specs.Table.{blocksOf, block}
-use Rattle.block.specs.Node.{Node, storeOf}
+use Rattle.block.specs.Node.{Node, nodeOf, storeOf}
 use Rattle.block.specs.NodeRules.{zeroFirst, lows}
 use Rattle.buffer.specs.Buffer.{held, named, Ordered, OrderedKeys}
 use Rattle.node.specs.declared.Entries.{Entries}
@@ -64,3 +64,13 @@ pub record Loaded (t : List ℕ) (b : ℕ) (n : NodeValue) : Type 0 where
   pub points : Ordered (n .points)
   pub inserts : Ordered (n .inserts)
   pub deletes : OrderedKeys (n .deletes)
+
+-- e is the i-th of some entries
+pub record EntryAt (es : List Entry) (i : ℕ) (e : Entry) : Type 0 where
+  pub split : es ≡ take i es ++ (e ∷ drop (suc i) es)
+  pub there : List·Memᴰ e es
+
+-- the node in the bytes of a block, whatever the table
+pub record StoredIn (s : List ℕ) (n : NodeValue) : Type 0 where
+  pub is : (room : ℕ) → nodeOf room s ≡ nodeIn room n
+  pub sized : length s ≡ 2048

@@ -2,72 +2,26 @@
 -- Assumes nothing.
 use mathlib.Core.Path.{_≡_}
 use Prim.Native.Nat.{ℕ, suc, _+_, _*_, _≤_, _<_}
-use mathlib.Core.Bool.{Bool, true, false, cond, not, _&&_, _||_}
-use mathlib.Core.List.{List, [], _∷_, _++_, List·Memᴰ}
-use lib.ListN.{length, take, drop, getD}
-use lib.Dec.{ltb, leb}
-use Rattle.octets.specs.Lists.{has, keep, records, isEmpty, rising}
+use mathlib.Core.Bool.{Bool, true, not, _&&_}
+use mathlib.Core.List.{List, [], _∷_}
+use lib.ListN.{length, drop}
+use lib.Dec.{leb}
+use Rattle.octets.specs.Lists.{records, rising}
 use Rattle.octets.specs.Bitmap.{onesBelow}
-use Rattle.octets.specs.Bytes.{be}
-use Rattle.spot.specs.Keys.{rankKey, allKeys}
-use Rattle.spot.specs.Spots.{keys, keyAt, spotAt}
+use Rattle.spot.specs.Spots.{keys, spotAt}
 use Rattle.spot.specs.declared.Spot.{Spot}
 use Rattle.spot.specs.declared.Query.{Query}
-use Rattle.block.specs.declared.Entry.{Entry}
 use Rattle.block.specs.declared.Asked.{Asked}
-use Rattle.block.specs.declared.Asked.the-variants.{Root, Child}
 use Rattle.block.specs.Table.{blocksOf}
-use Rattle.block.specs.Node.{Node, Store, storeOf, entryAt, firstOpen}
-use Rattle.block.specs.NodeRules.{nodeOk}
-use Rattle.tree.specs.Part.{Part, nextLow}
-use Rattle.tree.specs.Walk.{takes, walkTable, isBroken, spots, blocksRead}
+use Rattle.block.specs.Node.{storeOf}
+use Rattle.tree.specs.Part.{Part}
+use Rattle.tree.specs.Walk.{walkTable, isBroken, spots, blocksRead}
+use Rattle.tree.specs.Trace.{obeys, visits, tally, unseen, marked}
 use Rattle.tree.specs.ReadMap.{readMap}
-use Rattle.tree.specs.Trace.{obeys, visits, gains, tally, namedBy, unseen, marked}
-use Rattle.query.specs.declared.Span.{Span}
-use Rattle.query.specs.declared.Path.{Path}
+use Rattle.visit.specs.Visit.{partOf, namedAbove, taken, keysFrom, ceiling, ValidPath, Ancestors}
+use Rattle.visit.specs.declared.Span.{Span}
+use Rattle.visit.specs.declared.Path.{Path}
 use Rattle.query.specs.declared.Tally.{Tally}
-
--- where a span ends: a key, or past every key
-abbrev pub endOf : Span → ℕ
-endOf s = cond (s .endless) allKeys (s .hi)
-
--- the part of the tree at a block
-abbrev pub partOf : ℕ → Asked → Span → Part
-partOf b a s = record { block = b; asked = a; lo = s .lo; hi = endOf s }
-
--- the blocks of the nodes above, from the root on
-abbrev pub above : Path → List ℕ
-above p = take (p .n) (p .blocks)
-
--- the keys that those nodes name
-abbrev pub namedAbove : List ℕ → Path → List ℕ
-namedAbove t p = namedBy (storeOf t) (above p)
-
--- the keys of the changes that wait in a node
-abbrev pub waiting : Node → List ℕ
-waiting n = keys (n .inserts) ++ n .deletes
-
--- what a node's rank keys don't exceed
-abbrev pub ceiling : Asked → ℕ
-ceiling Root = allKeys
-ceiling (Child e) = rankKey (e .top)
-
--- a block of the table in which a node stands that keeps the rules of some level
-pub record Valid (t : List ℕ) (b : ℕ) : Type 0 where
-  pub level : ℕ
-  pub asked : Asked
-  pub ok : nodeOk level asked (storeOf t b) ≡ true
-  pub inside : b * 2048 + 2048 ≤ length t
-
--- the nodes above keep the rules
-pub record ValidPath (t : List ℕ) (p : Path) : Type 0 where
-  pub few : p .n ≤ 7
-  pub valid : (b : ℕ) → List·Memᴰ b (above p) → Valid t b
-
--- and their P lies above this rank key, so that what they name under it is what waits in them
-pub record Ancestors (t : List ℕ) (p : Path) (top : ℕ) : Type 0 where
-  pub path : ValidPath t p
-  pub over : (b : ℕ) → List·Memᴰ b (above p) → (k : ℕ) → List·Memᴰ k (keys (storeOf t b .points)) → top < rankKey k
 
 -- the blocks so far are the ones of the map, with at most 128 spots each
 pub record Tallied (map : List ℕ) (y : Tally) : Type 0 where
@@ -98,45 +52,6 @@ pub record Collected (out out′ : List ℕ) (n : ℕ) (after : List Spot) (r : 
   pub rest : drop (12 * r) out′ ≡ drop (12 * r) out
   pub sized : length out′ ≡ length out
   pub order : ascends 0 (keys after) ≡ true
-
--- the keys of n records of w bytes from at on
-abbrev pub keysFrom : List ℕ → ℕ → ℕ → ℕ → List ℕ
-keysFrom s w n at = records (keyAt s) w n at
-
--- how many of the keys are below k
-abbrev pub belowIn : ℕ → List ℕ → ℕ
-belowIn k ks = length (keep (λ j. ltb j k) ks)
-
--- the span of the i-th child: from lo, where its range begins, up to the next entry's low, or to the end of the parent's
-abbrev pub childSpan : List Entry → ℕ → ℕ → Span → Span
-childSpan es i lo s =
-    record { lo = lo; hi = nextLow (drop (suc i) es) (s .hi); endless = isEmpty (drop (suc i) es) && s .endless }
-
--- the changes that wait in the nodes above
-abbrev pub waitingBy : Store → List ℕ → List ℕ
-waitingBy m [] = []
-waitingBy m (b ∷ bs) = waiting (m b) ++ waitingBy m bs
-
-abbrev pub waitingAbove : List ℕ → Path → List ℕ
-waitingAbove t p = waitingBy (storeOf t) (above p)
-
--- r has those nodes of the path in which a change of a key from lo to hi waits
-pub record Near (t : List ℕ) (p : Path) (lo hi : ℕ) (r : Path) : Type 0 where
-  pub path : ValidPath t r
-  pub same : (k : ℕ) → lo ≤ k → k ≤ hi → has k (waitingAbove t r) ≡ has k (waitingAbove t p)
-
--- the spots of a run of n records from at on that a query takes
-abbrev pub taken : List ℕ → ℕ → ℕ → Query → Path → List Spot
-taken t at n q p = keep (takes q (waitingAbove t p)) (records (spotAt t) 12 n at)
-
--- one of the keys lies from lo to hi
-abbrev pub anyFrom : ℕ → ℕ → List ℕ → Bool
-anyFrom lo hi [] = false
-anyFrom lo hi (k ∷ ks) = (leb lo k && leb k hi) || anyFrom lo hi ks
-
--- the child entries of the node in a block's bytes
-abbrev pub entriesIn : List ℕ → List Entry
-entriesIn s = firstOpen (records (entryAt s) 28 (be 1 s 7) 8)
 
 -- what a walk is handed: a block of the table, a map of its blocks, the nodes above, and the tally so far
 pub record Walkable (t map : List ℕ) (b level : ℕ) (asked : Asked) (path : Path) (y : Tally) : Type 0 where

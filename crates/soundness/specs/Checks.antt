@@ -2,10 +2,9 @@
 -- Assumes nothing.
 use mathlib.Core.Path.{_≡_}
 use Prim.Native.Nat.{ℕ, _≤_, _<_}
-use mathlib.Core.Bool.{Bool, true, false, _&&_}
-use mathlib.Core.List.{List, [], _∷_}
+use mathlib.Core.Bool.{Bool, true, _&&_}
+use mathlib.Core.List.{List}
 use lib.ListN.{length}
-use lib.Dec.{eqb}
 use Rattle.block.specs.Table.{blocksOf}
 use Rattle.block.specs.Header.{headOf}
 use Rattle.block.specs.Node.{storeOf}
@@ -26,13 +25,6 @@ pub record Checkable (t map : List ℕ) (b level : ℕ) : Type 0 where
   pub blocks : blocksOf (length t) ≤ 4096
   pub mapped : length map ≡ 512
   pub deep : level ≤ 6
-
--- two lists of bytes are the same
-abbrev pub sameBytes : List ℕ → List ℕ → Bool
-sameBytes [] [] = true
-sameBytes [] (y ∷ ys) = false
-sameBytes (x ∷ xs) [] = false
-sameBytes (x ∷ xs) (y ∷ ys) = eqb x y && sameBytes xs ys
 
 -- the rules of the tree and of the map in use
 unfoldable pub shapedBelow : List ℕ → Bool

@@ -9,13 +9,14 @@ ghost use Rattle.block.specs.Header.{headOf};
 ghost use Rattle.block.specs.HeaderRules.{headerOk};
 ghost use Rattle.block.specs.Node.{storeOf};
 ghost use Rattle.block.specs.declared.Asked.the-variants.{Root};
+ghost use Rattle.tree.specs.SameList.{sameList};
 ghost use Rattle.tree.specs.Sound.{inRange, sound};
 ghost use Rattle.block.specs.Table.{tableSized};
-ghost use Rattle.query.specs.Walks.{Valid, keysFrom, partOf, endOf};
-ghost use Rattle.soundness.specs.Checks.{Checked, Checkable, sameBytes, shapedBelow};
+ghost use Rattle.visit.specs.Visit.{Valid, keysFrom, partOf, endOf};
+ghost use Rattle.soundness.specs.Checks.{Checked, Checkable, shapedBelow};
 
 // The n rising keys, w bytes apart from at on, lie in the span.
-pub fn keys_within(t: &[u8], at: usize, w: usize, n: usize, span: query::Span) -> bool
+pub fn keys_within(t: &[u8], at: usize, w: usize, n: usize, span: visit::Span) -> bool
     requires { ⌜ (8 ≤ w) × (w ≤ 28) × (n ≤ 64) × (at + w * n ≤ length (now t)) × (rising (keysFrom (now t) w n at) ≡ true) ⌝ }
     ensures { λ r. ⌜ r ≡ every (within (span .lo) (endOf span)) (keysFrom (now (t .entry)) w n at) ⌝ }
 {
@@ -27,7 +28,7 @@ pub fn keys_within(t: &[u8], at: usize, w: usize, n: usize, span: query::Span) -
 }
 
 // The keys of the node at b and its entries' lows lie in the span.
-pub fn in_range(t: &[u8], b: usize, span: query::Span) -> bool
+pub fn in_range(t: &[u8], b: usize, span: visit::Span) -> bool
     requires { ⌜ Valid (now t) b ⌝ }
     ensures { λ r. ⌜ r ≡ inRange (partOf b Root span) (storeOf (now (t .entry)) b) ⌝ }
 {
@@ -53,7 +54,7 @@ pub fn sound_walk(
     b: usize,
     level: usize,
     asked: block::Asked,
-    span: query::Span,
+    span: visit::Span,
 ) -> bool
     requires { ⌜ Checkable (now t) (now seen) b level ⌝ }
     ensures { λ r. ⌜ Checked (now (t .entry)) (now (seen .entry)) (now (seen .exit)) (suc level) (partOf b asked span) r ⌝ }
@@ -75,7 +76,7 @@ pub fn sound_walk(
     let mut i = 0;
     while i < c {
         let e = block::entry_at(&t[from..to], i);
-        let part = query::child_span(&t[from..to], i, c, lo, span);
+        let part = visit::child_span(&t[from..to], i, c, lo, span);
         if !sound_walk(t, seen, e.block, level - 1, block::Asked::Child(e), part) {
             return false;
         }
@@ -88,7 +89,7 @@ pub fn sound_walk(
 // Two maps of blocks are the same.
 pub fn same_map(a: &[u8], b: &[u8]) -> bool
     requires { ⌜ (length (now a) ≡ 512) × (length (now b) ≡ 512) ⌝ }
-    ensures { λ r. ⌜ r ≡ sameBytes (now (a .entry)) (now (b .entry)) ⌝ }
+    ensures { λ r. ⌜ r ≡ sameList (now (a .entry)) (now (b .entry)) ⌝ }
 {
     let mut same = true;
     let mut i = 0;
@@ -107,12 +108,7 @@ fn tree_ok(t: &[u8]) -> bool
     let mut seen = [0u8; 512];
     let root = block::root_of(t);
     let level = block::levels_of(t) - 1;
-    let all = query::Span {
-        lo: 0,
-        hi: 0,
-        endless: true,
-    };
-    if !sound_walk(t, &mut seen, root, level, block::Asked::Root, all) {
+    if !sound_walk(t, &mut seen, root, level, block::Asked::Root, visit::root_span()) {
         return false;
     }
     octets::set_bit(&mut seen, 0);

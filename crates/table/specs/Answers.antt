@@ -8,12 +8,10 @@ use lib.Dec.{ltb, leb, eqb}
 use Rattle.spot.specs.Spots.{spotsBytes}
 use Rattle.spot.specs.declared.Spot.{Spot}
 use Rattle.block.specs.declared.Answer.{Answer}
+use Rattle.block.specs.Answers.{answer}
 use Rattle.block.specs.Table.{tableSized, capacity, mapBytes}
 use Rattle.tree.specs.ReadMap.{readMap}
 use Rattle.table.specs.Calls.{Call, format, add, withdraw, report, top, count, check, rebuild, Lengths}
-
-abbrev pub answer : ℕ → ℕ → Answer
-answer n d = record { number = n; detail = d }
 
 abbrev pub lengths : List ℕ → List ℕ → List ℕ → List ℕ → Lengths
 lengths t out map scratch = record { table = length t; output = length out; readMap = length map; scratch = length scratch }

@@ -13,13 +13,14 @@ use Rattle.spot.specs.Spots.{keys}
 use Rattle.spot.specs.Query.{query, topQuery, everything, wants}
 use Rattle.spot.specs.declared.Spot.{Spot}
 use Rattle.spot.specs.declared.Query.{Query}
+use Rattle.block.specs.Answers.{answer}
 use Rattle.block.specs.declared.Answer.{Answer}
 use Rattle.block.specs.Node.{storeOf}
 use Rattle.tree.specs.Walk.{Walk, broken, walked, spots, blocksRead, walkTable}
 use Rattle.tree.specs.Sound.{sound}
 use Rattle.tree.specs.Top.{topWalk, topTable}
 use Rattle.table.specs.Calls.{Call, report, top, count, check}
-use Rattle.table.specs.Answers.{answer, lengths, lengthNumber, unlessRefused, spotsAnswer, outputLeft, mapLeft, outcomes}
+use Rattle.table.specs.Answers.{lengths, lengthNumber, unlessRefused, spotsAnswer, outputLeft, mapLeft, outcomes}
 
 -- 3 where a rule is broken, else 0 or 5
 unfoldable pub walkAnswer : ℕ → Walk → Answer

@@ -12,6 +12,7 @@ use lib.Dec.{ltb, eqb}
 use lib.IntN.{ℤ}
 use Rattle.octets.specs.Lists.{all, every, has}
 use Rattle.spot.specs.Keys.{key}
+use Rattle.block.specs.Answers.{answer}
 use Rattle.block.specs.declared.Answer.{Answer}
 use Rattle.block.specs.Table.{tableSized, block}
 use Rattle.block.specs.Header.{headOf}
@@ -24,7 +25,7 @@ use Rattle.tree.specs.Reach.{reach, settled}
 use Rattle.tree.specs.Walk.{liveCount}
 use Rattle.tree.specs.Sound.{sound}
 use Rattle.table.specs.Calls.{Call, format, add, withdraw, rebuild}
-use Rattle.table.specs.Answers.{answer, lengths, lengthNumber, unlessRefused, addNumber, outcomes}
+use Rattle.table.specs.Answers.{lengths, lengthNumber, unlessRefused, addNumber, outcomes}
 
 -- "Format makes the empty table, one leaf and one level"
 pub record FormatPost (t : List ℕ) (r : Answer) (t′ : List ℕ) : Type 0 where

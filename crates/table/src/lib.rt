@@ -1,1 +1,94 @@
-// The public calls.
+// The public calls. None has a `requires`: every call ends on any bytes and arguments, and a refused one changes nothing but scratch.
+ghost use mathlib.Core.Path.{_≡_};
+ghost use Rattle.block.specs.Answers.{answer};
+ghost use Rattle.table.specs.Queries.{ReportPost, CountPost, CheckPost};
+ghost use Rattle.table.specs.Updates.{FormatPost};
+
+fn refuse(number: u32) -> block::Answer
+    ensures { λ r. ⌜ r ≡ answer number 0 ⌝ }
+{
+    block::Answer { number, detail: 0 }
+}
+
+// Makes the empty table.
+pub fn format(table: &mut [u8]) -> block::Answer
+    ensures { λ r. ⌜ FormatPost (now (table .entry)) r (now (table .exit)) ⌝ }
+{
+    block::format(table)
+}
+
+// The number of live spots.
+pub fn count(table: &[u8]) -> block::Answer
+    ensures { λ r. ⌜ CountPost (now (table .entry)) r ⌝ }
+{
+    if !block::sized(table.len()) {
+        return refuse(1);
+    }
+    let mut seen = [0u8; 512];
+    let everything = spot::Query {
+        from: 0,
+        last: 18446744073709551615,
+        least: 0,
+    };
+    let all = query::count_table(table, &mut seen, everything);
+    if !all.ok {
+        return refuse(3);
+    }
+    block::Answer {
+        number: 0,
+        detail: all.spots as u32,
+    }
+}
+
+// Whether the table is sound: detail 1 or 0.
+pub fn check(table: &[u8]) -> block::Answer
+    ensures { λ r. ⌜ CheckPost (now (table .entry)) r ⌝ }
+{
+    if !block::sized(table.len()) {
+        return refuse(1);
+    }
+    if !soundness::is_sound(table) {
+        return refuse(0);
+    }
+    block::Answer {
+        number: 0,
+        detail: 1,
+    }
+}
+
+// All live spots with x1 ≤ place ≤ x2 and rank ≥ y, rising in place order; the read map marks the blocks read.
+pub fn report(
+    table: &[u8],
+    x1: i32,
+    x2: i32,
+    y: i32,
+    output: &mut [u8],
+    read_map: &mut [u8],
+) -> block::Answer
+    ensures { λ r. ⌜ ReportPost x1 x2 y (now (table .entry)) (now (output .entry)) (now (read_map .entry)) r (now (output .exit)) (now (read_map .exit)) ⌝ }
+{
+    if !block::sized(table.len()) {
+        return refuse(1);
+    }
+    if read_map.len() != 512 {
+        return refuse(2);
+    }
+    let q = spot::make_query(x1, x2, y);
+    let mut seen = [0u8; 512];
+    let all = query::count_table(table, &mut seen, q);
+    if !all.ok {
+        return refuse(3);
+    }
+    if output.len() / 12 < all.spots {
+        return block::Answer {
+            number: 5,
+            detail: all.spots as u32,
+        };
+    }
+    query::collect_table(table, output, q);
+    octets::copy(&seen, read_map, 512);
+    block::Answer {
+        number: 0,
+        detail: all.spots as u32,
+    }
+}

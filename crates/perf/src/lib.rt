@@ -1,0 +1,52 @@
+// The leaves and the validation of a block, exported for the benchmarks under bench/.
+ghost use mathlib.Core.Path.{_≡_};
+ghost use Prim.Native.Nat.{_+_, _*_, _≤_};
+ghost use lib.ListN.{length};
+
+// The sum, modulo 2^64, of the keys that stand 8 bytes apart in s.
+#[no_mangle]
+pub extern "C" fn perf_sum_keys(s: &[u8]) -> u64 {
+    let n = s.len() / 8;
+    let mut sum: u64 = 0;
+    let mut i = 0;
+    while i < n {
+        sum = std::num::wrapping_add_u64(sum, spot::read_key(s, 8 * i));
+        i += 1;
+    }
+    sum
+}
+
+#[no_mangle]
+pub extern "C" fn perf_zero(s: &mut [u8]) {
+    octets::zero(s, s.len());
+}
+
+#[no_mangle]
+pub extern "C" fn perf_copy(from: &[u8], to: &mut [u8])
+    requires { ⌜ length (now from) ≡ length (now to) ⌝ }
+{
+    octets::copy(from, to, from.len());
+}
+
+// Validates an inner node that an entry of block 1 leads to.
+#[no_mangle]
+pub extern "C" fn perf_node_ok(
+    s: &[u8],
+    blocks: usize,
+    level: usize,
+    size: usize,
+    low: u64,
+    top: u64,
+    bottom: u64,
+) -> bool
+    requires { ⌜ length (now s) ≡ 2048 ⌝ }
+{
+    let e = block::Entry {
+        block: 1,
+        size,
+        low,
+        top,
+        bottom,
+    };
+    block::node_ok(s, blocks, level, block::Asked::Child(e))
+}

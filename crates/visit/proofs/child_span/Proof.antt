@@ -1,0 +1,53 @@
+-- `visit::child_span` meets its contract: the span ends where the next entry begins, or where the parent's does.
+-- Assumes nothing.
+use borrow.Author.Needs.{needs}
+use mathlib.Core.Path.{_≡_, ap, _∙_}
+use mathlib.Core.Bool.{false}
+use Prim.Native.Nat.{ℕ}
+use denote.Ref.{now}
+use native.Mathlib.Omega.{arith}
+use Rattle.visit.proofs.Spans.{span-next, span-last}
+use Rattle.visit.proofs.child_span.Statement.{statement}
+use Rattle.visit.proofs.child_span.Tie as tie
+
+add-if1 : tie.Need-add-if1
+add-if1 c = search needs
+
+add-read-key : tie.Need-add-read-key
+add-read-key c = search needs
+
+mul-read-key : tie.Need-mul-read-key
+mul-read-key c = search needs
+
+add-read-key-2 : tie.Need-add-read-key-2
+add-read-key-2 c = search needs
+
+add-read-key-3 : tie.Need-add-read-key-3
+add-read-key-3 c = search needs
+
+read-key-requires : tie.Need-read-key-requires
+read-key-requires c κs = search needs
+
+returns : tie.Need-returns
+returns c =
+    let a = c .before .before .before .args in
+    ap (λ (k : ℕ). record { lo = a .lo; hi = k; endless = false }) (c .read-key .ensures)
+    ∙ span-next (now (a .s)) (a .i) (a .lo) (a .span) (omega arith)
+
+returns-2 : tie.Need-returns-2
+returns-2 c =
+    let a = c .before .before .args in
+    span-last (now (a .s)) (a .i) (a .lo) (a .span) (omega arith)
+
+pub child-span-spec : {M : Type 1} → statement M
+child-span-spec =
+    tie.close
+    (tie.spec
+    add-if1
+    add-read-key
+    mul-read-key
+    add-read-key-2
+    add-read-key-3
+    read-key-requires
+    returns
+    returns-2)

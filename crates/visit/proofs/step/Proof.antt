@@ -1,0 +1,28 @@
+-- `visit::step` meets its contract: the block stands after those before it.
+-- Assumes nothing.
+use borrow.Author.Needs.{needs}
+use mathlib.Core.Path.{_≡_}
+use Prim.Native.Nat.{_<_}
+use native.Mathlib.Omega.{arith}
+use lib.ListN.{length}
+use Rattle.visit.proofs.Spans.{take-set-more}
+use Rattle.visit.proofs.step.Statement.{statement}
+use Rattle.visit.proofs.step.Tie as tie
+
+mul-next : tie.Need-mul-next
+mul-next c = search needs
+
+element-write-next : tie.Need-element-write-next
+element-write-next c = search needs
+
+add-next : tie.Need-add-next
+add-next c = search needs
+
+returns : tie.Need-returns
+returns c =
+    let long : length (c .args .p .blocks) ≡ 8 = search needs in
+    let h : c .args .p .n < length (c .args .p .blocks) = omega (arith, long) in
+    (search needs, take-set-more (c .args .p .blocks) (c .args .p .n) (c .args .b) h)
+
+pub step-spec : {M : Type 1} → statement M
+step-spec = tie.close (tie.spec mul-next element-write-next add-next returns)

@@ -1,0 +1,257 @@
+// Reading one node during a walk: which of its spots a query takes, given what waits in the nodes above, and which children it reads.
+ghost use mathlib.Core.Path.{_≡_};
+ghost use mathlib.Core.Bool.{true};
+ghost use mathlib.Core.List.{_∷_, [], _++_};
+ghost use Prim.Native.Nat.{_+_, _*_, _≤_, _<_};
+ghost use lib.ListN.{length};
+ghost use Rattle.octets.specs.Lists.{has, rising};
+ghost use Rattle.octets.specs.Bytes.{be};
+ghost use Rattle.spot.specs.Query.{meets};
+ghost use Rattle.block.specs.Node.{storeOf};
+ghost use Rattle.block.specs.declared.Asked.the-variants.{Child};
+ghost use Rattle.tree.specs.Walk.{admits, takesKey, finds};
+ghost use Rattle.visit.specs.Visit.{endOf, partOf, above, waiting, waitingAbove, Valid, ValidPath, Near, keysFrom, belowIn, anyFrom, taken, childSpan, entriesIn};
+
+// A range of keys, from lo up to, and without, hi, or to the end.
+pub struct Span {
+    pub lo: u64,
+    pub hi: u64,
+    pub endless: bool,
+}
+
+// The blocks of the nodes above a node, from the root on.
+pub struct Path {
+    pub n: usize,
+    pub blocks: [usize; 8],
+}
+
+// The range holds a key of the query's places.
+pub fn meets_span(q: spot::Query, s: Span) -> bool
+    ensures { λ r. ⌜ r ≡ meets q (s .lo) (endOf s) ⌝ }
+{
+    (s.endless | (s.lo < s.hi))
+        & (q.from <= q.last)
+        & (s.lo <= q.last)
+        & (s.endless | (q.from < s.hi))
+}
+
+// The child that an entry leads to is read.
+pub fn admits_child(q: spot::Query, e: block::Entry, s: Span) -> bool
+    ensures { λ r. ⌜ r ≡ admits q (partOf (e .block) (Child e) s) ⌝ }
+{
+    (e.size != 0) & (q.least <= spot::rank_key(e.top) / 4294967296) & meets_span(q, s)
+}
+
+// The nodes above a child of the node at b.
+pub fn step(p: Path, b: usize) -> Path
+    requires { ⌜ p .n ≤ 6 ⌝ }
+    ensures { λ r. ⌜ (r .n ≡ p .n + 1) × (above r ≡ above p ++ (b ∷ [])) ⌝ }
+{
+    let n = p.n;
+    let mut next = p;
+    next.blocks[n] = b;
+    next.n = n + 1;
+    next
+}
+
+// How many of the n keys, w bytes apart from at on, are below k; they rise.
+pub fn below(t: &[u8], at: usize, w: usize, n: usize, k: u64) -> usize
+    requires { ⌜ (8 ≤ w) × (w ≤ 12) × (n ≤ 64) × (at + w * n ≤ length (now t)) × (rising (keysFrom (now t) w n at) ≡ true) ⌝ }
+    ensures { λ r. ⌜ (r ≡ belowIn k (keysFrom (now (t .entry)) w n at)) × (r ≤ n) ⌝ }
+{
+    let mut lo = 0;
+    let mut hi = n;
+    while lo < hi {
+        let mid = lo + (hi - lo) / 2;
+        if spot::read_key(t, at + w * mid) < k {
+            lo = mid + 1;
+        } else {
+            hi = mid;
+        }
+    }
+    lo
+}
+
+// One of those keys is k.
+pub fn has_key(t: &[u8], at: usize, w: usize, n: usize, k: u64) -> bool
+    requires { ⌜ (8 ≤ w) × (w ≤ 12) × (n ≤ 64) × (at + w * n ≤ length (now t)) × (rising (keysFrom (now t) w n at) ≡ true) ⌝ }
+    ensures { λ r. ⌜ r ≡ has k (keysFrom (now (t .entry)) w n at) ⌝ }
+{
+    let i = below(t, at, w, n, k);
+    if n <= i {
+        return false;
+    }
+    spot::read_key(t, at + w * i) == k
+}
+
+// A change of k waits in the node at b.
+pub fn waits(t: &[u8], b: usize, k: u64) -> bool
+    requires { ⌜ Valid (now t) b ⌝ }
+    ensures { λ r. ⌜ r ≡ has k (waiting (storeOf (now (t .entry)) b)) ⌝ }
+{
+    let from = b * 2048;
+    let to = from + 2048;
+    let h = block::front_of(&t[from..to]);
+    let ai = from + block::inserts_from(h);
+    let ad = from + block::deletes_from(h);
+    has_key(t, ai, 12, h.i, k) | has_key(t, ad, 8, h.d, k)
+}
+
+// A change of k waits in a node above.
+pub fn named(t: &[u8], p: Path, k: u64) -> bool
+    requires { ⌜ ValidPath (now t) p ⌝ }
+    ensures { λ r. ⌜ r ≡ has k (waitingAbove (now (t .entry)) p) ⌝ }
+{
+    let n = p.n;
+    let mut i = 0;
+    while i < n {
+        let b = p.blocks[i];
+        if waits(t, b, k) {
+            return true;
+        }
+        i += 1;
+    }
+    false
+}
+
+// One of the n rising keys, w bytes apart from at on, lies from lo to hi.
+pub fn meets_keys(t: &[u8], at: usize, w: usize, n: usize, lo: u64, hi: u64) -> bool
+    requires { ⌜ (8 ≤ w) × (w ≤ 12) × (n ≤ 64) × (at + w * n ≤ length (now t)) × (rising (keysFrom (now t) w n at) ≡ true) ⌝ }
+    ensures { λ r. ⌜ r ≡ anyFrom lo hi (keysFrom (now (t .entry)) w n at) ⌝ }
+{
+    let i = below(t, at, w, n, lo);
+    if n <= i {
+        return false;
+    }
+    spot::read_key(t, at + w * i) <= hi
+}
+
+// A change of a key from lo to hi waits in the node at b.
+pub fn waits_between(t: &[u8], b: usize, lo: u64, hi: u64) -> bool
+    requires { ⌜ Valid (now t) b ⌝ }
+    ensures { λ r. ⌜ r ≡ anyFrom lo hi (waiting (storeOf (now (t .entry)) b)) ⌝ }
+{
+    let from = b * 2048;
+    let to = from + 2048;
+    let h = block::front_of(&t[from..to]);
+    let ai = from + block::inserts_from(h);
+    let ad = from + block::deletes_from(h);
+    meets_keys(t, ai, 12, h.i, lo, hi) | meets_keys(t, ad, 8, h.d, lo, hi)
+}
+
+// Those nodes above in which a change of a key from lo to hi waits: most often none, and then no key is looked up.
+pub fn near(t: &[u8], p: Path, lo: u64, hi: u64) -> Path
+    requires { ⌜ ValidPath (now t) p ⌝ }
+    ensures { λ r. ⌜ Near (now (t .entry)) p lo hi r ⌝ }
+{
+    let n = p.n;
+    let mut found = Path {
+        n: 0,
+        blocks: [0; 8],
+    };
+    let mut i = 0;
+    while i < n {
+        let b = p.blocks[i];
+        if waits_between(t, b, lo, hi) {
+            found = step(found, b);
+        }
+        i += 1;
+    }
+    found
+}
+
+// The query takes k: it wants it, and no change of it waits above.
+pub fn takes_key(t: &[u8], q: spot::Query, p: Path, k: u64) -> bool
+    requires { ⌜ ValidPath (now t) p ⌝ }
+    ensures { λ r. ⌜ r ≡ takesKey q (waitingAbove (now (t .entry)) p) k ⌝ }
+{
+    if !spot::wants(q, k) {
+        return false;
+    }
+    !named(t, p, k)
+}
+
+// How many of the n spots from at on the query takes.
+pub fn count_each(t: &[u8], at: usize, n: usize, q: spot::Query, p: Path) -> usize
+    requires { ⌜ (n ≤ 64) × (at + 12 * n ≤ length (now t)) × ValidPath (now t) p ⌝ }
+    ensures { λ r. ⌜ (r ≡ length (taken (now (t .entry)) at n q p)) × (r ≤ n) ⌝ }
+{
+    let mut sum = 0;
+    let mut i = 0;
+    while i < n {
+        let k = spot::read_key(t, at + 12 * i);
+        if takes_key(t, q, p, k) {
+            sum += 1;
+        }
+        i += 1;
+    }
+    sum
+}
+
+// The same of spots that rise.
+pub fn count_run(t: &[u8], at: usize, n: usize, q: spot::Query, p: Path) -> usize
+    requires { ⌜ (n ≤ 64) × (at + 12 * n ≤ length (now t)) × ValidPath (now t) p × (rising (keysFrom (now t) 12 n at) ≡ true) ⌝ }
+    ensures { λ r. ⌜ (r ≡ length (taken (now (t .entry)) at n q p)) × (r ≤ n) ⌝ }
+{
+    if n == 0 {
+        return 0;
+    }
+    let lo = spot::read_key(t, at);
+    let hi = spot::read_key(t, at + 12 * (n - 1));
+    let some = near(t, p, lo, hi);
+    count_each(t, at, n, q, some)
+}
+
+// How many spots the query finds in the node at b.
+pub fn count_own(t: &[u8], b: usize, q: spot::Query, p: Path) -> usize
+    requires { ⌜ Valid (now t) b × ValidPath (now t) p ⌝ }
+    ensures { λ r. ⌜ (r ≡ length (finds q (waitingAbove (now (t .entry)) p) (storeOf (now (t .entry)) b))) × (r ≤ 128) ⌝ }
+{
+    let from = b * 2048;
+    let to = from + 2048;
+    let h = block::front_of(&t[from..to]);
+    let ap = from + block::points_from(h);
+    let ai = from + block::inserts_from(h);
+    count_run(t, ap, h.p, q, p) + count_run(t, ai, h.i, q, p)
+}
+
+// The span of the i-th of the c children of the node in s, which begins at lo.
+pub fn child_span(s: &[u8], i: usize, c: usize, lo: u64, span: Span) -> Span
+    requires { ⌜ (length (now s) ≡ 2048) × (i < c) × (c ≤ 8) × (c ≡ be 1 (now s) 7) ⌝ }
+    ensures { λ r. ⌜ r ≡ childSpan (entriesIn (now (s .entry))) i lo span ⌝ }
+{
+    if i + 1 < c {
+        let hi = spot::read_key(s, 8 + 28 * (i + 1) + 4);
+        return Span {
+            lo,
+            hi,
+            endless: false,
+        };
+    }
+    Span {
+        lo,
+        hi: span.hi,
+        endless: span.endless,
+    }
+}
+
+// The range of the root: it has no ends.
+pub fn root_span() -> Span
+    ensures { λ r. ⌜ (r .lo ≡ 0) × (endOf r ≡ 18446744073709551616) ⌝ }
+{
+    Span {
+        lo: 0,
+        hi: 0,
+        endless: true,
+    }
+}
+
+// No nodes above: the root.
+pub fn no_path() -> Path
+    ensures { λ r. ⌜ (r .n ≡ 0) × (above r ≡ []) ⌝ }
+{
+    Path {
+        n: 0,
+        blocks: [0; 8],
+    }
+}
