@@ -4,7 +4,7 @@ use mathlib.Core.Path.{_≡_}
 use Prim.Native.Nat.{ℕ, _≤_}
 use mathlib.Core.Bool.{true, not}
 use mathlib.Core.List.{List, List·Memᴰ}
-use mathlib.Core.Option.{some}
+use mathlib.Core.Option.{Option, none, some}
 use lib.ListN.{length, take}
 use lib.Dec.{ltb}
 use Rattle.octets.specs.Lists.{has, keep, rising}
@@ -14,6 +14,8 @@ use Rattle.spot.specs.Sorted.{only}
 use Rattle.spot.specs.declared.Spot.{Spot}
 use Rattle.buffer.specs.declared.SpotBuffer.{SpotBuffer}
 use Rattle.buffer.specs.declared.KeyBuffer.{KeyBuffer}
+use Rattle.buffer.specs.declared.Found.{Found}
+use Rattle.buffer.specs.declared.Found.the-variants.{At, Nothing}
 
 -- the spots of a buffer, and the keys of one of deletes
 abbrev pub held : SpotBuffer → List Spot
@@ -47,3 +49,12 @@ pub record Highest (ss : List Spot) (s : Spot) : Type 0 where
 -- two waiting buffers as one: where both have a key, the later one's spot stays
 abbrev pub merged : List Spot → List Spot → List Spot
 merged later earlier = putAll later (only (λ k. not (has k (keys later))) earlier)
+
+-- the spot that stands for what is past a list's end
+abbrev pub blank : Spot
+blank = record { key = 0; track = 0 }
+
+-- what a search gives back
+abbrev pub found : Found → Option ℕ
+found (At a) = some a
+found Nothing = none

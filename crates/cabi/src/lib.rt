@@ -1,0 +1,47 @@
+// The calls for C and Rust: a slice is a pointer and a length, the answer is number · 2^32 + detail.
+ghost use mathlib.Core.Path.{_≡_};
+ghost use Prim.Native.Nat.{_+_, _*_};
+ghost use Rattle.table.specs.Queries.{ReportPost, CountPost, CheckPost};
+ghost use Rattle.table.specs.Updates.{FormatPost};
+ghost use Rattle.cabi.specs.Packed.{Packed};
+
+fn pack(a: block::Answer) -> u64
+    ensures { λ r. ⌜ r ≡ a .number * 4294967296 + a .detail ⌝ }
+{
+    (a.number as u64) * 4294967296 + (a.detail as u64)
+}
+
+#[no_mangle]
+pub extern "C" fn spot_format(table: &mut [u8]) -> u64
+    ensures { λ r. ⌜ Packed r (λ a. FormatPost (now (table .entry)) a (now (table .exit))) ⌝ }
+{
+    pack(table::format(table))
+}
+
+#[no_mangle]
+pub extern "C" fn spot_count(table: &[u8]) -> u64
+    ensures { λ r. ⌜ Packed r (CountPost (now (table .entry))) ⌝ }
+{
+    pack(table::count(table))
+}
+
+#[no_mangle]
+pub extern "C" fn spot_check(table: &[u8]) -> u64
+    ensures { λ r. ⌜ Packed r (CheckPost (now (table .entry))) ⌝ }
+{
+    pack(table::check(table))
+}
+
+#[no_mangle]
+pub extern "C" fn spot_report(
+    table: &[u8],
+    x1: i32,
+    x2: i32,
+    y: i32,
+    output: &mut [u8],
+    read_map: &mut [u8],
+) -> u64
+    ensures { λ r. ⌜ Packed r (λ a. ReportPost x1 x2 y (now (table .entry)) (now (output .entry)) (now (read_map .entry)) a (now (output .exit)) (now (read_map .exit))) ⌝ }
+{
+    pack(table::report(table, x1, x2, y, output, read_map))
+}

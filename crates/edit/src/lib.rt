@@ -1,0 +1,211 @@
+// Changes to a node in memory: batches, spilling, halves, and the rounds of fill.
+ghost use mathlib.Core.Path.{_≡_};
+ghost use mathlib.Core.Bool.{false};
+ghost use Prim.Native.Nat.{_+_, _≤_, _<_};
+ghost use lib.ListN.{take, drop};
+ghost use Rattle.octets.proofs.Sets.{Apart};
+ghost use Rattle.block.specs.Node.{firstOpen};
+ghost use lib.Dec.{ltb, leb};
+ghost use Rattle.octets.specs.Lists.{has, keep};
+ghost use Rattle.spot.specs.Spots.{keys, put};
+ghost use Rattle.spot.specs.Sorted.{only, but, lower};
+ghost use Rattle.buffer.specs.Buffer.{held, named};
+ghost use Rattle.node.specs.Memory.{entriesOf};
+ghost use Rattle.update.specs.Held.{insertOne, deleteOne, insertAll, deleteAll};
+ghost use Rattle.edit.specs.Edits.{heldIn, Tidy, Edited, SpillPost, Threshold, Half, EntryFor, BestChild};
+
+// One spot inserted: into P where its rank key is at least r, else it waits in I.
+pub fn insert_one(n: node::NodeValue, s: spot::Spot, r: u64) -> node::NodeValue
+    requires { ⌜ Tidy n × (n .points .n < 80) × (n .inserts .n < 80) ⌝ }
+    ensures { λ x. ⌜ Edited n x (insertOne r s (heldIn n)) (n .points .n + 1) (n .inserts .n + 1) (n .deletes .n) ⌝ }
+{
+    let k = s.key;
+    let mut next = n;
+    next.points = buffer::without(n.points, k);
+    next.inserts = buffer::without(n.inserts, k);
+    next.deletes = buffer::without_key(n.deletes, k);
+    if r <= spot::rank_key(k) {
+        next.points = buffer::put(next.points, s);
+    } else {
+        next.inserts = buffer::put(next.inserts, s);
+    }
+    next
+}
+
+// One key deleted: done where its rank key is at least r, else the deletion waits in D.
+pub fn delete_one(n: node::NodeValue, k: u64, r: u64) -> node::NodeValue
+    requires { ⌜ Tidy n × (n .deletes .n < 32) ⌝ }
+    ensures { λ x. ⌜ Edited n x (deleteOne r k (heldIn n)) (n .points .n) (n .inserts .n) (n .deletes .n + 1) ⌝ }
+{
+    let mut next = n;
+    next.points = buffer::without(n.points, k);
+    next.inserts = buffer::without(n.inserts, k);
+    next.deletes = buffer::without_key(n.deletes, k);
+    if spot::rank_key(k) < r {
+        next.deletes = buffer::put_key(next.deletes, k);
+    }
+    next
+}
+
+// A batch of inserts, the last first.
+pub fn insert_all(n: node::NodeValue, batch: buffer::SpotBuffer, r: u64) -> node::NodeValue
+    requires { ⌜ Tidy n × (batch .n ≤ 80) × (n .points .n + batch .n ≤ 80) × (n .inserts .n + batch .n ≤ 80) ⌝ }
+    ensures { λ x. ⌜ Edited n x (insertAll r (held batch) (heldIn n)) (n .points .n + batch .n) (n .inserts .n + batch .n) (n .deletes .n) ⌝ }
+{
+    let mut next = n;
+    let mut i = batch.n;
+    while 0 < i {
+        i -= 1;
+        let s = batch.spots[i];
+        next = insert_one(next, s, r);
+    }
+    next
+}
+
+// A batch of deletes.
+pub fn delete_all(n: node::NodeValue, batch: buffer::KeyBuffer, r: u64) -> node::NodeValue
+    requires { ⌜ Tidy n × (batch .n ≤ 32) × (n .deletes .n + batch .n ≤ 32) ⌝ }
+    ensures { λ x. ⌜ Edited n x (deleteAll r (named batch) (heldIn n)) (n .points .n) (n .inserts .n) (n .deletes .n + batch .n) ⌝ }
+{
+    let mut next = n;
+    let mut i = batch.n;
+    while 0 < i {
+        i -= 1;
+        let k = batch.keys[i];
+        next = delete_one(next, k, r);
+    }
+    next
+}
+
+// While P is over 64, its lowest in rank order goes to I.
+pub fn spill(n: node::NodeValue) -> node::NodeValue
+    requires { ⌜ Tidy n × (n .points .n + n .inserts .n ≤ 144) × Apart (keys (held (n .points))) (keys (held (n .inserts))) ⌝ }
+    ensures { λ x. ⌜ SpillPost n x ⌝ }
+{
+    let mut next = n;
+    while 64 < next.points.n {
+        let low = buffer::lowest(next.points);
+        next.points = buffer::without(next.points, low.key);
+        next.inserts = buffer::put(next.inserts, low);
+    }
+    next
+}
+
+// The rank key from which on a change belongs to P: P's lowest, or 0 where nothing lies below.
+pub fn threshold(n: node::NodeValue) -> u64
+    requires { ⌜ Tidy n ⌝ }
+    ensures { λ r. ⌜ Threshold n r ⌝ }
+{
+    if (n.level == 0) | (n.points.n < 32) {
+        return 0;
+    }
+    spot::rank_key(buffer::lowest(n.points).key)
+}
+
+// The keys of the node below the separating key, with the first k entries; and the others.
+pub fn left_half(n: node::NodeValue, k: usize, sep: u64) -> node::NodeValue
+    requires { ⌜ Tidy n × (k ≤ n .entries .n) × (n .entries .n ≤ 8) ⌝ }
+    ensures { λ x. ⌜ Half n x (λ j. ltb j sep) (take k (entriesOf (n .entries))) ⌝ }
+{
+    node::NodeValue {
+        level: n.level,
+        entries: node::entries_before(n.entries, k),
+        points: buffer::below_key(n.points, sep),
+        inserts: buffer::below_key(n.inserts, sep),
+        deletes: buffer::keys_below(n.deletes, sep),
+    }
+}
+
+pub fn right_half(n: node::NodeValue, k: usize, sep: u64) -> node::NodeValue
+    requires { ⌜ Tidy n × (k < n .entries .n) × (n .entries .n ≤ 8) ⌝ }
+    ensures { λ x. ⌜ Half n x (λ j. leb sep j) (firstOpen (drop k (entriesOf (n .entries)))) ⌝ }
+{
+    let rest = node::entries_from(n.entries, k);
+    let mut first = node::entry(rest, 0);
+    first.low = 0;
+    node::NodeValue {
+        level: n.level,
+        entries: node::replace(rest, 0, first),
+        points: buffer::from_key(n.points, sep),
+        inserts: buffer::from_key(n.inserts, sep),
+        deletes: buffer::keys_from(n.deletes, sep),
+    }
+}
+
+// The entry of a node that stands in block b.
+pub fn entry_for(b: usize, low: u64, n: node::NodeValue) -> block::Entry
+    requires { ⌜ Tidy n ⌝ }
+    ensures { λ e. ⌜ EntryFor b low n e ⌝ }
+{
+    let size = n.points.n;
+    if size == 0 {
+        return block::Entry {
+            block: b,
+            size: 0,
+            low,
+            top: 0,
+            bottom: 0,
+        };
+    }
+    block::Entry {
+        block: b,
+        size,
+        low,
+        top: buffer::highest(n.points).key,
+        bottom: buffer::lowest(n.points).key,
+    }
+}
+
+// The child with the highest top in rank order, or the number of entries where no child has points.
+pub fn best_child(es: node::Entries) -> usize
+    requires { ⌜ es .n ≤ 8 ⌝ }
+    ensures { λ i. ⌜ BestChild (entriesOf es) i ⌝ }
+{
+    let n = es.n;
+    let mut best = n;
+    let mut high = 0;
+    let mut i = 0;
+    while i < n {
+        let e = es.list[i];
+        let r = spot::rank_key(e.top);
+        if (e.size != 0) & ((best == n) | (high < r)) {
+            best = i;
+            high = r;
+        }
+        i += 1;
+    }
+    best
+}
+
+// A spot moved from I to P; deletes at or above it are done with.
+pub fn raise_insert(n: node::NodeValue, s: spot::Spot) -> node::NodeValue
+    requires { ⌜ Tidy n × (n .points .n < 80) × (has (s .key) (keys (held (n .points))) ≡ false) ⌝ }
+    ensures { λ x. ⌜ Edited n x (record { points = put s (held (n .points)); inserts = only (but (s .key)) (held (n .inserts)); deletes = keep (lower (s .key)) (named (n .deletes)) }) (n .points .n + 1) (n .inserts .n) (n .deletes .n) ⌝ }
+{
+    let mut next = n;
+    next.points = buffer::put(n.points, s);
+    next.inserts = buffer::without(n.inserts, s.key);
+    next.deletes = buffer::keys_under(n.deletes, s.key);
+    next
+}
+
+// A spot of a child put into P.
+pub fn raise_child(n: node::NodeValue, s: spot::Spot) -> node::NodeValue
+    requires { ⌜ Tidy n × (n .points .n < 80) × (has (s .key) (keys (held (n .points))) ≡ false) ⌝ }
+    ensures { λ x. ⌜ Edited n x (record { points = put s (held (n .points)); inserts = held (n .inserts); deletes = keep (lower (s .key)) (named (n .deletes)) }) (n .points .n + 1) (n .inserts .n) (n .deletes .n) ⌝ }
+{
+    let mut next = n;
+    next.points = buffer::put(n.points, s);
+    next.deletes = buffer::keys_under(n.deletes, s.key);
+    next
+}
+
+// A spot of a child that a waiting delete names: both go.
+pub fn drop_child(n: node::NodeValue, k: u64) -> node::NodeValue
+    requires { ⌜ Tidy n ⌝ }
+    ensures { λ x. ⌜ Edited n x (record { points = held (n .points); inserts = held (n .inserts); deletes = keep (lower k) (named (n .deletes)) }) (n .points .n) (n .inserts .n) (n .deletes .n) ⌝ }
+{
+    let mut next = n;
+    next.deletes = buffer::keys_under(n.deletes, k);
+    next
+}
