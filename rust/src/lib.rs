@@ -1,5 +1,6 @@
 //! Safe functions over the proved spot table. Tables, outputs and maps are plain slices that the caller lends.
 
+pub mod plain;
 pub mod reference;
 
 pub const BLOCK: usize = 2048;

@@ -2,266 +2,38 @@
 -- Assumes nothing.
 use mathlib.Core.Path.{_≡_, refl, ap, sym, subst, _∙_}
 use mathlib.Core.Logic.{_⊎_, inl, inr, ⊎-elim}
-use mathlib.Core.Bool.{Bool, true, false, cond, _&&_, _||_, true≢false}
-use mathlib.Core.List.{List, [], _∷_, _++_, map}
-use mathlib.Core.Option.{Option, none, some}
-use Prim.Native.Nat.{ℕ, zero, suc, _+_, _*_, _≤_, _<_, max}
+use mathlib.Core.Bool.{Bool, true, false, cond, _&&_, true≢false}
+use mathlib.Core.List.{List, [], _∷_, _++_}
+use mathlib.Core.Option.{none, some}
+use Prim.Native.Nat.{ℕ, suc, _+_, _*_, _≤_, _<_}
 use native.Mathlib.Omega.{arith}
 use lib.ListN.{length}
 use lib.Dec.{leb, ltb, eqb}
-use borrow.Author.Tests.{leb-true, ltb-true, eqb-true, le-leb, lt-ltb, le-ltb, eq-eqb, ne-eqb}
-use Rattle.octets.specs.Lists.{all, every, has, isEmpty, rest, rising, risingFrom, maximum, upTo}
+use borrow.Author.Tests.{leb-true, ltb-true, le-leb, lt-ltb, le-ltb, eq-eqb, ne-eqb}
+use Rattle.octets.specs.Lists.{all, every, isEmpty, rest, rising, risingFrom}
+use Rattle.octets.proofs.Tests.{all-cons, all-nil, and-left, and-right, and-both, every-imp, every-two, every-left, every-right, every-join}
+use Rattle.octets.proofs.Rising.{rising-rest, rising-make, rising-lower, rising-from, rising-left, rising-right, rising-before}
+use Rattle.octets.proofs.UpTo.{upTo-more}
 use Rattle.spot.specs.declared.Spot.{Spot}
 use Rattle.spot.specs.Spots.{keys, find}
 use Rattle.spot.specs.Keys.{rankKey, within}
+use Rattle.spot.proofs.Places.{within-yes, within-low, within-from, within-to}
+use Rattle.spot.proofs.Buffers.{keys-append, find-fails}
+use Rattle.spot.proofs.Canon.{cond-none}
 use Rattle.block.specs.declared.Entry.{Entry}
-use Rattle.block.specs.Node.{Node, Store}
+use Rattle.block.specs.Node.{Store}
 use Rattle.block.specs.Table.{blockOk}
 use Rattle.block.specs.declared.Asked.{Asked}
-use Rattle.block.specs.declared.Asked.the-variants.{Root, Child}
-use Rattle.block.specs.NodeRules.{names, lows, zeroFirst, tops, nodeOk, childCountOk, fewest, childBlocksOk, buffersRise, namedOnce, lowsRise, pointsAbove, filled, lowest, leafBuffersEmpty, agrees, notBelow, rankKeys}
-use Rattle.tree.specs.Part.{Part, nextLow, parts, children}
-use Rattle.tree.specs.Lookup.{orElse, down, lookup}
+use Rattle.block.specs.declared.Asked.the-variants.{Child}
+use Rattle.block.specs.NodeRules.{lows, tops, childCountOk, fewest, agrees}
+use Rattle.tree.specs.Part.{Part, nextLow, parts}
+use Rattle.tree.specs.Lookup.{down, lookup}
 use Rattle.tree.specs.Reach.{gather, reach, settled}
-use Rattle.tree.specs.Sound.{soundAt, inRange}
-use Rattle.rebuild.specs.Build.{nodes, fansOk, band, builtNode, OwnBand, Starts, Shares, Built}
-use Rattle.tree.proofs.Laws.{all-at, all-cons, all-nil, and-left, and-right, and-both}
-use Rattle.tree.proofs.Canon.{less-or-not}
-use Rattle.tree.proofs.Places.{within-yes, within-low, within-high, within-from, within-to}
-use Rattle.tree.proofs.Below.{entry-top}
-use Rattle.tree.proofs.Live.{find-keep, find-append, keys-append}
-use Rattle.tree.proofs.Rises.{append-nil, every-imp, every-two, every-left, every-right, every-join, rising-rest, rising-make, rising-lower, rising-from, rising-left, rising-right, rising-before, rising-distinct, keep-rises, keep-every, keep-pass, find-fails, upTo-more}
-
--- bands
-find-band : (c t k : ℕ) (ys : List Spot) → find k (band c t ys) ≡ cond (within c t (rankKey k)) (find k ys) none
-unfolding band
-find-band c t k ys = find-keep (λ j. within c t (rankKey j)) k ys
-
-band-rises : (c t a : ℕ) (ys : List Spot) → risingFrom a (keys ys) ≡ true → risingFrom a (keys (band c t ys)) ≡ true
-unfolding band
-band-rises c t a ys h = keep-rises (λ s. within c t (rankKey (s .key))) a ys h
-
-pub band-every : (c t : ℕ) (g : ℕ → Bool) (ys : List Spot) → every g (keys ys) ≡ true → every g (keys (band c t ys)) ≡ true
-unfolding band
-band-every c t g ys h = keep-every (λ s. within c t (rankKey (s .key))) g ys h
-
-band-ranks : (c t : ℕ) (ys : List Spot) → every (λ k. within c t (rankKey k)) (keys (band c t ys)) ≡ true
-unfolding band
-band-ranks c t ys = keep-pass (λ k. within c t (rankKey k)) ys
-
--- a list of spots of rank keys from c up to t has a highest below t, or is empty
-low-maximum : (c t : ℕ) (ps : List Spot) → every (λ k. within c t (rankKey k)) (keys ps) ≡ true → (length ps ≡ 0) ⊎ (maximum (map rankKey (keys ps)) < t)
-low-maximum c t [] h = inl refl
-low-maximum c t (s ∷ ss) h =
-    let g = within-to c t (rankKey (s .key)) (and-left (within c t (rankKey (s .key))) (every (λ k. within c t (rankKey k)) (keys ss)) h) in
-    ⊎-elim (λ (e : length ss ≡ 0). inr (only ss e g)) (λ l. inr (omega arith))
-    (low-maximum c t ss (and-right (within c t (rankKey (s .key))) (every (λ k. within c t (rankKey k)) (keys ss)) h))
-  where
-    only : (ss : List Spot) → length ss ≡ 0 → rankKey (s .key) < t → max (rankKey (s .key)) (maximum (map rankKey (keys ss))) < t
-    only [] e g = omega arith
-    only (x ∷ xs) e g = let z : ⊥ = omega arith in absurd z
-
--- an entry that agrees with a node of such points
-entry-low : (c t : ℕ) (ys : List Spot) (e : Entry) (n : Node) → n .points ≡ band c t ys → agrees (Child e) n ≡ true
-    → (e .size ≡ 0) ⊎ (rankKey (e .top) < t)
-unfolding agrees rankKeys
-entry-low c t ys e n is h = go (n .points) is (eqb-true (e .size) (length (n .points)) (all-at _ h 0)) refl
-  where
-    go : (ps : List Spot) → ps ≡ band c t ys → e .size ≡ length ps → ps ≡ n .points → (e .size ≡ 0) ⊎ (rankKey (e .top) < t)
-    go [] i s p = inl s
-    go (x ∷ xs) i s p =
-        ⊎-elim (λ z. inl (s ∙ z)) (λ (l : maximum (map rankKey (keys (x ∷ xs))) < t). inr (top-low l)) (low-maximum c t (x ∷ xs) (rw (← i) at (band-ranks c t ys)))
-      where
-        held : isEmpty (n .points) ≡ false
-        held = rw (← p)
-
-        top-low : maximum (map rankKey (keys (x ∷ xs))) < t → rankKey (e .top) < t
-        top-low l = let q = entry-top e n h held .1 in let r : rankKey (e .top) ≡ maximum (map rankKey (keys (x ∷ xs))) = rw (← p) at q in omega (arith, r, l)
-
--- the uppermost node of what is built
-pub record Topmost (room : ℕ) (m : Store) (b : ℕ) (ys : List Spot) (t : ℕ) : Type 0 where
-  pub level : ℕ
-  pub c : ℕ
-  pub es : List Entry
-  pub node : OwnBand room level m b ys t c es
-
-pub topmost : (fs : List ℕ) (room : ℕ) (m : Store) (b : ℕ) (ys : List Spot) (t : ℕ) → Built fs room m b ys t → Topmost room m b ys t
-topmost [] room m b ys t h = record { level = 0; c = 0; es = []; node = h .0 }
-topmost (f ∷ fs) room m b ys t h = record { level = suc (length fs); c = h .c; es = h .es; node = h .node }
-
-pub points-band : (room level : ℕ) (m : Store) (b : ℕ) (ys : List Spot) (t c : ℕ) (es : List Entry) → OwnBand room level m b ys t c es → m b .points ≡ band c t ys
-unfolding builtNode
-points-band room level m b ys t c es h = ap (λ (n : Node). n .points) (h .is)
-
-names-built : (room level : ℕ) (es : List Entry) (ps : List Spot) → names (builtNode room level es ps) ≡ keys ps
-unfolding names builtNode
-names-built room level es ps = append-nil (keys ps ++ []) ∙ append-nil (keys ps)
-
--- where the range that leads to a node begins, as its entry says
-abbrev pub lowOf : Asked → ℕ
-lowOf Root = 0
-lowOf (Child e) = e .low
-
-not-below : (a : Asked) (n : Node) (lo hi : ℕ) → lowOf a ≤ lo → every (within lo hi) (names n) ≡ true → notBelow a n ≡ true
-unfolding notBelow
-not-below Root n lo hi l h = refl
-not-below (Child e) n lo hi l h =
-    every-imp (within lo hi) (leb (e .low)) (names n) (λ k w. le-leb (e .low) k (omega (arith, within-from lo hi k w))) h
-
--- a part is as built
-pub record Good (l : ℕ) (m : Store) (p : Part) (ys : List Spot) (t w : ℕ) : Type 0 where
-  pub sound : soundAt l m p ≡ true
-  pub look : (k : ℕ) → lookup l m k p ≡ cond (ltb (rankKey k) t) (find k ys) none
-  pub reached : reach l m p ≡ upTo (p .block) w
-  pub quiet : every (λ b. settled (m b)) (reach l m p) ≡ true
-
--- so are all parts of a list
-record AllGood (l : ℕ) (m : Store) (ps : List Part) (ys : List Spot) (t b w : ℕ) : Type 0 where
-  sounds : every (soundAt l m) ps ≡ true
-  looks : (k : ℕ) → down (lookup l m k) k ps ≡ cond (ltb (rankKey k) t) (find k ys) none
-  reacheds : gather (reach l m) ps ≡ upTo b w
-  quiets : every (λ i. settled (m i)) (gather (reach l m) ps) ≡ true
-
--- what a node's entries must be
-record Entries (room : ℕ) (p : Part) (c : ℕ) (es : List Entry) : Type 0 where
-  zero-first : zeroFirst (lows es) ≡ true
-  up : rising (rest (lows es)) ≡ true
-  inside : every (within (p .lo) (p .hi)) (rest (lows es)) ≡ true
-  lower : every (λ k. ltb (rankKey k) c) (tops es) ≡ true
-  last : c ≡ 0 → every (λ e. eqb (e .size) 0) es ≡ true
-  blocks : every (λ e. blockOk room (e .block)) es ≡ true
-
-module _ (room level : ℕ) (p : Part) (ys : List Spot) (t c : ℕ) (es : List Entry) (up : rising (keys ys) ≡ true) (inside : every (within (p .lo) (p .hi)) (keys ys) ≡ true) (most : length (band c t ys) ≤ 64) (least : (32 ≤ length (band c t ys)) ⊎ (c ≡ 0)) (entries : Entries room p c es) where
-  unfoldable ps : List Spot
-  ps = band c t ys
-
-  unfoldable n : Node
-  n = builtNode room level es ps
-
-  named-in : every (within (p .lo) (p .hi)) (names n) ≡ true
-  unfolding n ps
-  named-in = rw (names-built room level es (band c t ys)) (band-every c t (within (p .lo) (p .hi)) ys inside)
-
-  sizes : (filled n || lowest n) ≡ true
-  unfolding n ps builtNode filled lowest all
-  sizes = go (leb 32 (length (band c t ys))) refl least
-    where
-      go : (b : Bool) → leb 32 (length (band c t ys)) ≡ b → (32 ≤ length (band c t ys)) ⊎ (c ≡ 0)
-          → (filled (builtNode room level es (band c t ys)) || lowest (builtNode room level es (band c t ys))) ≡ true
-      go true e x = rw (e, le-leb (length (band c t ys)) 64 most)
-      go false e (inl x) = absurd (true≢false (sym (le-leb 32 (length (band c t ys)) x) ∙ e))
-      go false e (inr x) = rw (e, lt-ltb (length (band c t ys)) 32 (few e), entries .last x)
-        where
-          few : leb 32 (length (band c t ys)) ≡ false → length (band c t ys) < 32
-          few e =
-              ⊎-elim (λ (l : 32 ≤ length (band c t ys)). absurd (true≢false (sym (le-leb 32 (length (band c t ys)) l) ∙ e))) (λ l. l) (less-or-not 32 (length (band c t ys)))
-
-  above : pointsAbove n ≡ true
-  unfolding n ps builtNode pointsAbove
-  above =
-      every-imp (λ k. within c t (rankKey k)) (λ q. every (λ k. ltb (rankKey k) (rankKey q)) (tops es)) (keys (band c t ys))
-      (λ q w.
-      every-imp (λ k. ltb (rankKey k) c) (λ k. ltb (rankKey k) (rankKey q)) (tops es)
-      (λ k l. lt-ltb (rankKey k) (rankKey q) (omega (arith, ltb-true (rankKey k) c l, within-from c t (rankKey q) w)))
-      (entries .lower))
-      (band-ranks c t ys)
-
-  rises : buffersRise n ≡ true
-  unfolding n ps builtNode buffersRise
-  rises = all-cons _ _ (band-rises c t 0 ys up) (all-cons _ _ refl (all-cons _ _ refl all-nil))
-
-  once : namedOnce n ≡ true
-  unfolding n ps namedOnce
-  once = rw (names-built room level es (band c t ys)) (rising-distinct 0 (keys (band c t ys)) (band-rises c t 0 ys up))
-
-  leaf-empty : leafBuffersEmpty n ≡ true
-  unfolding n ps builtNode leafBuffersEmpty all
-  leaf-empty = go (eqb level 0)
-    where
-      go : (b : Bool) → cond b true true ≡ true
-      go true = refl
-      go false = refl
-
-  entries-up : lowsRise n ≡ true
-  unfolding n ps builtNode lowsRise
-  entries-up = all-cons _ _ (entries .zero-first) (all-cons _ _ (entries .up) all-nil)
-
-  blocks-ok : childBlocksOk n ≡ true
-  unfolding n ps builtNode childBlocksOk
-  blocks-ok = entries .blocks
-
-  node-laid : n .laid ≡ true
-  unfolding n builtNode
-  node-laid = refl
-
-  node-level : eqb (n .level) level ≡ true
-  unfolding n builtNode
-  node-level = eq-eqb level level refl
-
-  node-ok : (a : Asked) → childCountOk a n ≡ true → agrees a n ≡ true → lowOf a ≤ p .lo → nodeOk level a n ≡ true
-  unfolding nodeOk
-  node-ok a cc ag lo =
-      all-cons _ _ node-laid (all-cons _ _ node-level (all-cons _ _ cc (all-cons _ _ rises (all-cons _ _ once (all-cons _ _ entries-up
-      (all-cons _ _ above (all-cons _ _ sizes (all-cons _ _ leaf-empty (all-cons _ _ ag (all-cons _ _ (not-below a n (p .lo) (p .hi) lo named-in) (all-cons _ _ blocks-ok all-nil)))))))))))
-
-  in-range : inRange p n ≡ true
-  unfolding inRange n ps builtNode
-  in-range = all-cons _ _ named-in (all-cons _ _ (entries .inside) all-nil)
-
-or-none : (o : Option ℕ) → orElse o none ≡ o
-or-none none = refl
-or-none (some x) = refl
-
--- the track of a key, by the node's own band or below it
-band-law : (c t r : ℕ) (o : Option ℕ) → c ≤ t → orElse (cond (within c t r) o none) (cond (ltb r c) o none) ≡ cond (ltb r t) o none
-band-law c t r o h =
-    ⊎-elim
-    (λ (a : c ≤ r).
-    ⊎-elim (λ (b : t ≤ r). rw (within-high c t r b, le-ltb r c a, le-ltb r t b)) (λ (b : r < t). rw (within-yes c t r a b, le-ltb r c a, lt-ltb r t b) (or-none o)) (less-or-not t r))
-    (λ (a : r < c). rw (within-low c t r a, lt-ltb r c a, lt-ltb r t (omega arith)))
-    (less-or-not c r)
-
--- a node over parts that are as built
-module _ (room l : ℕ) (m : Store) (p : Part) (ys : List Spot) (t c w : ℕ) (es : List Entry) (own : OwnBand room l m (p .block) ys t c es) (below : AllGood l m (parts (p .lo) (p .hi) es) ys c (p .block + 1) w) where
-  sounds-here : every (soundAt l m) (children p (builtNode room l es (band c t ys))) ≡ true
-  unfolding builtNode
-  sounds-here = below .sounds
-
-  own-quiet : settled (m (p .block)) ≡ true
-  unfolding settled builtNode
-  own-quiet = rw (own .is) (all-cons _ _ refl (all-cons _ _ refl all-nil))
-
-  look-here : (k : ℕ) → lookup (suc l) m k p ≡ cond (ltb (rankKey k) t) (find k ys) none
-  unfolding lookup builtNode
-  look-here k = rw (own .is, find-band c t k ys, below .looks k) (band-law c t (rankKey k) (find k ys) (own .under))
-
-  reached-here : reach (suc l) m p ≡ upTo (p .block) (suc w)
-  unfolding reach builtNode
-  reached-here = let e : p .block + 1 ≡ suc (p .block) = omega arith in rw (own .is) (ap (λ (x : List ℕ). p .block ∷ x) (below .reacheds ∙ ap (λ (i : ℕ). upTo i w) e))
-
-  quiet-here : every (λ b. settled (m b)) (reach (suc l) m p) ≡ true
-  unfolding reach builtNode
-  quiet-here = and-both (settled (m (p .block))) (every (λ b. settled (m b)) (gather (reach l m) (children p (m (p .block))))) own-quiet (rw (own .is) (below .quiets))
-
-  sound-here : nodeOk l (p .asked) (builtNode room l es (band c t ys)) ≡ true → inRange p (builtNode room l es (band c t ys)) ≡ true → soundAt (suc l) m p ≡ true
-  unfolding soundAt
-  sound-here ok inside = rw (own .is) (all-cons _ _ ok (all-cons _ _ inside (all-cons _ _ sounds-here all-nil)))
-
-  node-good : rising (keys ys) ≡ true → every (within (p .lo) (p .hi)) (keys ys) ≡ true → Entries room p c es
-      → childCountOk (p .asked) (builtNode room l es (band c t ys)) ≡ true
-      → agrees (p .asked) (m (p .block)) ≡ true
-      → lowOf (p .asked) ≤ p .lo
-      → Good (suc l) m p ys t (suc w)
-  unfolding n ps
-  node-good up inside entries cc ag lo =
-      record {
-        sound =
-            sound-here (node-ok room l p ys t c es up inside (own .most) (own .least) entries (p .asked) cc (rw (own .is) at ag) lo)
-            (in-range room l p ys t c es up inside (own .most) (own .least) entries);
-        look = look-here;
-        reached = reached-here;
-        quiet = quiet-here;
-      }
+use Rattle.tree.specs.Sound.{soundAt}
+use Rattle.tree.proofs.Says.{find-append}
+use Rattle.tree.proofs.Entries.{lowOf}
+use Rattle.rebuild.specs.Build.{nodes, fansOk, band, builtNode, Starts, Shares, Built}
+use Rattle.rebuild.proofs.Bands.{topmost, points-band, entry-low, Good, AllGood, Entries, or-none, node-good}
 
 -- spots cut in two where the next entry's range begins
 record Cut (lo mid hi : ℕ) (own others : List Spot) : Type 0 where
@@ -298,12 +70,19 @@ cut (e ∷ es) lo hi own (s ∷ ss) st up inside =
     others-rise : rising (keys (s ∷ ss)) ≡ true
     others-rise = rising-right 0 (keys own) (keys (s ∷ ss)) up
 
+-- where an entry begins there are spots
+pub starts-some : (e : Entry) (es : List Entry) (ss : List Spot) → Starts (e ∷ es) ss → isEmpty ss ≡ false
+starts-some e es [] h = absurd h
+starts-some e es (s ∷ ss) h = refl
+
+-- spots in a range leave it no room to be empty
 some-within : (lo hi : ℕ) (ss : List Spot) → isEmpty ss ≡ false → every (within lo hi) (keys ss) ≡ true → lo < hi
 some-within lo hi [] e h = absurd (true≢false e)
 some-within lo hi (s ∷ ss) e h =
     let w = and-left (within lo hi (s .key)) (every (within lo hi) (keys ss)) h in
     omega (arith, within-from lo hi (s .key) w, within-to lo hi (s .key) w)
 
+-- a tree has a node
 pub nodes-some : (fs : List ℕ) → 1 ≤ nodes fs
 nodes-some [] = omega arith
 nodes-some (f ∷ fs) = omega arith
@@ -331,17 +110,13 @@ module _ (fs : List ℕ) (room : ℕ) (m : Store) (c : ℕ) where
       let x = cut (e′ ∷ es) lo hi (sh .own) (sh .others) (sh .next) (rw k at up) (rw k at inside) in
       let r = lows-up e′ es (e′ .low) hi (b + nodes fs) (sh .others) (sh .rest) (x .others-up) (x .others-in) in
       let a = some-within lo (e′ .low) (sh .own) (sh .some) (x .own-in) in
-      let z = some-within (e′ .low) hi (sh .others) (starts-some (sh .others) (sh .next)) (x .others-in) in
+      let z = some-within (e′ .low) hi (sh .others) (starts-some e′ es (sh .others) (sh .next)) (x .others-in) in
       record {
         up = rising-make (suc lo) (e′ .low) (lows es) a (r .up);
         inside =
             and-both (within lo hi (e′ .low)) (every (within lo hi) (lows es)) (within-yes lo hi (e′ .low) (omega arith) z)
             (every-imp (within (e′ .low) hi) (within lo hi) (lows es) (λ j w. within-yes lo hi j (omega (arith, within-from (e′ .low) hi j w)) (within-to (e′ .low) hi j w)) (r .inside));
       }
-    where
-      starts-some : (ss : List Spot) → Starts (e′ ∷ es) ss → isEmpty ss ≡ false
-      starts-some [] st = absurd st
-      starts-some (s ∷ ss) st = refl
 
   -- an entry's top is below c; where c is 0, there is none
   entry-under : (e : Entry) (zs : List Spot) → Built fs room m (e .block) zs c → agrees (Child e) (m (e .block)) ≡ true → (e .size ≡ 0) ⊎ (rankKey (e .top) < c)
@@ -386,10 +161,6 @@ pub record Placed (fs : List ℕ) (room : ℕ) (m : Store) (p : Part) (ys : List
   pub first : 1 ≤ p .block
   pub last : p .block + nodes fs ≤ room
 
-cond-same : (b : Bool) → none ≡ cond {A = Option ℕ} b none none
-cond-same true = refl
-cond-same false = refl
-
 module _ (fs : List ℕ) (room : ℕ) (m : Store) (c : ℕ) (fans : fansOk 4 fs ≡ true) (deeper : (p : Part) (ys : List Spot) → Built fs room m (p .block) ys c → Placed fs room m p ys → Good (suc (length fs)) m p ys c (nodes fs)) where
   parts-good : (es : List Entry) (lo hi b : ℕ) (ys : List Spot) → Shares (λ b′ zs. Built fs room m b′ zs c) m (nodes fs) b es ys → nextLow es lo ≤ lo → rising (keys ys) ≡ true
       → every (within lo hi) (keys ys) ≡ true
@@ -399,7 +170,7 @@ module _ (fs : List ℕ) (room : ℕ) (m : Store) (c : ℕ) (fans : fansOk 4 fs 
   unfolding fewest
   parts-good [] lo hi b ys sh fl up inside one fit =
       let z : 0 * nodes fs ≡ 0 = omega arith in
-      record { sounds = refl; looks = λ k. rw sh (cond-same (ltb (rankKey k) c)); reacheds = rw z; quiets = refl }
+      record { sounds = refl; looks = λ k. rw sh (sym (cond-none (ltb (rankKey k) c))); reacheds = rw z; quiets = refl }
   parts-good (e ∷ es) lo hi b ys sh fl up inside one fit =
       join (parts-good es (nextLow es hi) hi (b + nodes fs) (sh .others) (sh .rest) (next-low es hi) (x .others-up) (x .others-in) (omega arith) (omega (arith, d, fit)))
     where

@@ -11,38 +11,17 @@ use lib.ListN.{length}
 use lib.Dec.{leb, eqb}
 use borrow.Author.Tests.{leb-true, eq-eqb, ne-eqb}
 use Rattle.octets.specs.Lists.{every, rising, risingFrom}
+use Rattle.octets.proofs.Tests.{and-left, and-right, every-imp, every-two}
+use Rattle.octets.proofs.Order.{less-or-not, same-or-not}
+use Rattle.octets.proofs.Rising.{rising-rest, rising-from}
 use Rattle.spot.specs.declared.Spot.{Spot}
 use Rattle.spot.specs.Spots.{keys}
-use Rattle.spot.specs.Keys.{rankKey, allKeys, word, within}
+use Rattle.spot.specs.Keys.{rankKey, allKeys, within}
+use Rattle.spot.proofs.Places.{within-yes, within-low, within-high, within-to}
+use Rattle.spot.proofs.Halves.{rank-inj}
 use Rattle.rebuild.specs.Build.{band}
-use Rattle.tree.proofs.Laws.{and-left, and-right}
-use Rattle.tree.proofs.Canon.{less-or-not, same-or-not}
-use Rattle.tree.proofs.Places.{within-yes, within-low, within-high, within-to}
-use Rattle.tree.proofs.Rises.{every-imp, every-two, rising-rest, rising-from}
 
--- rank keys
-upper : (k : ℕ) → k < allKeys → k / word < 4294967296
-upper k h = omega arith
-
-lower : (k : ℕ) → k % word < 4294967296
-lower k = omega arith
-
-halves-turn : (a b : ℕ) → a < 4294967296 → b < 4294967296 → ((a * 4294967296 + b) % 4294967296 ≡ b) × ((a * 4294967296 + b) / 4294967296 ≡ a)
-halves-turn a b h g = (omega arith, omega arith)
-
-pub rank-back : (k : ℕ) → k < allKeys → rankKey (rankKey k) ≡ k
-unfolding rankKey
-rank-back k h =
-    let s = halves-turn (k % word) (k / word) (lower k) (upper k h) in
-    rw (s .0, s .1) (whole k)
-  where
-    whole : (k : ℕ) → k / word * word + k % word ≡ k
-    whole k = omega arith
-
-pub rank-same : (j k : ℕ) → j < allKeys → k < allKeys → rankKey j ≡ rankKey k → j ≡ k
-rank-same j k h g e = sym (rank-back j h) ∙ ap rankKey e ∙ rank-back k g
-
--- one rank key less takes at most one spot more
+-- a rank key other than c lies in the range from c as it does in that from the next on
 within-suc : (c t r : ℕ) → (r ≡ c → ⊥) → within c t r ≡ within (suc c) t r
 within-suc c t r n =
     ⊎-elim (λ (a : c ≤ r). ⊎-elim (λ (b : t ≤ r). within-high c t r b ∙ sym (within-high (suc c) t r b)) (λ (b : r < t). within-yes c t r a b ∙ sym (within-yes (suc c) t r (more a) b)) (less-or-not t r))
@@ -69,8 +48,9 @@ others-differ s ss c e small keyed up =
     (every-two (within 0 allKeys) (leb (suc (s .key))) (keys ss) keyed (rising-from (suc (s .key)) (keys ss) up))
   where
     differ : (k : ℕ) → k < allKeys → suc (s .key) ≤ k → not (eqb (rankKey k) c) ≡ true
-    differ k l a = rw (ne-eqb (rankKey k) c (λ (g : rankKey k ≡ c). let q = rank-same k (s .key) l small (g ∙ sym e) in let z : ⊥ = omega arith in z))
+    differ k l a = rw (ne-eqb (rankKey k) c (λ (g : rankKey k ≡ c). let q = rank-inj k (s .key) l small (g ∙ sym e) in let z : ⊥ = omega arith in z))
 
+-- one rank key less takes at most one spot more
 pub band-step : (c t a : ℕ) (ss : List Spot) → every (within 0 allKeys) (keys ss) ≡ true → risingFrom a (keys ss) ≡ true → length (band c t ss) ≤ suc (length (band (suc c) t ss))
 unfolding band
 band-step c t a [] keyed up = omega arith
@@ -124,6 +104,7 @@ module _ (t : ℕ) (ys : List Spot) (up : rising (keys ys) ≡ true) (keyed : ev
       (λ (h : length (band (suc c) t ys) < 32). choose-from c (omega arith) (omega (arith, band-step c t 0 ys keyed up, h)))
       (less-or-not 32 (length (band (suc c) t ys)))
 
+  -- such a cut exists
   pub choose : Choice t ys
   choose = choose-from t (omega arith) (let e = ap (λ (l : List Spot). length l) (band-none t ys) in omega (arith, e))
 
@@ -147,6 +128,7 @@ pub record Division (d m a b : ℕ) : Type 0 where
   pub right : m - m / suc d ≤ b * d
   pub small : m / suc d ≤ m
 
+-- the even division is one
 pub divide : (d m a b : ℕ) → a * suc d ≤ m → m ≤ b * suc d → Division d m a b
 divide d m a b h g = record { least = low; most = high; left = omega (arith, whole, wide, low′); right = right-here; small = omega (arith, whole, wide) }
   where

@@ -1,6 +1,6 @@
 -- What is built stays built while its blocks stay as they are.
 -- Assumes nothing.
-use mathlib.Core.Path.{_≡_, refl, ap, _∙_}
+use mathlib.Core.Path.{_≡_, ap, _∙_}
 use mathlib.Core.List.{List, [], _∷_}
 use Prim.Native.Nat.{ℕ, suc, _+_, _*_, _≤_, _<_}
 use native.Mathlib.Omega.{arith}
@@ -20,6 +20,7 @@ own-kept : (room level : ℕ) (m m′ : Store) (b : ℕ) (ys : List Spot) (t c :
 own-kept room level m m′ b ys t c es e h = record { is = e ∙ h .is; most = h .most; least = h .least; under = h .under }
 
 module _ (g h : ℕ → List Spot → Type 0) (m m′ : Store) (w : ℕ) (some : 1 ≤ w) (deeper : (b : ℕ) (ys : List Spot) → Alike m m′ b w → g b ys → h b ys) where
+  -- the children stay built
   pub shares-kept : (es : List Entry) (b : ℕ) (ys : List Spot) → Alike m m′ b (length es * w) → Shares g m w b es ys → Shares h m′ w b es ys
   shares-kept [] b ys same sh = sh
   shares-kept (e ∷ es) b ys same sh =
@@ -37,6 +38,7 @@ module _ (g h : ℕ → List Spot → Type 0) (m m′ : Store) (w : ℕ) (some :
         rest = shares-kept es (b + w) (sh .others) (λ i lo hi. same i (omega arith) (omega (arith, d, hi))) (sh .rest);
       }
 
+-- and so does a tree
 pub built-kept : (fs : List ℕ) (room : ℕ) (m m′ : Store) (t b : ℕ) (ys : List Spot) → Alike m m′ b (nodes fs) → Built fs room m b ys t → Built fs room m′ b ys t
 built-kept [] room m m′ t b ys same h = (own-kept room 0 m m′ b ys t 0 [] (same b (omega arith) (omega arith)) (h .0), h .1)
 built-kept (f ∷ fs) room m m′ t b ys same h =

@@ -1,4 +1,5 @@
 pub mod Shape
+pub mod Bands
 pub mod Built
 pub mod Kept
 pub mod Steps

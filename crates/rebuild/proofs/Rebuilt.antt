@@ -2,61 +2,62 @@
 -- Assumes nothing.
 use mathlib.Core.Path.{_≡_, refl, ap, sym, _∙_}
 use mathlib.Core.Logic.{inr, ⊎-elim}
-use mathlib.Core.Bool.{Bool, true, false, cond, Bool·beq, _||_, true≢false}
-use mathlib.Core.List.{List, [], _∷_}
+use mathlib.Core.Bool.{Bool, true, false, cond, _||_, true≢false}
+use mathlib.Core.List.{List, []}
 use mathlib.Core.Option.{Option, none, some}
-use Prim.Native.Nat.{ℕ, zero, suc, _+_, _-_, _*_, _/_, _%_, _≤_, _<_}
+use Prim.Native.Nat.{ℕ, zero, suc, _-_, _≤_, _<_}
 use native.Mathlib.Omega.{arith}
 use lib.ListN.{length}
 use lib.Dec.{leb, ltb, eqb}
-use borrow.Author.Tests.{leb-true, le-leb, lt-leb, lt-ltb, ne-eqb}
-use Rattle.octets.specs.Lists.{distinct, all, every, has, upTo}
+use borrow.Author.Tests.{le-leb, lt-leb, lt-ltb, ne-eqb}
+use Rattle.octets.specs.Lists.{every, has, upTo}
+use Rattle.octets.specs.Bitmap.{bit}
+use Rattle.octets.proofs.Order.{less-or-not}
+use Rattle.octets.proofs.UpTo.{upTo-distinct, has-upTo, has-upTo-not}
+use Rattle.octets.proofs.Sets.{every-by}
 use Rattle.spot.specs.declared.Spot.{Spot}
 use Rattle.spot.specs.Spots.{keys, find, put, without}
-use Rattle.spot.specs.Keys.{rankKey, allKeys, word, within}
-use Rattle.octets.specs.Bitmap.{bit}
+use Rattle.spot.specs.Keys.{rankKey, allKeys, within}
+use Rattle.spot.proofs.Halves.{rank-small}
+use Rattle.spot.proofs.Canon.{cond-none, canon, find-without}
+use Rattle.spot.proofs.Places.{within-to}
+use Rattle.spot.proofs.Buffers.{find-fails}
 use Rattle.block.specs.Header.{headOf}
 use Rattle.block.specs.Node.{storeOf}
-use Rattle.block.specs.Table.{mapBlocks, blocksOf, tableSized}
+use Rattle.block.specs.Table.{mapBlocks, blocksOf}
 use Rattle.block.specs.declared.Asked.the-variants.{Root}
 use Rattle.block.specs.NodeRules.{agrees, fewest}
-use Rattle.block.specs.HeaderRules.{headerOk}
 use Rattle.tree.specs.Part.{Part, whole}
 use Rattle.tree.specs.Lookup.{lookup, live, withKey, isLive}
 use Rattle.tree.specs.Reach.{reach, settled}
 use Rattle.tree.specs.Sound.{soundAt, mapExact, sound}
-use Rattle.tree.specs.Walk.{liveCount, liveSpots}
-use Rattle.rebuild.specs.Build.{nodes, shape, Rebuilt}
-use Rattle.tree.proofs.Buffers.{rank-small}
-use Rattle.tree.proofs.Laws.{all-at, all-cons, all-nil}
-use Rattle.tree.proofs.Canon.{canon, less-or-not, find-put, find-without}
-use Rattle.tree.proofs.Places.{within-to}
-use Rattle.rebuild.proofs.Shape.{Fits, shape-fits}
-use Rattle.tree.proofs.Rises.{find-fails, upTo-distinct, every-by, every-upTo, has-upTo, has-upTo-not}
+use Rattle.tree.specs.Walk.{liveSpots}
+use Rattle.tree.specs.ReadMap.{isRead}
 use Rattle.tree.proofs.Tables.{Shaped, sound-from, tree-rises, tree-finds, sound-tree, live-finds}
-use Rattle.tree.proofs.Live.{has-keys, lookup-within}
-use Rattle.rebuild.proofs.Built.{Good, built-good}
+use Rattle.tree.proofs.Says.{has-keys, find-replaced}
+use Rattle.tree.proofs.Marks.{exact-make}
+use Rattle.tree.proofs.Sources.{header-few, header-least}
+use Rattle.tree.proofs.Live.{lookup-within}
+use Rattle.rebuild.specs.Build.{nodes, shape, Rebuilt}
+use Rattle.rebuild.proofs.Shape.{Fits, shape-fits}
+use Rattle.rebuild.proofs.Bands.{Good}
+use Rattle.rebuild.proofs.Built.{built-good}
 
 -- at the root nothing is left out
 find-all : (k : ℕ) (ys : List Spot) → every (within 0 allKeys) (keys ys) ≡ true → cond (ltb (rankKey k) allKeys) (find k ys) none ≡ find k ys
 find-all k ys h = go (within 0 allKeys k) refl
   where
-    same : (b : Bool) → cond {A = Option ℕ} b none none ≡ none
-    same true = refl
-    same false = refl
-
     go : (b : Bool) → within 0 allKeys k ≡ b → cond (ltb (rankKey k) allKeys) (find k ys) none ≡ find k ys
     go true e = rw (lt-ltb (rankKey k) allKeys (rank-small k (within-to 0 allKeys k e)))
-    go false e = rw (find-fails (within 0 allKeys) k ys h e) (same (ltb (rankKey k) allKeys))
+    go false e = rw (find-fails (within 0 allKeys) k ys h e) (cond-none (ltb (rankKey k) allKeys))
 
 -- the map of a tree in blocks 1 to n
 map-exact : (map : List ℕ) (n : ℕ) → ((b : ℕ) → b < mapBlocks → bit map b ≡ leb b n) → mapExact map (upTo 1 n) ≡ true
-unfolding mapExact
-map-exact map n h =
-    all-cons _ _ (upTo-distinct 1 n) (all-cons _ _ (every-upTo (λ b. Bool·beq (bit map b) (eqb b 0 || has b (upTo 1 n))) 0 mapBlocks (λ b lo hi. rw (h b hi) (one b))) all-nil)
+unfolding isRead
+map-exact map n h = exact-make map (upTo 1 n) (upTo-distinct 1 n) (λ b l. h b l ∙ one b)
   where
-    one : (b : ℕ) → Bool·beq (leb b n) (eqb b 0 || has b (upTo 1 n)) ≡ true
-    one zero = rw (le-leb 0 n (omega arith))
+    one : (b : ℕ) → leb b n ≡ eqb b 0 || has b (upTo 1 n)
+    one zero = le-leb 0 n (omega arith)
     one (suc b) =
         ⊎-elim (λ (l : suc b ≤ n). rw (le-leb (suc b) n l, ne-eqb (suc b) 0 (λ (e : suc b ≡ 0). omega arith), has-upTo (suc b) 1 n (omega arith) (omega arith)))
         (λ (l : n < suc b). rw (lt-leb (suc b) n l, ne-eqb (suc b) 0 (λ (e : suc b ≡ 0). omega arith), has-upTo-not (suc b) 1 n (inr (omega arith))))
@@ -64,14 +65,9 @@ map-exact map n h =
 
 -- a table that is built whole
 module _ (t : List ℕ) (ys : List Spot) (r : Rebuilt t ys) where
-  blocks-most : (9 ≤ blocksOf (length t)) × (blocksOf (length t) ≤ 4096)
-  unfolding headerOk tableSized
-  blocks-most = let z = all-at _ (r .header) 8 in (leb-true 9 (blocksOf (length t)) (all-at _ z 1), leb-true (blocksOf (length t)) 4096 (all-at _ z 2))
-
   fits : Fits (length ys) (blocksOf (length t) - 1) (shape (length ys))
   fits =
-      let b = blocks-most in
-      shape-fits (length ys) (blocksOf (length t) - 1) (r .few) (omega (arith, b .0)) (omega (arith, b .1))
+      shape-fits (length ys) (blocksOf (length t) - 1) (r .few) (omega (arith, header-least t (r .header))) (omega (arith, header-few t (r .header)))
 
   abbrev top : Part
   top = record { block = 1; asked = Root; lo = 0; hi = allKeys }
@@ -80,7 +76,7 @@ module _ (t : List ℕ) (ys : List Spot) (r : Rebuilt t ys) where
   unfolding agrees fewest
   good =
       let f = fits .fits in
-      let b = blocks-most .0 in
+      let b = header-least t (r .header) in
       built-good (shape (length ys)) (blocksOf (length t)) (storeOf t) allKeys top ys (r .built)
       (record { up = r .up; inside = r .keyed; agree = refl; low = omega arith; fans = fits .fans; first = omega arith; last = omega arith })
 
@@ -102,6 +98,7 @@ module _ (t : List ℕ) (ys : List Spot) (r : Rebuilt t ys) where
   rebuilt-shaped =
       record { header = r .header; tree = tree-sound; map = rw rebuilt-reach (map-exact (headOf t .inUse) (nodes (shape (length ys))) (r .inUse)) }
 
+  -- so its live spots are the list
   pub rebuilt-spots : liveSpots t ≡ ys
   rebuilt-spots =
       canon 0 (liveSpots t) ys (tree-rises t rebuilt-shaped) (r .up) (λ k. tree-finds t rebuilt-shaped k ∙ rebuilt-live k)
@@ -110,6 +107,7 @@ module _ (t : List ℕ) (ys : List Spot) (r : Rebuilt t ys) where
   pub rebuilt-settled : every (λ b. settled (storeOf t b)) (reach (headOf t .levels) (storeOf t) (whole (headOf t))) ≡ true
   rebuilt-settled = rw (is-top, r .levels) (good .quiet)
 
+  -- the table is sound
   pub rebuilt-sound : sound t ≡ true
   rebuilt-sound = sound-from t rebuilt-shaped (rw rebuilt-spots (r .bound))
 
@@ -119,6 +117,7 @@ unlive t k h = h
 
 -- the live spots of a sound table are fit to be built from
 module _ (t : List ℕ) (s : sound t ≡ true) where
+  -- they are keys
   pub live-keyed : every (within 0 allKeys) (keys (liveSpots t)) ≡ true
   live-keyed = every-by (within 0 allKeys) (keys (liveSpots t)) (λ k h. go k (find k (liveSpots t)) refl (sym (has-keys k (liveSpots t)) ∙ h))
     where
@@ -135,12 +134,7 @@ module _ (t : List ℕ) (s : sound t ≡ true) where
   pub add-live : (u : List ℕ) (x : Spot) → Rebuilt u (put x (without (x .key) (liveSpots t))) → (k : ℕ) → live u k ≡ withKey (x .key) (some (x .track)) (live t) k
   unfolding withKey
   add-live u x r k =
-      rebuilt-live u (put x (without (x .key) (liveSpots t))) r k ∙ find-put k x (without (x .key) (liveSpots t)) ∙
-      rw (find-without k (x .key) (liveSpots t), live-finds t s k) (once (eqb k (x .key)) (some (x .track)) (live t k))
-    where
-      once : (b : Bool) (o p : Option ℕ) → cond b o (cond b none p) ≡ cond b o p
-      once true o p = refl
-      once false o p = refl
+      rebuilt-live u (put x (without (x .key) (liveSpots t))) r k ∙ find-replaced k x (liveSpots t) ∙ rw (live-finds t s k)
 
   -- Withdraw, by the rebuild path
   pub withdraw-live : (u : List ℕ) (j : ℕ) → Rebuilt u (without j (liveSpots t)) → (k : ℕ) → live u k ≡ withKey j none (live t) k

@@ -4,15 +4,15 @@ use mathlib.Core.Path.{_≡_, refl}
 use mathlib.Core.Logic.{⊎-elim}
 use mathlib.Core.Bool.{Bool, true}
 use mathlib.Core.List.{List, [], _∷_}
-use Prim.Native.Nat.{ℕ, zero, suc, _+_, _*_, _/_, _≤_, _<_, max}
+use Prim.Native.Nat.{ℕ, suc, _+_, _*_, _/_, _≤_, _<_, max}
 use native.Mathlib.Omega.{arith}
 use lib.ListN.{length}
 use lib.Dec.{leb}
 use borrow.Author.Tests.{leb-true, le-leb, lt-leb}
 use Rattle.octets.specs.Lists.{all}
+use Rattle.octets.proofs.Tests.{all-at}
+use Rattle.octets.proofs.Order.{less-or-not}
 use Rattle.rebuild.specs.Build.{leaves, nodes, fansOk, shapes, firstFor, shape}
-use Rattle.tree.proofs.Laws.{all-at}
-use Rattle.tree.proofs.Canon.{less-or-not}
 
 -- a list of shapes serves every n from low on: each shape fits wherever the one before it does not serve, and the last serves all
 unfoldable serve : ℕ → List (List ℕ) → Bool
@@ -73,6 +73,7 @@ module _ (n B : ℕ) (few : n ≤ 16 * B) (small : 8 ≤ B) (large : B ≤ 4095)
           let c = leb-true (length fs) 6 (all-at _ h 3) in
           record { fits = omega arith; spare = omega arith; fans = all-at _ h 2; levels = omega arith; most = g; least = omega arith }
 
+  -- the shape chosen fits
   pub shape-fits : Fits n B (shape n)
   unfolding shape
   shape-fits = first-fits 0 shapes shapes-serve (omega arith)

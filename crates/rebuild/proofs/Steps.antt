@@ -2,12 +2,13 @@
 -- Assumes nothing.
 use mathlib.Core.Path.{_≡_, refl, ap, sym, _∙_}
 use mathlib.Core.Logic.{_⊎_, inl, inr}
-use mathlib.Core.Bool.{Bool, true, false, cond, true≢false}
-use mathlib.Core.List.{List, [], _∷_, _++_}
-use Prim.Native.Nat.{ℕ, zero, suc, _+_, _*_, _≤_, _<_}
+use mathlib.Core.Bool.{true, false, true≢false}
+use mathlib.Core.List.{List, [], _∷_, _++_, append-nil, append-assoc}
+use Prim.Native.Nat.{ℕ, suc, _+_, _*_, _≤_}
 use native.Mathlib.Omega.{arith}
 use lib.ListN.{length}
-use Rattle.octets.specs.Lists.{keep, isEmpty}
+use Rattle.octets.specs.Lists.{isEmpty}
+use Rattle.octets.proofs.Tests.{keep-length}
 use Rattle.spot.specs.declared.Spot.{Spot}
 use Rattle.spot.specs.Keys.{rankKey, within}
 use Rattle.block.specs.declared.Entry.{Entry}
@@ -15,19 +16,12 @@ use Rattle.block.specs.Node.{Store, firstOpen, storeOf}
 use Rattle.block.specs.Table.{block}
 use Rattle.block.specs.declared.Asked.the-variants.{Child}
 use Rattle.block.specs.NodeRules.{agrees}
+use Rattle.block.proofs.Frames.{store-same}
+use Rattle.block.proofs.Views.{length-open}
 use Rattle.tree.specs.Part.{nextLow}
 use Rattle.rebuild.specs.Build.{firstKey, BuildPost, nodes, band, builtNode, Starts, Shares, Built}
-use Rattle.tree.proofs.Rises.{append-nil, append-assoc}
-use Rattle.rebuild.proofs.Built.{nodes-some}
+use Rattle.rebuild.proofs.Built.{nodes-some, starts-some}
 use Rattle.rebuild.proofs.Kept.{Alike, shares-kept, built-kept}
-
-keep-length : (f : Spot → Bool) (ss : List Spot) → length (keep f ss) ≤ length ss
-keep-length f [] = omega arith
-keep-length f (s ∷ ss) = go (f s) (keep-length f ss)
-  where
-    go : (b : Bool) → length (keep f ss) ≤ length ss → length (cond b (s ∷ keep f ss) (keep f ss)) ≤ suc (length ss)
-    go true h = omega arith
-    go false h = omega arith
 
 band-length : (c t : ℕ) (ys : List Spot) → length (band c t ys) ≤ length ys
 unfolding band
@@ -43,10 +37,7 @@ starts-more [] e xs zs h g = rw h g
 starts-more (x ∷ es) e [] zs h g = absurd h
 starts-more (x ∷ es) e (s ∷ ss) zs h g = h
 
-starts-some : (e : Entry) (zs : List Spot) → Starts (e ∷ []) zs → isEmpty zs ≡ false
-starts-some e [] h = absurd h
-starts-some e (z ∷ zs) h = refl
-
+-- one child more
 pub shares-more : (g : ℕ → List Spot → Type 0) (m : Store) (w b : ℕ) (es : List Entry) (xs : List Spot) (e : Entry) (zs : List Spot) → Shares g m w b es xs
     → e .block ≡ b + length es * w
     → Starts (e ∷ []) zs
@@ -59,7 +50,7 @@ shares-more g m w b [] xs e zs sh at st ag built =
       own = zs;
       others = [];
       split = rw sh (sym (append-nil zs));
-      some = starts-some e zs st;
+      some = starts-some e [] zs st;
       next = refl;
       at = at ∙ z;
       agree = ag;
@@ -120,10 +111,6 @@ module _ (fs : List ℕ) (room c : ℕ) (m m′ : Store) where
         rest = sh .rest;
       }
 
-  open-length : (es : List Entry) → length (firstOpen es) ≡ length es
-  open-length [] = refl
-  open-length (e ∷ es) = refl
-
   open-low : (es : List Entry) → nextLow (firstOpen es) 0 ≡ 0
   open-low [] = refl
   open-low (e ∷ es) = refl
@@ -142,7 +129,7 @@ module _ (fs : List ℕ) (room c : ℕ) (m m′ : Store) where
         c = c;
         es = firstOpen es;
         node = record { is = e; most = most; least = least; under = under };
-        count = open-length es ∙ n;
+        count = length-open es ∙ n;
         first = open-low es;
         shares =
             open-shares (λ b′ zs. Built fs room m′ b′ zs c) (nodes fs) (b + 1) es ys
@@ -155,15 +142,12 @@ module _ (fs : List ℕ) (room c : ℕ) (m m′ : Store) where
             sh);
       }
 
+-- the first entry begins at the first spot
 pub starts-first : (e : Entry) (es : List Entry) (ys : List Spot) → isEmpty ys ≡ false → e .low ≡ firstKey ys → Starts (e ∷ es) ys
 starts-first e es [] h l = true≢false h
 starts-first e es (s ∷ ss) h l = l
 
 -- The same on bytes
-store-same : (t u : List ℕ) (i : ℕ) → length u ≡ length t → block u i ≡ block t i → storeOf u i ≡ storeOf t i
-unfolding storeOf
-store-same t u i l e = rw (l, e)
-
 -- the loop over the children: one call more
 pub child-built : (room : ℕ) (fs : List ℕ) (c b : ℕ) (t u : List ℕ) (es : List Entry) (xs : List Spot) (e : Entry) (zs : List Spot)
     → Shares (λ b′ ys. Built fs room (storeOf t) b′ ys c) (storeOf t) (nodes fs) b es xs
@@ -171,7 +155,7 @@ pub child-built : (room : ℕ) (fs : List ℕ) (c b : ℕ) (t u : List ℕ) (es 
     → BuildPost room fs (b + length es * nodes fs) zs c t u e
     → Shares (λ b′ ys. Built fs room (storeOf u) b′ ys c) (storeOf u) (nodes fs) b (es ++ (e ∷ [])) (xs ++ zs)
 child-built room fs c b t u es xs e zs sh some p =
-    child-more fs room c (storeOf t) (storeOf u) b es xs e zs sh (λ i lo hi. store-same t u i (p .sized) (p .other i (inl hi))) (p .at) (starts-first e [] zs some (p .low))
+    child-more fs room c (storeOf t) (storeOf u) b es xs e zs sh (λ i lo hi. store-same t u (p .sized) i (p .other i (inl hi))) (p .at) (starts-first e [] zs some (p .low))
     (p .agree)
     (p .built)
 
@@ -187,4 +171,4 @@ pub node-built : (room : ℕ) (fs : List ℕ) (c f limit b : ℕ) (t u : List �
     → (32 ≤ length (band c limit ys)) ⊎ (c ≡ 0)
     → Built (f ∷ fs) room (storeOf u) b ys limit
 node-built room fs c f limit b t u es ys sh n l same e under most least =
-    inner-built fs room c (storeOf t) (storeOf u) f limit b es ys sh n (λ i lo hi. store-same t u i l (same i (λ (z : i ≡ b). omega arith))) e under most least
+    inner-built fs room c (storeOf t) (storeOf u) f limit b es ys sh n (λ i lo hi. store-same t u l i (same i (λ (z : i ≡ b). omega arith))) e under most least

@@ -8,11 +8,12 @@ ghost use Rattle.spot.specs.Keys.{within};
 ghost use Rattle.block.specs.Header.{headOf};
 ghost use Rattle.block.specs.HeaderRules.{headerOk};
 ghost use Rattle.block.specs.Node.{storeOf};
+ghost use Rattle.block.specs.NodeRules.{ValidBlock};
 ghost use Rattle.block.specs.declared.Asked.the-variants.{Root};
 ghost use Rattle.tree.specs.SameList.{sameList};
 ghost use Rattle.tree.specs.Sound.{inRange, sound};
 ghost use Rattle.block.specs.Table.{tableSized};
-ghost use Rattle.visit.specs.Visit.{Valid, keysFrom, partOf, endOf};
+ghost use Rattle.visit.specs.Visit.{keysFrom, partOf, endOf};
 ghost use Rattle.soundness.specs.Checks.{Checked, Checkable, shapedBelow};
 
 // The n rising keys, w bytes apart from at on, lie in the span.
@@ -29,7 +30,7 @@ pub fn keys_within(t: &[u8], at: usize, w: usize, n: usize, span: visit::Span) -
 
 // The keys of the node at b and its entries' lows lie in the span.
 pub fn in_range(t: &[u8], b: usize, span: visit::Span) -> bool
-    requires { ⌜ Valid (now t) b ⌝ }
+    requires { ⌜ ValidBlock (now t) b ⌝ }
     ensures { λ r. ⌜ r ≡ inRange (partOf b Root span) (storeOf (now (t .entry)) b) ⌝ }
 {
     let from = b * 2048;

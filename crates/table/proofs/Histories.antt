@@ -2,38 +2,38 @@
 -- Assumes nothing else.
 use mathlib.Core.Path.{_≡_, refl, ap, sym, _∙_}
 use mathlib.Core.Logic.{_⊎_, inl, inr, ⊎-elim, _≢_}
-use mathlib.Core.Bool.{Bool, true, false, cond, true≢false, false≢true}
+use mathlib.Core.Bool.{true, false, true≢false, false≢true}
 use mathlib.Core.List.{List, []}
 use mathlib.Core.Option.{Option, none, some}
 use Prim.Native.Nat.{ℕ, zero, suc, _+_, _*_, _/_, _≤_}
 use native.Mathlib.Omega.{arith}
 use lib.ListN.{length, take}
-use lib.Dec.{eqb}
-use borrow.Author.Tests.{eq-eqb}
 use lib.IntN.{ℤ}
 use Rattle.octets.specs.Lists.{keep, rising}
+use Rattle.octets.specs.Bitmap.{bit}
 use Rattle.spot.specs.declared.Spot.{Spot}
 use Rattle.spot.specs.Keys.{key}
 use Rattle.spot.specs.Spots.{keys, find, byRank, put, without}
-use Rattle.octets.specs.Bitmap.{bit}
+use Rattle.spot.specs.declared.Query.{Query}
+use Rattle.spot.specs.Query.{query, topQuery, wants, everything}
+use Rattle.spot.proofs.Canon.{canon, find-without, without-rises}
+use Rattle.block.specs.Answers.{answer}
 use Rattle.block.specs.Table.{block, tableSized}
 use Rattle.block.specs.Header.{headOf}
 use Rattle.block.specs.Fresh.{formatted}
-use Rattle.spot.specs.declared.Query.{Query}
-use Rattle.spot.specs.Query.{query, topQuery, wants, everything}
+use Rattle.block.specs.declared.Answer.{Answer}
 use Rattle.tree.specs.Walk.{Finds, Walk, walked, spots, blocksRead, walkTable, liveSpots, liveCount}
 use Rattle.tree.specs.Top.{topWalk, topTable}
 use Rattle.tree.specs.ReadMap.{readMap, ones}
 use Rattle.tree.specs.Sound.{sound}
 use Rattle.tree.specs.Lookup.{live, withKey}
+use Rattle.tree.proofs.Says.{find-replaced, replaced-rises}
 use Rattle.table.specs.Calls.{Call, format, add, withdraw, report, top, count, check, rebuild}
-use Rattle.block.specs.declared.Answer.{Answer}
-use Rattle.table.specs.Answers.{lengthNumber, spotsAnswer, outputLeft, answer, lengths, unlessRefused, mapLeft}
+use Rattle.table.specs.Answers.{lengthNumber, spotsAnswer, outputLeft, lengths, unlessRefused, mapLeft}
 use Rattle.table.specs.Queries.{walkAnswer, countAnswer, QueryPost}
 use Rattle.table.specs.Updates.{UpdatePost}
 use Rattle.table.specs.History.{Event, MetBy, isReport, isQuery, SecondTable, SameOnSecond, Agreed}
 use Rattle.table.proofs.Keyed.{KeyReply, keyReply, replyTo, refusedOr, accepted, gives}
-use Rattle.tree.proofs.Canon.{canon, find-put, find-without, put-rises, without-rises}
 
 -- what the tree's theorems give of a sound table
 pub record TreeLaws : Type 0 where
@@ -95,6 +95,7 @@ unfolding refusedOr gives spotsAnswer
 found-detail zero bytes found ss r e z = ap (λ (a : Answer). a .detail) e
 found-detail (suc l) bytes found ss r e z = let h : suc l ≡ 0 = sym (ap (λ (a : Answer). a .number) e) ∙ z in omega arith
 
+-- the read map of an accepted query
 pub map-accepted : (n : ℕ) (bs map : List ℕ) → n ≡ 0 → mapLeft n bs map ≡ readMap bs
 unfolding mapLeft
 map-accepted zero bs map e = refl
@@ -244,10 +245,6 @@ module _ (laws : TreeLaws) where
         next = n;
       }
 
-  cond-twice : (b : Bool) (x y : Option ℕ) → cond b x (cond b none y) ≡ cond b x y
-  cond-twice true x y = refl
-  cond-twice false x y = refl
-
   -- the model's list after an addition and after a withdrawal: it rises, and finds what it should
   module _ (t : List ℕ) (s : sound t ≡ true) (k : ℕ) where
     without-up : rising (keys (without k (liveSpots t))) ≡ true
@@ -257,17 +254,12 @@ module _ (laws : TreeLaws) where
     unfolding withKey
     without-found j = find-without j k (liveSpots t) ∙ rw (laws .finds t s j)
 
-    gone : find k (without k (liveSpots t)) ≡ none
-    gone = find-without k k (liveSpots t) ∙ rw (eq-eqb k k refl)
-
     put-up : (track : ℕ) → rising (keys (put (record { key = k; track = track }) (without k (liveSpots t)))) ≡ true
-    put-up track = put-rises 0 (record { key = k; track = track }) (without k (liveSpots t)) (omega arith) without-up gone
+    put-up track = replaced-rises (record { key = k; track = track }) (liveSpots t) (laws .rises t s)
 
     put-found : (track j : ℕ) → find j (put (record { key = k; track = track }) (without k (liveSpots t))) ≡ withKey k (some track) (live t) j
     unfolding withKey
-    put-found track j =
-        find-put j (record { key = k; track = track }) (without k (liveSpots t)) ∙
-        rw (find-without j k (liveSpots t), laws .finds t s j) (cond-twice (eqb j k) (some track) (live t j))
+    put-found track j = find-replaced j (record { key = k; track = track }) (liveSpots t) ∙ rw (laws .finds t s j)
 
   -- each call keeps the model's list and the live spots one
   pub step : (c : Call) (t : List ℕ) (e : Event) → tableSized (length t) ≡ true → sound t ≡ true → MetBy c t e → Kept c t e

@@ -1,19 +1,17 @@
 -- The plain list over keys, a stepping stone: the table is held against it first (Histories), and it against the model (Plain).
 -- Assumes nothing.
 use Prim.Native.Nat.{ℕ, zero, suc}
-use mathlib.Core.Bool.{not}
 use mathlib.Core.List.{List, []}
 use lib.ListN.{length, take}
-use lib.Dec.{eqb}
 use Rattle.octets.specs.Lists.{keep}
 use Rattle.spot.specs.declared.Spot.{Spot}
 use Rattle.spot.specs.Keys.{key}
 use Rattle.spot.specs.Spots.{without, find, put, byRank}
 use Rattle.spot.specs.Query.{query, topQuery, wants}
-use Rattle.table.specs.Calls.{Call, format, add, withdraw, report, top, count, check, rebuild, Lengths}
 use Rattle.block.specs.declared.Answer.{Answer}
-use Rattle.table.specs.Answers.{lengthNumber, addNumber, spotsAnswer}
 use Rattle.tree.specs.Lookup.{isLive}
+use Rattle.table.specs.Calls.{Call, format, add, withdraw, report, top, count, check, rebuild, Lengths}
+use Rattle.table.specs.Answers.{lengthNumber, addNumber, spotsAnswer}
 
 -- what it answers, hands out, and holds afterwards
 pub record KeyReply : Type 0 where
@@ -21,6 +19,7 @@ pub record KeyReply : Type 0 where
   pub given : List Spot
   pub next : List Spot
 
+-- an accepted call
 unfoldable pub accepted : ℕ → List Spot → KeyReply
 accepted detail next = record { answer = record { number = 0; detail = detail }; given = []; next = next }
 
@@ -46,5 +45,6 @@ replyTo l count ss = accepted (length ss) ss
 replyTo l check ss = accepted 1 ss
 replyTo l rebuild ss = accepted 0 ss
 
+-- what the model answers, in keys
 unfoldable pub keyReply : Lengths → Call → List Spot → KeyReply
 keyReply l c ss = refusedOr (lengthNumber l c) ss (replyTo l c ss)

@@ -9,23 +9,27 @@ use lib.ListN.{length, take, drop}
 use lib.Dec.{leb, ltb, eqb}
 use lib.IntN.{ℤ}
 use Rattle.octets.specs.Lists.{all, keep}
+use Rattle.octets.proofs.Tests.{and-left, and-right}
+use Rattle.octets.proofs.Order.{eqb-flip, not-leb}
 use Rattle.spot.specs.declared.Spot.{Spot}
 use Rattle.spot.specs.Keys.{key, rankKey, signed32, unsigned32}
 use Rattle.spot.specs.Spots.{spotBytes, spotsBytes, find, put, putHigh, byRank, without}
-use Rattle.block.specs.Table.{tableSized}
 use Rattle.spot.specs.Query.{query, topQuery, wants}
+use Rattle.spot.proofs.Signed.{Fits, signed-fits}
+use Rattle.spot.proofs.Orders.{report-wants, top-wants}
+use Rattle.block.specs.Table.{tableSized}
+use Rattle.tree.specs.Lookup.{isLive}
 use Rattle.table.specs.Calls.{Call, format, add, withdraw, report, top, count, check, rebuild, Lengths, argumentsFit}
 use Rattle.table.specs.Answers.{lengthNumber, addNumber, spotsAnswer, outputLeft}
-use Rattle.tree.specs.Lookup.{isLive}
 use Rattle.table.specs.Model.{PlainSpot, hasIdentity, placeBefore, rankHigher, ofPlaces, ofReport, chosen, insertBy, sortBy, listed, takenOut, broughtIn, highest, fourBytes, complement, asBytes, Reply, outputAfter, refuse, accept, badTable, badMap, shortScratch, full, handOut, reply}
-use Rattle.tree.proofs.Laws.{and-left, and-right}
 use Rattle.table.proofs.Keyed.{KeyReply, keyReply, replyTo, refusedOr, accepted, gives}
-use Rattle.table.proofs.Orders.{Fits, signed-fits, eqb-flip, not-leb, place-order, rank-order, same-identity, report-wants, top-wants, four-bytes, key-bytes}
+use Rattle.table.proofs.Orders.{model-places, model-ranks, model-identity, four-bytes, key-bytes}
 
 -- a spot of the model as the table's definitions have it
 abbrev pub toKeySpot : PlainSpot → Spot
 toKeySpot s = record { key = key (s .place) (s .rank); track = s .track }
 
+-- and a list of them
 abbrev pub keyed : List PlainSpot → List Spot
 keyed ss = map toKeySpot ss
 
@@ -34,12 +38,14 @@ pub record SpotFits (s : PlainSpot) : Type 0 where
   pub place : Fits (s .place)
   pub rank : Fits (s .rank)
 
+-- so it is with each spot of a list
 abbrev pub AllFit : List PlainSpot → Type 0
 AllFit [] = Unit {0}
 AllFit (s ∷ ss) = SpotFits s × AllFit ss
 
 -- ---- the operations on lists, each against its fellow on keys
 
+-- the length
 pub keyed-length : (ss : List PlainSpot) → length (keyed ss) ≡ length ss
 keyed-length [] = refl
 keyed-length (s ∷ ss) = ap suc (keyed-length ss)
@@ -100,13 +106,13 @@ step-in b s x ins xs c l e k =
 pub before-keys : (x s : PlainSpot) → SpotFits x → SpotFits s → placeBefore x s ≡ not (leb (toKeySpot s .key) (toKeySpot x .key))
 unfolding placeBefore
 before-keys x s f g =
-    place-order (x .place) (x .rank) (s .place) (s .rank) (f .place) (f .rank) (g .place) (g .rank) ∙ sym (not-leb (toKeySpot s .key) (toKeySpot x .key))
+    model-places (x .place) (x .rank) (s .place) (s .rank) (f .place) (f .rank) (g .place) (g .rank) ∙ sym (not-leb (toKeySpot s .key) (toKeySpot x .key))
 
 -- rank order is the order of rank keys
 higher-keys : (x s : PlainSpot) → SpotFits x → SpotFits s → rankHigher x s ≡ not (leb (rankKey (toKeySpot x .key)) (rankKey (toKeySpot s .key)))
 unfolding rankHigher
 higher-keys x s f g =
-    rank-order (s .place) (s .rank) (x .place) (x .rank) (g .place) (g .rank) (f .place) (f .rank) ∙
+    model-ranks (s .place) (s .rank) (x .place) (x .rank) (g .place) (g .rank) (f .place) (f .rank) ∙
     sym (not-leb (rankKey (toKeySpot x .key)) (rankKey (toKeySpot s .key)))
 
 keyed-put : (s : PlainSpot) (xs : List PlainSpot) → SpotFits s → AllFit xs → keyed (insertBy placeBefore s xs) ≡ put (toKeySpot s) (keyed xs)
@@ -126,15 +132,17 @@ keyed-sort (s ∷ ss) h =
 
 -- one identity, one key
 module _ (place rank : ℤ) (fp : Fits place) (fr : Fits rank) where
+  -- one identity, one key
   pub identity-key : (s : PlainSpot) → SpotFits s → hasIdentity place rank s ≡ eqb (toKeySpot s .key) (key place rank)
   unfolding hasIdentity
-  identity-key s f = same-identity (s .place) (s .rank) place rank (f .place) (f .rank) fp fr
+  identity-key s f = model-identity (s .place) (s .rank) place rank (f .place) (f .rank) fp fr
 
   keyed-out : (ss : List PlainSpot) → AllFit ss → keyed (takenOut place rank ss) ≡ without (key place rank) (keyed ss)
   unfolding takenOut without
   keyed-out ss h =
       keyed-chosen (λ s. not (hasIdentity place rank s)) (λ s. not (eqb (s .key) (key place rank))) (λ s f. ap not (identity-key s f)) ss h
 
+  -- what is left fits
   pub out-fit : (ss : List PlainSpot) → AllFit ss → AllFit (takenOut place rank ss)
   unfolding takenOut
   out-fit ss h = chosen-fit (λ s. not (hasIdentity place rank s)) ss h
@@ -196,6 +204,7 @@ unfolding spotBytes
 spot-bytes s f =
     ap₂ (λ (x y : List ℕ). x ++ y) (key-bytes (s .place) (s .rank) (f .place) (f .rank)) (four-bytes (s .track))
 
+-- the bytes
 pub keyed-bytes : (ss : List PlainSpot) → AllFit ss → asBytes ss ≡ spotsBytes (keyed ss)
 keyed-bytes [] h = refl
 keyed-bytes (s ∷ ss) h = ap₂ (λ (x y : List ℕ). x ++ y) (spot-bytes s (h .0)) (keyed-bytes ss (h .1))
@@ -258,6 +267,7 @@ not-all true true false = refl
 not-all true false c = refl
 not-all false b c = refl
 
+-- a table of a wrong length
 pub bad-table : (bytes : ℕ) → badTable bytes ≡ not (tableSized bytes)
 unfolding badTable tableSized
 bad-table bytes =

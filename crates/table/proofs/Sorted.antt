@@ -10,13 +10,13 @@ use lib.ListN.{length}
 use lib.Dec.{leb, ltb}
 use borrow.Author.Tests.{leb-true, ltb-true, ltb-false, eqb-false, le-leb, lt-ltb, le-ltb, ne-eqb, leb-false}
 use lib.IntN.{ℤ}
-use Rattle.octets.specs.Lists.{every}
+use Rattle.octets.specs.Lists.{every, keep}
+use Rattle.octets.proofs.Tests.{and-left, and-right, and-both, every-mem, every-make, keep-in, keep-length}
+use Rattle.octets.proofs.Order.{less-or-not, not-leb}
 use Rattle.spot.specs.Keys.{key, signed32, unsigned32}
+use Rattle.tree.proofs.Says.{neither}
 use Rattle.table.specs.Calls.{Call, format, add, withdraw, report, top, count, check, rebuild, Lengths, argumentsFit}
 use Rattle.table.specs.Model.{PlainSpot, hasIdentity, placeBefore, chosen, insertBy, listed, takenOut, broughtIn, Reply, refuse, accept, badTable, badMap, shortScratch, full, handOut, reply}
-use Rattle.tree.proofs.Laws.{and-left, and-right, and-both}
-use Rattle.tree.proofs.Canon.{less-or-not}
-use Rattle.table.proofs.Orders.{not-leb}
 use Rattle.table.proofs.Plain.{toKeySpot, SpotFits, AllFit, before-keys, identity-key, out-fit, two-fit}
 
 -- each spot comes before all that follow it
@@ -62,10 +62,6 @@ before-other s x f g a =
 
 -- ---- lists
 
-or-false : (a b : Bool) → a || b ≡ false → (a ≡ false) × (b ≡ false)
-or-false true b h = absurd (true≢false h)
-or-false false b h = (refl, h)
-
 or-none : (a b : Bool) → a ≡ false → b ≡ false → a || b ≡ false
 or-none a b p q = rw (p, q)
 
@@ -73,11 +69,13 @@ every-cond : (g : PlainSpot → Bool) (b : Bool) (xs ys : List PlainSpot) → ev
 every-cond g true xs ys p q = p
 every-cond g false xs ys p q = q
 
+-- the model's choice is `keep`
+chosen-keep : (f : PlainSpot → Bool) (ss : List PlainSpot) → chosen f ss ≡ keep f ss
+chosen-keep f [] = refl
+chosen-keep f (s ∷ ss) = ap (λ (l : List PlainSpot). cond (f s) (s ∷ l) l) (chosen-keep f ss)
+
 every-chosen : (g f : PlainSpot → Bool) (ss : List PlainSpot) → every g ss ≡ true → every g (chosen f ss) ≡ true
-every-chosen g f [] h = refl
-every-chosen g f (s ∷ ss) h =
-    let r = every-chosen g f ss (and-right (g s) (every g ss) h) in
-    every-cond g (f s) (s ∷ chosen f ss) (chosen f ss) (and-both (g s) (every g (chosen f ss)) (and-left (g s) (every g ss) h) r) r
+every-chosen g f ss h = rw (chosen-keep f ss) (every-make g (keep f ss) (λ x i. every-mem g ss h (keep-in f ss i)))
 
 order-chosen : (f : PlainSpot → Bool) (ss : List PlainSpot) → InOrder ss → InOrder (chosen f ss)
 order-chosen f [] h = tt
@@ -109,7 +107,7 @@ order-insert s [] f h n o = (refl, tt)
 order-insert s (x ∷ xs) f h n o = go (placeBefore x s) refl (order-insert s xs f (h .1) (away .1) (o .1))
   where
     away : (hasIdentity (s .place) (s .rank) x ≡ false) × (listed (s .place) (s .rank) xs ≡ false)
-    away = or-false (hasIdentity (s .place) (s .rank) x) (listed (s .place) (s .rank) xs) n
+    away = neither (hasIdentity (s .place) (s .rank) x) (listed (s .place) (s .rank) xs) n
 
     go : (b : Bool) → placeBefore x s ≡ b → InOrder (insertBy placeBefore s xs) → InOrder (cond b (x ∷ insertBy placeBefore s xs) (s ∷ x ∷ xs))
     go true e ih = (every-insert (placeBefore x) placeBefore s xs e (o .0), ih)
@@ -144,10 +142,13 @@ order-once (s ∷ ss) h o = (none-after ss (h .1) (o .0), order-once ss (h .1) (
 
 module _ (P : List PlainSpot → Type 0) (ss : List PlainSpot) (kept : P ss) where
   -- a refusal keeps what holds of the list
-  or-refuse : (b : Bool) (n d : ℕ) (r : Reply) → P (r .next) → P (cond b (refuse n d ss) r .next)
+  refused-or : (b : Bool) (n d : ℕ) (r : Reply) → (b ≡ false → P (r .next)) → P (cond b (refuse n d ss) r .next)
   unfolding refuse
-  or-refuse true n d r h = kept
-  or-refuse false n d r h = h
+  refused-or true n d r h = kept
+  refused-or false n d r h = h refl
+
+  or-refuse : (b : Bool) (n d : ℕ) (r : Reply) → P (r .next) → P (cond b (refuse n d ss) r .next)
+  or-refuse b n d r h = refused-or b n d r (λ z. h)
 
   handed : (bytes : ℕ) (found : List PlainSpot) → P (handOut bytes found ss .next)
   unfolding handOut accept
@@ -184,10 +185,7 @@ length-cond true xs ys n p q = p
 length-cond false xs ys n p q = q
 
 length-chosen : (f : PlainSpot → Bool) (ss : List PlainSpot) → length (chosen f ss) ≤ length ss
-length-chosen f [] = omega arith
-length-chosen f (s ∷ ss) =
-    let i = length-chosen f ss in
-    length-cond (f s) (s ∷ chosen f ss) (chosen f ss) (suc (length ss)) (omega arith) (omega arith)
+length-chosen f ss = rw (chosen-keep f ss) (keep-length f ss)
 
 length-insert : (before : PlainSpot → PlainSpot → Bool) (s : PlainSpot) (xs : List PlainSpot) → length (insertBy before s xs) ≤ suc (length xs)
 length-insert before s [] = omega arith
@@ -231,28 +229,24 @@ module _ (bytes : ℕ) where
       taken : length (takenOut place rank ss) ≤ length ss
       taken = fewer-out place rank ss
 
-  refused-or : (b : Bool) (n d : ℕ) (ss : List PlainSpot) (r : Reply) → Held ss → (b ≡ false → Held (r .next)) → Held (cond b (refuse n d ss) r .next)
-  unfolding refuse
-  refused-or true n d ss r h f = h
-  refused-or false n d ss r h f = f refl
-
+  -- no call makes more
   pub stays-held : (l : Lengths) → l .table ≡ bytes → (c : Call) (ss : List PlainSpot) → Held ss → Held (reply l c ss .next)
   unfolding reply accept
-  stays-held l e format ss h = refused-or (badTable (l .table)) 1 0 ss _ h (λ z. omega arith)
+  stays-held l e format ss h = refused-or Held ss h (badTable (l .table)) 1 0 _ (λ z. omega arith)
   stays-held l e (add place rank track) ss h =
-      refused-or (badTable (l .table)) 1 0 ss _ h
-      (λ z. refused-or (shortScratch l) 2 0 ss _ h
-      (λ y. refused-or (full (l .table) place rank ss) 4 0 ss _ h (λ x. held-add place rank track ss h (ap (λ (b : ℕ). full b place rank ss) (sym e) ∙ x))))
+      refused-or Held ss h (badTable (l .table)) 1 0 _
+      (λ z. refused-or Held ss h (shortScratch l) 2 0 _
+      (λ y. refused-or Held ss h (full (l .table) place rank ss) 4 0 _ (λ x. held-add place rank track ss h (ap (λ (b : ℕ). full b place rank ss) (sym e) ∙ x))))
   stays-held l e (withdraw place rank) ss h =
-      refused-or (badTable (l .table)) 1 0 ss _ h
-      (λ z. refused-or (shortScratch l) 2 0 ss _ h (λ y. let j = fewer-out place rank ss in omega arith))
+      refused-or Held ss h (badTable (l .table)) 1 0 _
+      (λ z. refused-or Held ss h (shortScratch l) 2 0 _ (λ y. let j = fewer-out place rank ss in omega arith))
   stays-held l e (report x1 x2 y) ss h =
-      refused-or (badTable (l .table)) 1 0 ss _ h (λ z. refused-or (badMap l) 2 0 ss _ h (λ y. handed Held ss h (l .output) _))
+      refused-or Held ss h (badTable (l .table)) 1 0 _ (λ z. refused-or Held ss h (badMap l) 2 0 _ (λ y. handed Held ss h (l .output) _))
   stays-held l e (top x1 x2 k) ss h =
-      refused-or (badTable (l .table)) 1 0 ss _ h (λ z. refused-or (badMap l) 2 0 ss _ h (λ y. handed Held ss h (l .output) _))
-  stays-held l e count ss h = refused-or (badTable (l .table)) 1 0 ss _ h (λ z. h)
-  stays-held l e check ss h = refused-or (badTable (l .table)) 1 0 ss _ h (λ z. h)
-  stays-held l e rebuild ss h = refused-or (badTable (l .table)) 1 0 ss _ h (λ z. refused-or (shortScratch l) 2 0 ss _ h (λ y. h))
+      refused-or Held ss h (badTable (l .table)) 1 0 _ (λ z. refused-or Held ss h (badMap l) 2 0 _ (λ y. handed Held ss h (l .output) _))
+  stays-held l e count ss h = refused-or Held ss h (badTable (l .table)) 1 0 _ (λ z. h)
+  stays-held l e check ss h = refused-or Held ss h (badTable (l .table)) 1 0 _ (λ z. h)
+  stays-held l e rebuild ss h = refused-or Held ss h (badTable (l .table)) 1 0 _ (λ z. refused-or Held ss h (shortScratch l) 2 0 _ (λ y. h))
 
 -- "full" comes exactly when the list holds 16 spots for each block after the first and the new spot's place and rank are not among them
 pub says-full : (l : Lengths) (place rank : ℤ) (track : ℕ) (ss : List PlainSpot) → badTable (l .table) ≡ false → l .table ≤ l .scratch

@@ -1,8 +1,8 @@
 -- The marked cases M1 to M8 of the paper and those of a full table, of lengths and of the ends of 32 bits, as rows of one table: a test that antt computes
 -- over all of them, and one law that turns it into the equations.
 -- Assumes nothing.
-use mathlib.Core.Path.{_≡_, refl, ap₂}
-use mathlib.Core.Bool.{Bool, true, false, _&&_, false≢true}
+use mathlib.Core.Path.{_≡_, refl}
+use mathlib.Core.Bool.{Bool, true}
 use mathlib.Core.List.{List, [], _∷_, _++_}
 use Prim.Native.Nat.{ℕ, zero, suc, _*_, _<_}
 use lib.Dec.{eqb}
@@ -10,10 +10,12 @@ use borrow.Author.Tests.{eqb-true}
 use lib.ListN.{length, getD, replicate, drop}
 use lib.IntN.{ℤ, pos, negsuc}
 use Rattle.octets.specs.Lists.{all, every}
-use Rattle.table.specs.Calls.{Call, format, add, withdraw, report, top, count, check, rebuild, Lengths, argumentsFit}
+use Rattle.octets.proofs.Tests.{all-at, every-at}
 use Rattle.spot.specs.Keys.{signed32, unsigned32}
+use Rattle.tree.specs.SameList.{sameList}
+use Rattle.tree.proofs.MapBits.{same-lists}
+use Rattle.table.specs.Calls.{Call, format, add, withdraw, report, top, count, check, rebuild, Lengths, argumentsFit}
 use Rattle.table.specs.Model.{PlainSpot, eqZ, hasIdentity, placeBefore, rankHigher, ofPlaces, ofReport, takenOut, broughtIn, highest, fourBytes, complement, Reply, outputAfter, refuse, accept, badTable, badMap, shortScratch, full, handOut, reply}
-use Rattle.tree.proofs.Laws.{all-at, every-at, and-left, and-right}
 
 -- a table of this many blocks, a read map and a work area as they should be, and an output of this many bytes
 abbrev lens : ℕ → ℕ → Lengths
@@ -36,6 +38,7 @@ after : List Call → List PlainSpot → List PlainSpot
 after [] ss = ss
 after (c ∷ cs) ss = after cs (reply (room 0) c ss .next)
 
+-- what the model answers to a row
 pub found : Row → Reply
 found r = reply (r .lent) (r .call) (after (r .before) [])
 
@@ -43,19 +46,13 @@ found r = reply (r .lent) (r .call) (after (r .before) [])
 abbrev pub sevens : Row → List ℕ
 sevens r = replicate (r .lent .output) 7
 
-same : List ℕ → List ℕ → Bool
-same [] [] = true
-same [] (y ∷ ys) = false
-same (x ∷ xs) [] = false
-same (x ∷ xs) (y ∷ ys) = eqb x y && same xs ys
-
 right : Row → Bool
 right r =
     all (
     every argumentsFit (r .call ∷ r .before) ∷
     eqb (found r .answer .number) (r .number) ∷
     eqb (found r .answer .detail) (r .detail) ∷
-    same (outputAfter (found r) (sevens r)) (r .front ++ drop (length (r .front)) (sevens r)) ∷
+    sameList (outputAfter (found r) (sevens r)) (r .front ++ drop (length (r .front)) (sevens r)) ∷
     [])
 
 -- the two ends of 32 bits
@@ -78,6 +75,7 @@ abbrev corners : List Call
 corners =
     add most most 1 ∷ add least least 2 ∷ add least most 3 ∷ add most least 4 ∷ add (pos 0) (negsuc 0) 5 ∷ add (negsuc 0) (pos 0) 4294967295 ∷ []
 
+-- the rows
 pub rows : List Row
 rows =
     -- M1, of the model: any report empty
@@ -158,24 +156,17 @@ pub record Says (r : Row) : Type 0 where
   pub detail : found r .answer .detail ≡ r .detail
   pub output : outputAfter (found r) (sevens r) ≡ r .front ++ drop (length (r .front)) (sevens r)
 
-same→eq : (xs ys : List ℕ) → same xs ys ≡ true → xs ≡ ys
-unfolding same
-same→eq [] [] t = refl
-same→eq [] (y ∷ ys) t = absurd (false≢true t)
-same→eq (x ∷ xs) [] t = absurd (false≢true t)
-same→eq (x ∷ xs) (y ∷ ys) t =
-    ap₂ (λ (a : ℕ) (l : List ℕ). a ∷ l) (eqb-true x y (and-left (eqb x y) (same xs ys) t)) (same→eq xs ys (and-right (eqb x y) (same xs ys) t))
-
 says : (r : Row) → right r ≡ true → Says r
 unfolding right
 says r t =
-    record { fit = all-at _ t 0; number = eqb-true _ _ (all-at _ t 1); detail = eqb-true _ _ (all-at _ t 2); output = same→eq _ _ (all-at _ t 3) }
+    record { fit = all-at _ t 0; number = eqb-true _ _ (all-at _ t 1); detail = eqb-true _ _ (all-at _ t 2); output = same-lists _ _ (all-at _ t 3) }
 
+-- a row to stand past the end
 pub some-row : Row
 some-row = record { before = []; call = count; lent = room 0; number = 0; detail = 0; front = [] }
 
 all-right : every right rows ≡ true
-unfolding all right rows found after same filling signed32 unsigned32 argumentsFit eqZ hasIdentity placeBefore rankHigher ofPlaces ofReport takenOut broughtIn highest fourBytes complement outputAfter refuse accept badTable badMap shortScratch full handOut reply
+unfolding all right rows found after filling signed32 unsigned32 argumentsFit eqZ hasIdentity placeBefore rankHigher ofPlaces ofReport takenOut broughtIn highest fourBytes complement outputAfter refuse accept badTable badMap shortScratch full handOut reply
 all-right = refl
 
 -- every row of the table says what the definitions give

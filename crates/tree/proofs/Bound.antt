@@ -4,41 +4,47 @@
 use mathlib.Core.Path.{_≡_, refl, ap, sym, _∙_}
 use mathlib.Core.Logic.{_⊎_, inl, inr, ⊎-elim}
 use mathlib.Core.Bool.{Bool, true, false, cond, false≢true}
-use mathlib.Core.List.{List, [], _∷_, _++_, List·Memᴰ, List·Memᴰ·head, List·Memᴰ·tail, List·Memᴰ·not-nil, List·Memᴰ·cases-cons, List·Memᴰ·append-cases, Memᴰ·append-left, Memᴰ·append-right}
+use mathlib.Core.List.{List, [], _∷_, _++_, List·Memᴰ, List·Memᴰ·head, List·Memᴰ·tail, List·Memᴰ·not-nil, List·Memᴰ·append-cases, Memᴰ·append-left, Memᴰ·append-right}
 use mathlib.Core.Option.{Option, none, some}
 use Prim.Native.Nat.{ℕ, zero, suc, _+_, _*_, _/_, _≤_, _<_}
 use native.Mathlib.Nat.{mul-le-mul-right}
 use native.Mathlib.Omega.{arith}
-use lib.ListN.{length, length-append}
-use lib.Dec.{eqb, leb}
-use borrow.Author.Tests.{leb-true, ltb-true, eqb-false, le-leb, not-true}
-use Rattle.octets.specs.Lists.{all, every, keep, has, distinct, isEmpty, rest}
-use Rattle.spot.specs.declared.Spot.{Spot}
+use lib.ListN.{length, length-append, length-reverseAux}
+use lib.Dec.{eqb}
+use borrow.Author.Tests.{leb-true, ltb-true, eqb-false, not-true}
+use Rattle.octets.specs.Lists.{every, keep, has, distinct}
+use Rattle.octets.proofs.Tests.{all-at, and-left, and-right, every-mem, keep-passes, keep-in, keep-length}
+use Rattle.octets.proofs.Order.{same-or-not}
+use Rattle.octets.proofs.Sets.{distinct-left, every-has, mem-has, has-mem}
+use Rattle.octets.proofs.Once.{Once, fewer, once-append, once-distinct}
 use Rattle.spot.specs.Spots.{keys, find}
 use Rattle.spot.specs.Keys.{rankKey, rankOf, allKeys, within}
+use Rattle.spot.specs.declared.Query.{Query}
+use Rattle.spot.specs.Query.{wantsKey, meets}
+use Rattle.spot.proofs.Buffers.{find-only, keys-length}
+use Rattle.spot.proofs.Places.{within-yes, within-high, within-from, within-to, cuts, cuts-join, cuts-small, meets-at, meets-some, uncut, wants-yes}
+use Rattle.spot.proofs.Halves.{rank-up}
 use Rattle.block.specs.declared.Entry.{Entry}
 use Rattle.block.specs.Node.{Node, Store, storeOf}
 use Rattle.block.specs.Header.{headOf}
 use Rattle.block.specs.declared.Asked.the-variants.{Child}
-use Rattle.block.specs.NodeRules.{names, lows, tops, nodeOk, childCountOk, fewest, filled, pointsAbove}
+use Rattle.block.specs.NodeRules.{names, tops, filled, pointsAbove}
+use Rattle.block.proofs.Facts.{node-facts}
 use Rattle.tree.specs.Part.{Part, whole, nextLow, parts, children}
 use Rattle.tree.specs.Lookup.{orElse, down, lookup, live, isLive}
 use Rattle.tree.specs.Reach.{gather}
 use Rattle.tree.specs.Sound.{soundAt, sound}
-use Rattle.spot.specs.declared.Query.{Query}
-use Rattle.tree.specs.Walk.{walk, Walk, walked, spots, blocksRead, isBroken, topped, admits, walkTable, walkFrom, liveSpots}
-use Rattle.spot.specs.Query.{wantsKey, placed, meets}
+use Rattle.tree.specs.Walk.{Walk, spots, blocksRead, isBroken, topped, admits, walkTable, liveSpots}
 use Rattle.tree.specs.ReadMap.{readMap, ones}
-use Rattle.tree.proofs.Laws.{all-at, all-cons, all-nil, and-left, and-right, every-mem, keep-passes}
-use Rattle.tree.proofs.Canon.{same-or-not}
-use Rattle.tree.proofs.Below.{Under, node-sound, under-point, under-lower, entry-top, filled-by, has-child, parts-mem, tops-mem}
-use Rattle.tree.proofs.Live.{Chain, chain-to, chain-first, chain-rest, chain-make, has-keys, distinct-left, every-has, Node·, node-rules, find-keep}
-use Rattle.tree.proofs.Places.{within-yes, within-high, within-from, within-to, cuts, cuts-join, cuts-small, meets-at, meets-some, uncut}
-use Rattle.tree.proofs.Walks.{once-whole}
-use Rattle.tree.proofs.Apart.{has-mem, keep-in, Apart, fewer, apart-append, apart-distinct, mem-has}
-use Rattle.tree.proofs.Tables.{sound-tree, sound-header, live-finds, report-finds}
 use Rattle.tree.specs.Trace.{visits}
-use Rattle.tree.proofs.Visits.{onto, onto-length, walk-reads, ones-few}
+use Rattle.tree.proofs.Below.{Under, node-sound, under-point, under-lower, entry-top, filled-by, has-child, tops-mem}
+use Rattle.tree.proofs.Ranges.{parts-mem, Steps, next-le, steps-of, part-bounds, parts-length}
+use Rattle.tree.proofs.Live.{node-rules}
+use Rattle.tree.proofs.Says.{has-keys, names-P}
+use Rattle.tree.proofs.Tables.{sound-tree, live-finds, report-finds}
+use Rattle.tree.proofs.Onto.{onto}
+use Rattle.tree.proofs.Marks.{ones-few}
+use Rattle.tree.proofs.Traces.{whole-reads}
 
 -- what is known of a point counted: it is wanted, no higher than `High` says, and live in its part or among the deletes counted
 record Owed (q : Query) (lo hi : ℕ) (look : ℕ → Option ℕ) (High : ℕ → Type 0) (ds : List ℕ) (k : ℕ) : Type 0 where
@@ -53,7 +59,7 @@ record Bill (q : Query) (lo hi : ℕ) (look : ℕ → Option ℕ) (High : ℕ �
   inner : ℕ
   ps : List ℕ
   ds : List ℕ
-  once : Apart ps
+  once : Once ps
   owed : (k : ℕ) → List·Memᴰ k ps → Owed q lo hi look High ds k
   few : length ds ≤ 16 * inner
   paid : 32 * inner ≤ length ps + 32 * (cuts q lo hi * l)
@@ -73,7 +79,7 @@ module _ (q : Query) (lo mid hi : ℕ) (lm : lo ≤ mid) (mh : mid ≤ hi) (firs
         inner = a .inner + b .inner;
         ps = a .ps ++ b .ps;
         ds = a .ds ++ b .ds;
-        once = apart-append (a .ps) (b .ps) (a .once) (b .once)
+        once = once-append (a .ps) (b .ps) (a .once) (b .once)
             (λ k x y. omega (arith, within-to lo mid k (a .owed k x .place), within-from mid hi k (b .owed k y .place)));
         owed = λ k j. ⊎-elim (λ x. left k (a .owed k x)) (λ y. right k (b .owed k y)) (List·Memᴰ·append-cases (a .ps) j);
         few = omega (arith, a .few, b .few, length-append (a .ds) (b .ds));
@@ -120,10 +126,10 @@ module _ (q : Query) (l : ℕ) (m : Store) (deeper : (c : Part) → soundAt l m 
       Bill q lo hi (λ k. down (lookup l m k) k (parts lo hi es)) (UnderTops es) l (length (keep (admits q) (parts lo hi es)))
       (length (gather (visits l m q) (keep (admits q) (parts lo hi es))))
 
-  children-bill : (es : List Entry) (lo hi : ℕ) → Chain lo hi (rest (lows es)) → every (soundAt l m) (parts lo hi es) ≡ true → Children es lo hi
+  children-bill : (es : List Entry) (lo hi : ℕ) → Steps lo hi es → every (soundAt l m) (parts lo hi es) ≡ true → Children es lo hi
   children-bill [] lo hi ch s = bill-none q lo hi _ _ l 0 0 (omega arith)
   children-bill (e ∷ es) lo hi ch s =
-      go (admits q c) (children-bill es mid hi (chain-rest lo hi es ch) (and-right (soundAt l m c) (every (soundAt l m) (parts mid hi es)) s))
+      go (admits q c) (children-bill es mid hi (ch .1) (and-right (soundAt l m c) (every (soundAt l m) (parts mid hi es)) s))
     where
       mid : ℕ
       mid = nextLow es hi
@@ -135,10 +141,10 @@ module _ (q : Query) (l : ℕ) (m : Store) (deeper : (c : Part) → soundAt l m 
       later = keep (admits q) (parts mid hi es)
 
       first : lo ≤ mid
-      first = chain-first lo hi es ch
+      first = ch .0
 
       last : mid ≤ hi
-      last = chain-to mid hi (rest (lows es)) (chain-rest lo hi es ch)
+      last = next-le hi es (ch .1)
 
       sound-c : soundAt l m c ≡ true
       sound-c = and-left (soundAt l m c) (every (soundAt l m) (parts mid hi es)) s
@@ -164,45 +170,10 @@ module _ (q : Query) (l : ℕ) (m : Store) (deeper : (c : Part) → soundAt l m 
           joined 1 (length (visits l m q c)) _ _ (deeper c sound-c first) ih (omega arith) (omega (arith, length-append (visits l m q c) (gather (visits l m q) later)))
       go false ih = joined 0 0 _ _ (bill-none q lo mid _ _ l 0 0 (omega arith)) ih (omega arith) (omega arith)
 
--- a part lies in the range
-parts-range : (lo hi : ℕ) (es : List Entry) {c : Part} → Chain lo hi (rest (lows es)) → List·Memᴰ c (parts lo hi es) → (lo ≤ c .lo) × (c .hi ≤ hi)
-parts-range lo hi [] ch k = absurd (List·Memᴰ·not-nil k)
-parts-range lo hi (e ∷ es) {c} ch k =
-    let first = chain-first lo hi es ch in
-    let last = chain-to (nextLow es hi) hi (rest (lows es)) (chain-rest lo hi es ch) in
-    ⊎-elim (λ h. (omega (arith, ap (λ (p : Part). p .lo) h), omega (arith, ap (λ (p : Part). p .hi) h)))
-    (λ j. let r = parts-range (nextLow es hi) hi es (chain-rest lo hi es ch) j in (omega arith, omega arith))
-    (List·Memᴰ·cases-cons k)
-
-parts-length : (lo hi : ℕ) (es : List Entry) → length (parts lo hi es) ≡ length es
-parts-length lo hi [] = refl
-parts-length lo hi (e ∷ es) = ap suc (parts-length (nextLow es hi) hi es)
-
-keep-length : (f : Part → Bool) (ps : List Part) → length (keep f ps) ≤ length ps
-keep-length f [] = omega arith
-keep-length f (p ∷ ps) = go (f p) (keep-length f ps)
-  where
-    go : (b : Bool) → length (keep f ps) ≤ length ps → length (cond b (p ∷ keep f ps) (keep f ps)) ≤ suc (length ps)
-    go true h = omega arith
-    go false h = omega arith
-
-keys-length : (ss : List Spot) → length (keys ss) ≡ length ss
-keys-length [] = refl
-keys-length (s ∷ ss) = ap suc (keys-length ss)
-
 -- at most eight children
 few-children : (l : ℕ) (m : Store) (p : Part) → soundAt (suc l) m p ≡ true → length (m (p .block) .entries) ≤ 8
-unfolding soundAt nodeOk childCountOk
-few-children l m p s = go (eqb (m (p .block) .level) 0) (all-at _ (all-at _ s 0) 2)
-  where
-    none-there : (es : List Entry) → isEmpty es ≡ true → length es ≤ 8
-    none-there [] h = omega arith
-    none-there (e ∷ es) h = absurd (false≢true h)
-
-    go : (b : Bool) → cond b (isEmpty (m (p .block) .entries)) (all (leb (fewest (p .asked)) (length (m (p .block) .entries)) ∷ leb (length (m (p .block) .entries)) 8 ∷ [])) ≡ true
-        → length (m (p .block) .entries) ≤ 8
-    go true h = none-there (m (p .block) .entries) h
-    go false h = leb-true _ 8 (all-at _ h 1)
+unfolding soundAt
+few-children l m p s = node-facts l (p .asked) (m (p .block)) (all-at _ s 0) .entries-most
 
 -- what an admitted child shows of its parent
 record Inner (q : Query) (p : Part) (n : Node) : Type 0 where
@@ -224,10 +195,7 @@ topped-rank : (q : Query) (e : Entry) → topped q (Child e) ≡ true → q .lea
 unfolding topped
 topped-rank q e h = leb-true (q .least) (rankOf (e .top)) (all-at _ h 1)
 
-rank-up : (a b : ℕ) → rankKey a < rankKey b → rankOf a ≤ rankOf b
-rank-up a b h = omega arith
-
-inner-node : (q : Query) (l : ℕ) (m : Store) (p : Part) → soundAt (suc l) m p ≡ true → Chain (p .lo) (p .hi) (rest (lows (m (p .block) .entries)))
+inner-node : (q : Query) (l : ℕ) (m : Store) (p : Part) → soundAt (suc l) m p ≡ true → Steps (p .lo) (p .hi) (m (p .block) .entries)
     → {c : Part} → List·Memᴰ c (keep (admits q) (children p (m (p .block))))
     → Inner q p (m (p .block))
 unfolding admits
@@ -237,7 +205,7 @@ inner-node q l m p s ch {c} k =
     let a = keep-passes (admits q) (children p n) k in
     let j = keep-in (admits q) (children p n) k in
     let e = parts-mem (p .lo) (p .hi) (n .entries) j in
-    let r = parts-range (p .lo) (p .hi) (n .entries) ch j in
+    let r = part-bounds (p .lo) (p .hi) (n .entries) ch j in
     let x = meets-some q (c .lo) (c .hi) (all-at _ a 1) in
     let t : topped q (Child (e .0)) ≡ true = ap (topped q) (sym (e .2)) ∙ all-at _ a 0 in
     let i = tops-mem (n .entries) (e .1) (topped-size q (e .0) t) in
@@ -246,10 +214,6 @@ inner-node q l m p s ch {c} k =
       high = λ x h. omega (arith, topped-rank q (e .0) t, rank-up (e .0 .top) x (above-tops n x (e .0 .top) (ok .above) h i));
       met = meets-at q (p .lo) (p .hi) (x .0) (within-yes (p .lo) (p .hi) (x .0) (omega (arith, r .0, within-from (c .lo) (c .hi) (x .0) (x .1))) (omega (arith, r .1, within-to (c .lo) (c .hi) (x .0) (x .1)))) (x .2);
     }
-
-wants-make : (q : Query) (k : ℕ) → placed q k ≡ true → q .least ≤ rankOf k → wantsKey q k ≡ true
-unfolding wantsKey
-wants-make q k a b = all-cons _ _ a (all-cons _ _ (le-leb (q .least) (rankOf k) b) all-nil)
 
 -- what is live below a node is live there, or among its deletes
 live-over : (points inserts : Option ℕ) (gone : Bool) (below : Option ℕ) → isLive below ≡ true
@@ -271,13 +235,9 @@ filled-deletes : (n : Node) → filled n ≡ true → length (n .deletes) ≤ 16
 unfolding filled
 filled-deletes n h = leb-true (length (n .deletes)) 16 (all-at _ h 3)
 
-points-once : (n : Node) → distinct (names n) ≡ true → Apart (keys (n .points))
+points-once : (n : Node) → distinct (names n) ≡ true → Once (keys (n .points))
 unfolding names
-points-once n h = apart-distinct (keys (n .points)) (distinct-left (keys (n .points)) (keys (n .inserts)) (distinct-left (keys (n .points) ++ keys (n .inserts)) (n .deletes) h))
-
-point-named : (n : Node) {k : ℕ} → List·Memᴰ k (keys (n .points)) → has k (names n) ≡ true
-unfolding names
-point-named n {k} h = has-mem k _ (Memᴰ·append-left (n .deletes) (Memᴰ·append-left (keys (n .inserts)) h))
+points-once n h = once-distinct (keys (n .points)) (distinct-left (keys (n .points)) (keys (n .inserts)) (distinct-left (keys (n .points) ++ keys (n .inserts)) (n .deletes) h))
 
 -- a node with a child that is read
 module _ (q : Query) (l : ℕ) (m : Store) (p : Part) (s : soundAt (suc l) m p ≡ true) (i : Inner q p (m (p .block))) where
@@ -298,7 +258,7 @@ module _ (q : Query) (l : ℕ) (m : Store) (p : Part) (s : soundAt (suc l) m p �
         high = record { held = v .held; below = omega (arith, v .below, u .2) };
         seen =
             ⊎-elim
-            (λ x. ⊎-elim (λ y. inl y) (λ y. inr (Memᴰ·append-left ds (mem-has k (n .deletes) y))) (live-over (find k (n .points)) (find k (n .inserts)) (has k (n .deletes)) (below k) x))
+            (λ x. ⊎-elim (λ y. inl y) (λ y. inr (Memᴰ·append-left ds (has-mem k (n .deletes) y))) (live-over (find k (n .points)) (find k (n .inserts)) (has k (n .deletes)) (below k) x))
             (λ x. inr (Memᴰ·append-right (n .deletes) x))
             (o .seen);
       }
@@ -309,12 +269,12 @@ module _ (q : Query) (l : ℕ) (m : Store) (p : Part) (s : soundAt (suc l) m p �
   unfolding lookup
   owed-here ds z k h =
       let n = m (p .block) in
-      let w = every-has (within (p .lo) (p .hi)) k (names n) (node-rules l m p s .place) (point-named n h) in
+      let w = every-has (within (p .lo) (p .hi)) k (names n) (node-rules l m p s .place) (mem-has k (names n) (names-P n h)) in
       record {
         place = w;
-        wanted = wants-make q k (uncut q (p .lo) (p .hi) z (i .met) k w) (i .high k h);
+        wanted = wants-yes q k (uncut q (p .lo) (p .hi) z (i .met) k w) (i .high k h);
         high = under-point n h;
-        seen = inl (live-point (find k (n .points)) _ (sym (has-keys k (n .points)) ∙ has-mem k (keys (n .points)) h));
+        seen = inl (live-point (find k (n .points)) _ (sym (has-keys k (n .points)) ∙ mem-has k (keys (n .points)) h));
       }
 
   -- the account with this node's
@@ -327,7 +287,7 @@ module _ (q : Query) (l : ℕ) (m : Store) (p : Part) (s : soundAt (suc l) m p �
         inner = suc (b .inner);
         ps = keys (n .points) ++ b .ps;
         ds = n .deletes ++ b .ds;
-        once = apart-append (keys (n .points)) (b .ps) (points-once n (node-rules l m p s .once)) (b .once) apart;
+        once = once-append (keys (n .points)) (b .ps) (points-once n (node-rules l m p s .once)) (b .once) apart;
         owed = λ k j. ⊎-elim (λ x. owed-here (n .deletes ++ b .ds) z k x) (λ x. owed-below (b .ds) k (b .owed k x)) (List·Memᴰ·append-cases (keys (n .points)) j);
         few = few-node;
         paid = omega (arith, b .paid, length-append (keys (n .points)) (b .ps), keys-length (n .points), filled-points n (i .full));
@@ -371,11 +331,8 @@ part-bill q (suc l) m p s h = go (keep (admits q) (children p n)) (λ c k. k) (k
     n : Node
     n = m (p .block)
 
-    ru : Node· p n
-    ru = node-rules l m p s
-
-    ch : Chain (p .lo) (p .hi) (rest (lows (n .entries)))
-    ch = chain-make (rest (lows (n .entries))) (p .lo) (p .hi) h (ru .rise) (ru .splits)
+    ch : Steps (p .lo) (p .hi) (n .entries)
+    ch = steps-of l p n h (all-at _ s 0) (all-at _ s 1)
 
     go : (cs : List Part) → ((c : Part) → List·Memᴰ c cs → List·Memᴰ c (keep (admits q) (children p n))) → length cs ≤ length (children p n)
         → Bill q (p .lo) (p .hi) (λ k. down (lookup l m k) k (children p n)) (UnderTops (n .entries)) l (length cs) (length (gather (visits l m q) cs))
@@ -394,22 +351,19 @@ levels-some (suc l) m p s = omega arith
 module _ (t : List ℕ) (s : sound t ≡ true) (q : Query) where
   -- what is read of a sound table, in the order of reading
   pub table-reads : blocksRead (walkTable t q) ≡ onto (visits (headOf t .levels) (storeOf t) q (whole (headOf t))) []
-  unfolding walkTable walkFrom
-  table-reads =
-      let o = once-whole (walk (headOf t .levels) (storeOf t) q [] (whole (headOf t)) (walked [] [])) (rw (sound-header t s) at (ap isBroken (report-finds t s q .1))) in
-      rw (sound-header t s, o .0) (walk-reads (headOf t .levels) (storeOf t) q [] (whole (headOf t)) (walked [] []) (o .1))
+  table-reads = whole-reads t q (ap isBroken (report-finds t s q .1))
 
   reported : (k : ℕ) → wantsKey q k ≡ true → isLive (live t k) ≡ true → List·Memᴰ k (keys (spots (walkTable t q)))
   reported k w l =
-      let e : find k (spots (walkTable t q)) ≡ live t k = ap (λ (v : Walk). find k (spots v)) (report-finds t s q .1) ∙ find-keep (wantsKey q) k (liveSpots t) ∙ rw (w, live-finds t s k) in
-      mem-has k (keys (spots (walkTable t q))) (has-keys k (spots (walkTable t q)) ∙ ap isLive e ∙ l)
+      let e : find k (spots (walkTable t q)) ≡ live t k = ap (λ (v : Walk). find k (spots v)) (report-finds t s q .1) ∙ find-only (wantsKey q) k (liveSpots t) ∙ rw (w, live-finds t s k) in
+      has-mem k (keys (spots (walkTable t q))) (has-keys k (spots (walkTable t q)) ∙ ap isLive e ∙ l)
 
   -- 01: "On a sound table a Report marks at most 1 + 36h + 9 · (spots reported div 16)"
   pub report-bound : ones (readMap (blocksRead (walkTable t q))) ≤ 1 + 36 * (headOf t .levels) + 9 * (length (spots (walkTable t q)) / 16)
   unfolding live
   report-bound =
       omega
-      (arith, ones-few (blocksRead (walkTable t q)), ap length table-reads, onto-length (visits (headOf t .levels) (storeOf t) q (whole (headOf t))) [], b .read, b .paid, b .few, counted, length-append (keys (spots (walkTable t q))) (b .ds), keys-length (spots (walkTable t q)), mul-le-mul-right (headOf t .levels) (cuts-small q 0 allKeys), levels-some (headOf t .levels) (storeOf t) (whole (headOf t)) (sound-tree t s))
+      (arith, ones-few (blocksRead (walkTable t q)), ap length table-reads, length-reverseAux (visits (headOf t .levels) (storeOf t) q (whole (headOf t))) [], b .read, b .paid, b .few, counted, length-append (keys (spots (walkTable t q))) (b .ds), keys-length (spots (walkTable t q)), mul-le-mul-right (headOf t .levels) (cuts-small q 0 allKeys), levels-some (headOf t .levels) (storeOf t) (whole (headOf t)) (sound-tree t s))
     where
       b : Bill q 0 allKeys (λ k. lookup (headOf t .levels) (storeOf t) k (whole (headOf t))) (λ k. Under k (storeOf t (headOf t .root))) (headOf t .levels) 1
           (length (visits (headOf t .levels) (storeOf t) q (whole (headOf t))))

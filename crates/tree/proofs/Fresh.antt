@@ -1,30 +1,30 @@
 -- A fresh table: by computation at 9 blocks, and for every size.
 -- Assumes nothing.
 use mathlib.Core.Path.{_≡_, refl}
-use mathlib.Core.Bool.{Bool, true, not}
+use mathlib.Core.Bool.{true, not}
 use mathlib.Core.List.{List, [], _∷_}
-use Prim.Native.Nat.{ℕ, zero, suc, _+_, _-_, _/_, _≤_}
+use Prim.Native.Nat.{ℕ, _+_, _-_, _/_, _≤_}
 use native.Mathlib.Omega.{arith}
 use lib.ListN.{length, replicate, length-replicate}
 use borrow.Author.Tests.{leb-true, le-leb, lt-ltb, eq-eqb}
 use Rattle.octets.specs.Lists.{all, every, upTo}
 use Rattle.octets.specs.Bitmap.{bit}
 use Rattle.octets.specs.Bytes.{be, bytesOf}
+use Rattle.octets.proofs.Tests.{all-at}
+use Rattle.octets.proofs.UpTo.{upTo-later}
+use Rattle.spot.specs.Keys.{within}
+use Rattle.spot.specs.declared.Query.{Query}
+use Rattle.spot.specs.Query.{everything}
 use Rattle.block.specs.Header.{Header, headOf, headerOf}
 use Rattle.block.specs.Node.{storeOf, nodeOf, nodeFrom, laidOut, firstBlank}
-use Rattle.block.specs.Table.{blockOk, tableSized, capacity, blocksOf}
+use Rattle.block.specs.Table.{blockOk, tableSized, capacity}
 use Rattle.block.specs.Fresh.{freshHeader, freshLeaf, formatted}
 use Rattle.block.specs.NodeRules.{nodeOk, childCountOk, buffersRise, namedOnce, names, lowsRise, pointsAbove, filled, lowest, leafBuffersEmpty, agrees, notBelow, childBlocksOk}
 use Rattle.block.specs.HeaderRules.{headerOk, mapShows}
-use Rattle.block.specs.declared.Asked.the-variants.{Root}
 use Rattle.tree.specs.Part.{whole}
-use Rattle.spot.specs.Keys.{within}
 use Rattle.tree.specs.Sound.{soundAt, inRange, mapExact, sound}
 use Rattle.tree.specs.Reach.{reach}
-use Rattle.spot.specs.declared.Query.{Query}
 use Rattle.tree.specs.Walk.{walked, walkTable, walkFrom, walk, once, enter, finds, liveCount, liveSpots}
-use Rattle.spot.specs.Query.{everything}
-use Rattle.tree.proofs.Laws.{all-at, and-right}
 
 -- M1: any walk of a fresh table of 9 blocks finds nothing, and reads the root
 pub fresh-walk-9 : (q : Query) → walkTable (formatted 18432) q ≡ walked [] (1 ∷ [])
@@ -41,6 +41,7 @@ pub fresh-levels-9 : headOf (formatted 18432) .levels ≡ 1
 unfolding headOf headerOf formatted freshHeader be bytesOf
 fresh-levels-9 = refl
 
+-- and the capacity
 pub fresh-capacity-9 : capacity 18432 ≡ 128
 fresh-capacity-9 = refl
 
@@ -50,17 +51,6 @@ fresh-map = 3 ∷ replicate 511 0
 
 abbrev freshHead : ℕ → Header
 freshHead n = record { bytes = n; version = 1; levels = 1; root = 1; bound = 0; inUse = fresh-map; blank = true }
-
--- a test that passes from i on passes from a later number on
-upTo-later : (f : ℕ → Bool) (i k m n : ℕ) → n ≡ k + m → every f (upTo i n) ≡ true → every f (upTo (k + i) m) ≡ true
-upTo-later f i zero m n e h =
-    let a : n ≡ m = omega arith in
-    let b : 0 + i ≡ i = omega arith in
-    rw (b, ← a) h
-upTo-later f i (suc k) m zero e h = let z : ⊥ = omega arith in absurd z
-upTo-later f i (suc k) m (suc n) e h =
-    let b : k + suc i ≡ suc k + i = omega arith in
-    rw b at (upTo-later f (suc i) k m n (omega arith) (and-right (f i) (every f (upTo (suc i) n)) h))
 
 -- no other block is marked
 all-clear : every (λ b. not (bit fresh-map b)) (upTo 9 4087) ≡ true
@@ -81,17 +71,10 @@ module _ (n : ℕ) (z : tableSized n ≡ true) where
   unfolding tableSized be bytesOf
   most = leb-true (n / 2048) 4096 (all-at _ z 2)
 
+  -- a fresh table has the length asked for
   pub fresh-sized : length (formatted n) ≡ n
   unfolding formatted freshHeader freshLeaf be bytesOf
   fresh-sized = simp length-replicate (omega (arith, least))
-
-  fresh-node : storeOf (formatted n) 1 ≡ nodeOf (blocksOf (length (formatted n))) freshLeaf
-  unfolding storeOf formatted freshHeader freshLeaf be bytesOf
-  fresh-node = refl
-
-  fresh-ok : (blocks : ℕ) → nodeOk 0 Root (nodeOf blocks freshLeaf) ≡ true
-  unfolding all within headOf headerOf storeOf nodeOf nodeFrom laidOut freshHeader freshLeaf formatted headerOk tableSized mapShows blockOk bit nodeOk childCountOk buffersRise namedOnce names lowsRise pointsAbove filled lowest leafBuffersEmpty agrees notBelow childBlocksOk firstBlank walkTable walkFrom walk enter finds be bytesOf once
-  fresh-ok blocks = refl
 
   fresh-bytes : headOf (formatted n) .bytes ≡ n
   unfolding headOf headerOf formatted freshHeader freshLeaf be bytesOf
@@ -123,14 +106,17 @@ module _ (n : ℕ) (z : tableSized n ≡ true) where
   unfolding all storeOf nodeOf nodeFrom freshHeader freshLeaf formatted reach mapExact bit be bytesOf
   fresh-exact = refl
 
+  -- a walk finds nothing, and reads the root
   pub fresh-walk : (q : Query) → walkTable (formatted n) q ≡ walked [] (1 ∷ [])
   unfolding walkTable be bytesOf
   fresh-walk q = rw (fresh-head, fresh-sized, fresh-header-ok) (fresh-walked q)
 
+  -- nothing is live
   pub fresh-empty : liveSpots (formatted n) ≡ []
   unfolding liveSpots be bytesOf
   fresh-empty = rw (fresh-walk everything)
 
+  -- and it is sound
   pub fresh-sound : sound (formatted n) ≡ true
   unfolding sound liveCount be bytesOf
   fresh-sound = rw (fresh-head, fresh-sized, fresh-header-ok, fresh-tree, fresh-exact, fresh-empty) all-true

@@ -7,26 +7,30 @@ use mathlib.Core.List.{List, [], _∷_, _++_}
 use mathlib.Core.Option.{Option, none, some}
 use Prim.Native.Nat.{ℕ, zero, suc, _≤_, _<_}
 use native.Mathlib.Omega.{arith}
-use lib.Dec.{eqb, leb}
-use borrow.Author.Tests.{leb-true, eq-eqb, ne-eqb, le-leb, not-true}
-use Rattle.octets.specs.Lists.{all, every, keep, has, distinct, rest, rising, risingFrom}
+use borrow.Author.Tests.{ne-eqb, le-leb, not-true}
+use Rattle.octets.specs.Lists.{all, every, keep, has, distinct, rising}
+use Rattle.octets.proofs.Tests.{all-at, all-cons, all-nil, and-left, and-right}
+use Rattle.octets.proofs.Order.{less-or-not}
+use Rattle.octets.proofs.Sets.{has-append, every-has, distinct-left}
 use Rattle.spot.specs.declared.Spot.{Spot}
 use Rattle.spot.specs.Spots.{keys, find, putAll}
 use Rattle.spot.specs.Keys.{rankKey, rankOf, within}
+use Rattle.spot.specs.declared.Query.{Query}
+use Rattle.spot.specs.Query.{wantsKey}
+use Rattle.spot.proofs.Canon.{some≢none, cond-none}
+use Rattle.spot.proofs.Places.{within-yes, within-low, within-high, within-from, within-to, meets-at, wants-placed, wants-rank}
+use Rattle.spot.proofs.Buffers.{keys-append, keep-distinct, putAll-rises, find-only}
 use Rattle.block.specs.declared.Entry.{Entry}
 use Rattle.block.specs.Node.{Node, Store}
 use Rattle.block.specs.declared.Asked.the-variants.{Child}
-use Rattle.block.specs.NodeRules.{names, lows, nodeOk, lowsRise, namedOnce}
+use Rattle.block.specs.NodeRules.{names, nodeOk, lowsRise, namedOnce}
 use Rattle.tree.specs.Part.{Part, nextLow, parts, children}
 use Rattle.tree.specs.Lookup.{orElse, down, lookup, isLive}
 use Rattle.tree.specs.Sound.{soundAt, inRange}
-use Rattle.spot.specs.declared.Query.{Query}
-use Rattle.spot.specs.Query.{placed, wantsKey}
 use Rattle.tree.specs.Walk.{Walk, walked, takes, takesKey, topped, admits, finds, through, enter, walk}
-use Rattle.tree.proofs.Laws.{all-at, all-cons, all-nil, and-left, and-right, and-both}
-use Rattle.tree.proofs.Canon.{same-or-not, less-or-not, some≢none, find-put, put-rises}
-use Rattle.tree.proofs.Places.{within-yes, within-low, within-high, within-from, within-to, meets-at}
 use Rattle.tree.proofs.Below.{under-live, node-sound, entry-top}
+use Rattle.tree.proofs.Ranges.{Steps, next-le, steps-of, down-in}
+use Rattle.tree.proofs.Says.{neither, has-keys, has-names, not-named, find-append, find-putAll}
 
 abbrev Step : Type 0
 Step = Part → Walk → Walk
@@ -40,14 +44,6 @@ data Lies (lo hi k : ℕ) : Type 0 where
 lies : (lo hi k : ℕ) → Lies lo hi k
 lies lo hi k = ⊎-elim (λ a. ⊎-elim (λ b. past a b) (λ b. inside a b) (less-or-not hi k)) (λ a. under a) (less-or-not lo k)
 
-pub wants-place : (q : Query) (k : ℕ) → wantsKey q k ≡ true → placed q k ≡ true
-unfolding wantsKey
-wants-place q k h = all-at _ h 0
-
-wants-rank : (q : Query) (k : ℕ) → wantsKey q k ≡ true → q .least ≤ rankOf k
-unfolding wantsKey
-wants-rank q k h = leb-true (q .least) (rankOf k) (all-at _ h 1)
-
 -- an entry that leads to a wanted key has points, and a top of the rank asked
 tall : (q : Query) (e : Entry) (k : ℕ) → (e .size ≡ 0 → ⊥) → rankKey k ≤ rankKey (e .top) → wantsKey q k ≡ true → topped q (Child e) ≡ true
 unfolding topped all
@@ -57,7 +53,7 @@ tall q e k z h w =
 
 admitted : (q : Query) (c : Part) (k : ℕ) → topped q (c .asked) ≡ true → within (c .lo) (c .hi) k ≡ true → wantsKey q k ≡ true → admits q c ≡ true
 unfolding admits
-admitted q c k t w h = all-cons _ _ t (all-cons _ _ (meets-at q (c .lo) (c .hi) k w (wants-place q k h)) all-nil)
+admitted q c k t w h = all-cons _ _ t (all-cons _ _ (meets-at q (c .lo) (c .hi) k w (wants-placed q k h)) all-nil)
 
 -- a child that the query doesn't admit has nothing that it wants
 prune : (q : Query) (l : ℕ) (m : Store) (c : Part) (e : Entry) → c .asked ≡ Child e → soundAt l m c ≡ true → admits q c ≡ false
@@ -126,31 +122,14 @@ module _ (q : Query) (named : List ℕ) (lo mid hi : ℕ) (lm : lo ≤ mid) (mh 
           later k y (inside z u) = rw (within-yes mid hi k z u, within-yes lo hi k (omega arith) u)
           later k y (past z u) = rw (within-high mid hi k u, within-high lo hi k u)
 
--- numbers that rise from lo to hi
-abbrev pub Chain : ℕ → ℕ → List ℕ → Type 0
-Chain lo hi [] = lo ≤ hi
-Chain lo hi (x ∷ xs) = (lo ≤ x) × Chain x hi xs
-
-pub chain-to : (lo hi : ℕ) (xs : List ℕ) → Chain lo hi xs → lo ≤ hi
-chain-to lo hi [] h = h
-chain-to lo hi (x ∷ xs) h = omega (arith, h .0, chain-to x hi xs (h .1))
-
-pub chain-first : (lo hi : ℕ) (es : List Entry) → Chain lo hi (lows es) → lo ≤ nextLow es hi
-chain-first lo hi [] h = h
-chain-first lo hi (e ∷ es) h = h .0
-
-pub chain-rest : (lo hi : ℕ) (es : List Entry) → Chain lo hi (lows es) → Chain (nextLow es hi) hi (rest (lows es))
-chain-rest lo hi [] h = omega arith
-chain-rest lo hi (e ∷ es) h = h .1
-
 -- the children, from left to right
 module _ (q : Query) (named : List ℕ) (l : ℕ) (m : Store) (deeper : (c : Part) (acc : List Spot) (bs : List ℕ) → soundAt l m c ≡ true → c .lo ≤ c .hi → Ready (c .lo) (c .hi) named acc → Found q named (c .lo) (c .hi) (λ k. lookup l m k c) acc (walk l m q named c (walked acc bs))) where
-  children-found : (es : List Entry) (lo hi : ℕ) (acc : List Spot) (bs : List ℕ) → Chain lo hi (rest (lows es)) → every (soundAt l m) (parts lo hi es) ≡ true
+  children-found : (es : List Entry) (lo hi : ℕ) (acc : List Spot) (bs : List ℕ) → Steps lo hi es → every (soundAt l m) (parts lo hi es) ≡ true
       → Ready lo hi named acc
       → Found q named lo hi (λ k. down (lookup l m k) k (parts lo hi es)) acc (through (walk l m q named) (keep (admits q) (parts lo hi es)) (walked acc bs))
   children-found [] lo hi acc bs ch s r = none-found q named lo hi (λ k. none) acc bs r (λ k w h. refl)
   children-found (e ∷ es) lo hi acc bs ch s r =
-      go (admits q c) refl (λ acc′ bs′ r′. children-found es mid hi acc′ bs′ (chain-rest lo hi es ch) (and-right (soundAt l m c) (every (soundAt l m) (parts mid hi es)) s) r′)
+      go (admits q c) refl (λ acc′ bs′ r′. children-found es mid hi acc′ bs′ (ch .1) (and-right (soundAt l m c) (every (soundAt l m) (parts mid hi es)) s) r′)
     where
       mid : ℕ
       mid = nextLow es hi
@@ -162,10 +141,10 @@ module _ (q : Query) (named : List ℕ) (l : ℕ) (m : Store) (deeper : (c : Par
       f = walk l m q named
 
       first : lo ≤ mid
-      first = chain-first lo hi es ch
+      first = ch .0
 
       last : mid ≤ hi
-      last = chain-to mid hi (rest (lows es)) (chain-rest lo hi es ch)
+      last = next-le hi es (ch .1)
 
       sound-c : soundAt l m c ≡ true
       sound-c = and-left (soundAt l m c) (every (soundAt l m) (parts mid hi es)) s
@@ -193,128 +172,6 @@ module _ (q : Query) (named : List ℕ) (l : ℕ) (m : Store) (deeper : (c : Par
       go false ad ih =
           onward (walked acc bs) (none-found q named lo mid (λ k. lookup l m k c) acc bs ready-c (λ k w h. prune q l m c e refl sound-c ad k w h)) ih
 
-chain-on : (xs : List ℕ) (lo hi a least : ℕ) → lo ≤ hi → lo ≤ a → risingFrom a xs ≡ true → every (within least hi) xs ≡ true → Chain lo hi xs
-chain-on [] lo hi a least h g r w = h
-chain-on (x ∷ xs) lo hi a least h g r w =
-    let up = leb-true a x (and-left (leb a x) (risingFrom (suc x) xs) r) in
-    let under = within-to least hi x (and-left (within least hi x) (every (within least hi) xs) w) in
-    (omega arith, chain-on xs x hi (suc x) least (omega arith) (omega arith) (and-right (leb a x) (risingFrom (suc x) xs) r) (and-right (within least hi x) (every (within least hi) xs) w))
-
-pub chain-make : (xs : List ℕ) (lo hi : ℕ) → lo ≤ hi → rising xs ≡ true → every (within lo hi) xs ≡ true → Chain lo hi xs
-chain-make [] lo hi h r w = h
-chain-make (x ∷ xs) lo hi h r w =
-    let i = and-left (within lo hi x) (every (within lo hi) xs) w in
-    let under = within-to lo hi x i in
-    (within-from lo hi x i, chain-on xs x hi (suc x) lo (omega arith) (omega arith) (and-right (leb 0 x) (risingFrom (suc x) xs) r) (and-right (within lo hi x) (every (within lo hi) xs) w))
-
--- lists of spots, as what they find and name
-or-live : (b : Bool) (t : ℕ) (o : Option ℕ) → b || isLive o ≡ isLive (cond b (some t) o)
-or-live true t o = refl
-or-live false t o = refl
-
-pub has-keys : (k : ℕ) (ss : List Spot) → has k (keys ss) ≡ isLive (find k ss)
-has-keys k [] = refl
-has-keys k (s ∷ ss) = ap (λ (b : Bool). eqb k (s .key) || b) (has-keys k ss) ∙ or-live (eqb k (s .key)) (s .track) (find k ss)
-
-pub not-live : (o : Option ℕ) → isLive o ≡ false → o ≡ none
-not-live none h = refl
-not-live (some a) h = absurd (true≢false h)
-
-or-assoc : (a b c : Bool) → a || (b || c) ≡ (a || b) || c
-or-assoc true b c = refl
-or-assoc false b c = refl
-
-or-false : (a b : Bool) → a || b ≡ false → a ≡ false
-or-false true b h = h
-or-false false b h = refl
-
-or-false-right : (a b : Bool) → a || b ≡ false → b ≡ false
-or-false-right true b h = absurd (true≢false h)
-or-false-right false b h = h
-
-or-true : (a : Bool) → a || true ≡ true
-or-true true = refl
-or-true false = refl
-
-pub has-append : (k : ℕ) (xs ys : List ℕ) → has k (xs ++ ys) ≡ has k xs || has k ys
-has-append k [] ys = refl
-has-append k (x ∷ xs) ys = ap (λ (b : Bool). eqb k x || b) (has-append k xs ys) ∙ or-assoc (eqb k x) (has k xs) (has k ys)
-
-pub keys-append : (xs ys : List Spot) → keys (xs ++ ys) ≡ keys xs ++ keys ys
-keys-append [] ys = refl
-keys-append (x ∷ xs) ys = ap (λ (l : List ℕ). x .key ∷ l) (keys-append xs ys)
-
-else-cond : (b : Bool) (t : ℕ) (o r : Option ℕ) → cond b (some t) (orElse o r) ≡ orElse (cond b (some t) o) r
-else-cond true t o r = refl
-else-cond false t o r = refl
-
-pub find-append : (k : ℕ) (xs ys : List Spot) → find k (xs ++ ys) ≡ orElse (find k xs) (find k ys)
-find-append k [] ys = refl
-find-append k (x ∷ xs) ys = ap (cond (eqb k (x .key)) (some (x .track))) (find-append k xs ys) ∙ else-cond (eqb k (x .key)) (x .track) (find k xs) (find k ys)
-
-find-putAll : (k : ℕ) (own acc : List Spot) → find k (putAll own acc) ≡ orElse (find k own) (find k acc)
-find-putAll k [] acc = refl
-find-putAll k (s ∷ ss) acc =
-    find-put k s (putAll ss acc) ∙ ap (cond (eqb k (s .key)) (some (s .track))) (find-putAll k ss acc) ∙ else-cond (eqb k (s .key)) (s .track) (find k ss) (find k acc)
-
-pub cond-none : (b : Bool) → cond {A = Option ℕ} b none none ≡ none
-cond-none true = refl
-cond-none false = refl
-
-pub find-keep : (g : ℕ → Bool) (k : ℕ) (ss : List Spot) → find k (keep (λ s. g (s .key)) ss) ≡ cond (g k) (find k ss) none
-find-keep g k [] = sym (cond-none (g k))
-find-keep g k (s ∷ ss) = go (g (s .key)) refl (find-keep g k ss)
-  where
-    kept : List Spot
-    kept = keep (λ (x : Spot). g (x .key)) ss
-
-    go : (b : Bool) → g (s .key) ≡ b → find k kept ≡ cond (g k) (find k ss) none → find k (cond b (s ∷ kept) kept) ≡ cond (g k) (find k (s ∷ ss)) none
-    go true q ih =
-        ⊎-elim (λ (e : k ≡ s .key). rw (ap g e ∙ q, eq-eqb k (s .key) e)) (λ (n : k ≡ s .key → ⊥). rw (ne-eqb k (s .key) n) ih) (same-or-not k (s .key))
-    go false q ih =
-        ⊎-elim (λ (e : k ≡ s .key). ih ∙ rw (ap g e ∙ q)) (λ (n : k ≡ s .key → ⊥). rw (ne-eqb k (s .key) n) ih) (same-or-not k (s .key))
-
--- no key twice
-pub not-has : (x : ℕ) (xs : List ℕ) → distinct (x ∷ xs) ≡ true → has x xs ≡ false
-not-has x xs h = not-true (has x xs) (and-left (not (has x xs)) (distinct xs) h)
-
-pub distinct-left : (xs ys : List ℕ) → distinct (xs ++ ys) ≡ true → distinct xs ≡ true
-distinct-left [] ys h = refl
-distinct-left (x ∷ xs) ys h =
-    and-both (not (has x xs)) (distinct xs) (ap not (or-false (has x xs) (has x ys) (sym (has-append x xs ys) ∙ not-has x (xs ++ ys) h)))
-    (distinct-left xs ys (and-right (not (has x (xs ++ ys))) (distinct (xs ++ ys)) h))
-
-keep-has : (f : Spot → Bool) (k : ℕ) (ss : List Spot) → has k (keys ss) ≡ false → has k (keys (keep f ss)) ≡ false
-keep-has f k [] h = refl
-keep-has f k (s ∷ ss) h = go (f s) (keep-has f k ss (or-false-right (eqb k (s .key)) (has k (keys ss)) h))
-  where
-    go : (b : Bool) → has k (keys (keep f ss)) ≡ false → has k (keys (cond b (s ∷ keep f ss) (keep f ss))) ≡ false
-    go true ih = rw (or-false (eqb k (s .key)) (has k (keys ss)) h, ih)
-    go false ih = ih
-
-keep-distinct : (f : Spot → Bool) (ss : List Spot) → distinct (keys ss) ≡ true → distinct (keys (keep f ss)) ≡ true
-keep-distinct f [] h = refl
-keep-distinct f (s ∷ ss) h = go (f s) (keep-distinct f ss (and-right (not (has (s .key) (keys ss))) (distinct (keys ss)) h))
-  where
-    go : (b : Bool) → distinct (keys (keep f ss)) ≡ true → distinct (keys (cond b (s ∷ keep f ss) (keep f ss))) ≡ true
-    go true ih = rw (keep-has f (s .key) ss (not-has (s .key) (keys ss) h), ih)
-    go false ih = ih
-
--- new keys, each once, put in: the list still rises
-putAll-rises : (own acc : List Spot) → rising (keys acc) ≡ true → distinct (keys own) ≡ true → ((k : ℕ) → has k (keys own) ≡ true → find k acc ≡ none)
-    → rising (keys (putAll own acc)) ≡ true
-putAll-rises [] acc u d h = u
-putAll-rises (s ∷ ss) acc u d h =
-    put-rises 0 s (putAll ss acc) (omega arith) (putAll-rises ss acc u (and-right (not (has (s .key) (keys ss))) (distinct (keys ss)) d) (λ k j. h k (rw j (or-true (eqb k (s .key))))))
-    (find-putAll (s .key) ss acc ∙
-    rw (not-live (find (s .key) ss) (sym (has-keys (s .key) ss) ∙ not-has (s .key) (keys ss) d), h (s .key) (rw (eq-eqb (s .key) (s .key) refl))))
-
-pub every-has : (f : ℕ → Bool) (k : ℕ) (xs : List ℕ) → every f xs ≡ true → has k xs ≡ true → f k ≡ true
-every-has f k [] h j = absurd (false≢true j)
-every-has f k (x ∷ xs) h j =
-    ⊎-elim (λ (e : k ≡ x). ap f e ∙ and-left (f x) (every f xs) h) (λ (n : k ≡ x → ⊥). every-has f k xs (and-right (f x) (every f xs) h) (rw (ne-eqb k x n) at j))
-    (same-or-not k x)
-
 -- what a node adds, as a law of tests: W in the range, T wanted, C named above; what P, I and the children give, and what was found before
 node-law : (W T C : Bool) (oP oI : Option ℕ) (hD : Bool) (dn fa : Option ℕ) → (W ≡ false → isLive oP ≡ false) → (W ≡ false → isLive oI ≡ false)
     → (W ≡ true → C ≡ false → fa ≡ none)
@@ -334,25 +191,18 @@ node-law true true false none (some a) hD dn fa p i n = refl
 node-law true true false none none true dn fa p i n = n refl refl
 node-law true true false none none false dn fa p i n = refl
 
-has-names : (k : ℕ) (n : Node) → has k (names n) ≡ ((isLive (find k (n .points)) || isLive (find k (n .inserts))) || has k (n .deletes))
-unfolding names
-has-names k n =
-    has-append k (keys (n .points) ++ keys (n .inserts)) (n .deletes) ∙
-    rw (has-append k (keys (n .points)) (keys (n .inserts)), has-keys k (n .points), has-keys k (n .inserts))
-
 -- the part of a sound node's rules that a walk needs
 pub record Node· (p : Part) (n : Node) : Type 0 where
-  pub rise : rising (rest (lows (n .entries))) ≡ true
   pub once : distinct (names n) ≡ true
   pub place : every (within (p .lo) (p .hi)) (names n) ≡ true
-  pub splits : every (within (p .lo) (p .hi)) (rest (lows (n .entries))) ≡ true
 
+-- from the rules of a sound part
 pub node-rules : (l : ℕ) (m : Store) (p : Part) → soundAt (suc l) m p ≡ true → Node· p (m (p .block))
 unfolding soundAt nodeOk lowsRise namedOnce inRange
 node-rules l m p h =
     let ok = all-at _ h 0 in
     let ranges = all-at _ h 1 in
-    record { rise = all-at _ (all-at _ ok 5) 1; once = all-at _ ok 4; place = all-at _ ranges 0; splits = all-at _ ranges 1 }
+    record { once = all-at _ ok 4; place = all-at _ ranges 0 }
 
 module _ (q : Query) (named : List ℕ) (p : Part) (n : Node) (ru : Node· p n) (acc : List Spot) (r : Ready (p .lo) (p .hi) named acc) where
   own : List Spot
@@ -360,7 +210,7 @@ module _ (q : Query) (named : List ℕ) (p : Part) (n : Node) (ru : Node· p n) 
 
   find-own : (k : ℕ) → find k own ≡ cond (takesKey q named k) (orElse (find k (n .points)) (find k (n .inserts))) none
   unfolding own finds
-  find-own k = find-keep (takesKey q named) k (n .points ++ n .inserts) ∙ rw (find-append k (n .points) (n .inserts))
+  find-own k = find-only (takesKey q named) k (n .points ++ n .inserts) ∙ rw (find-append k (n .points) (n .inserts))
 
   -- outside the range nothing is named
   outside : (k : ℕ) → within (p .lo) (p .hi) k ≡ false → has k (names n) ≡ false
@@ -369,12 +219,6 @@ module _ (q : Query) (named : List ℕ) (p : Part) (n : Node) (ru : Node· p n) 
       go : (b : Bool) → has k (names n) ≡ b → has k (names n) ≡ false
       go true e = absurd (true≢false (sym (every-has (within (p .lo) (p .hi)) k (names n) (ru .place) e) ∙ w))
       go false e = e
-
-  no-point : (k : ℕ) → has k (names n) ≡ false → isLive (find k (n .points)) ≡ false
-  no-point k h = or-false _ _ (or-false _ (has k (n .deletes)) (sym (has-names k n) ∙ h))
-
-  no-insert : (k : ℕ) → has k (names n) ≡ false → isLive (find k (n .inserts)) ≡ false
-  no-insert k h = or-false-right (isLive (find k (n .points))) _ (or-false _ (has k (n .deletes)) (sym (has-names k n) ∙ h))
 
   own-once : distinct (keys own) ≡ true
   unfolding own finds names
@@ -393,7 +237,7 @@ module _ (q : Query) (named : List ℕ) (p : Part) (n : Node) (ru : Node· p n) 
       go true t false w =
           absurd
           (false≢true
-          (rw (t, not-live (find k (n .points)) (no-point k (outside k w)), not-live (find k (n .inserts)) (no-insert k (outside k w))) at shown))
+          (rw (t, not-named k n (outside k w) .0, not-named k n (outside k w) .1) at shown))
       go false t w e = absurd (false≢true (rw t at shown))
 
   find-next : (k : ℕ) → find k (putAll own acc) ≡ orElse (cond (takesKey q named k) (orElse (find k (n .points)) (find k (n .inserts))) none) (find k acc)
@@ -406,9 +250,9 @@ module _ (q : Query) (named : List ℕ) (p : Part) (n : Node) (ru : Node· p n) 
         apart =
             λ k w h.
             let e = sym (has-append k (names n) named) ∙ h in
-            let here = or-false (has k (names n)) (has k named) e in
+            let here = neither (has k (names n)) (has k named) e in
             find-next k ∙
-            rw (not-live (find k (n .points)) (no-point k here), not-live (find k (n .inserts)) (no-insert k here), r .apart k w (or-false-right (has k (names n)) (has k named) e))
+            rw (not-named k n (here .0) .0, not-named k n (here .0) .1, r .apart k w (here .1))
             (ap (λ (o : Option ℕ). orElse o none) (cond-none (takesKey q named k)));
       }
 
@@ -419,10 +263,11 @@ module _ (q : Query) (named : List ℕ) (p : Part) (n : Node) (ru : Node· p n) 
   node-found k dn =
       rw (find-next k, has-append k (names n) named, has-names k n)
       (node-law (within (p .lo) (p .hi) k) (wantsKey q k) (has k named) (find k (n .points)) (find k (n .inserts)) (has k (n .deletes)) dn (find k acc)
-      (λ w. no-point k (outside k w))
-      (λ w. no-insert k (outside k w))
+      (λ w. ap isLive (not-named k n (outside k w) .0))
+      (λ w. ap isLive (not-named k n (outside k w) .1))
       (λ w c. r .apart k w c))
 
+-- a node that keeps the rules is entered
 pub enter-ok : (ok : Bool) (f : Step) (ps : List Part) (ss : List Spot) (b : ℕ) (acc : List Spot) (bs : List ℕ) → ok ≡ true
     → enter ok f ps ss b (walked acc bs) ≡ through f ps (walked (putAll ss acc) (b ∷ bs))
 unfolding enter
@@ -442,7 +287,7 @@ walk-found (suc l) m q named p acc bs s h r =
     children-found q (names n ++ named) l m (λ c acc′ bs′ s′ h′ r′. walk-found l m q (names n ++ named) c acc′ bs′ s′ h′ r′) (n .entries) (p .lo) (p .hi)
     (putAll (finds q named n) acc)
     (p .block ∷ bs)
-    (chain-make (rest (lows (n .entries))) (p .lo) (p .hi) h (ru .rise) (ru .splits))
+    (steps-of l p n h (all-at _ s 0) (all-at _ s 1))
     (all-at _ s 2)
     (ready-below q named p n ru acc r) in
     record {
@@ -454,22 +299,6 @@ walk-found (suc l) m q named p acc bs s h r =
     }
 
 -- what a part has live lies in its range
-down-within : (f : Part → Option ℕ) (k : ℕ) (es : List Entry) (lo hi : ℕ) {a : ℕ} → Chain lo hi (rest (lows es)) → down f k (parts lo hi es) ≡ some a
-    → within lo hi k ≡ true
-down-within f k [] lo hi ch e = absurd (some≢none (sym e))
-down-within f k (x ∷ es) lo hi {a} ch e =
-    go (within lo (nextLow es hi) k) refl e (λ g. down-within f k es (nextLow es hi) hi (chain-rest lo hi es ch) g)
-  where
-    last : nextLow es hi ≤ hi
-    last = chain-to (nextLow es hi) hi (rest (lows es)) (chain-rest lo hi es ch)
-
-    go : (b : Bool) → within lo (nextLow es hi) k ≡ b
-        → cond b (f (record { block = x .block; asked = Child x; lo = lo; hi = nextLow es hi })) (down f k (parts (nextLow es hi) hi es)) ≡ some a
-        → (down f k (parts (nextLow es hi) hi es) ≡ some a → within (nextLow es hi) hi k ≡ true)
-        → within lo hi k ≡ true
-    go true w g ih = within-yes lo hi k (within-from lo _ k w) (omega (arith, last, within-to lo _ k w))
-    go false w g ih = within-yes lo hi k (omega (arith, chain-first lo hi es ch, within-from _ hi k (ih g))) (within-to _ hi k (ih g))
-
 pub lookup-within : (l : ℕ) (m : Store) (k : ℕ) (p : Part) {a : ℕ} → soundAt l m p ≡ true → p .lo ≤ p .hi → lookup l m k p ≡ some a
     → within (p .lo) (p .hi) k ≡ true
 unfolding lookup soundAt
@@ -484,11 +313,9 @@ lookup-within (suc l) m k p {a} s h e = by-names (has k (names n)) refl
 
     by-deletes : (b : Bool) → cond b none (down (lookup l m k) k (children p n)) ≡ some a → within (p .lo) (p .hi) k ≡ true
     by-deletes true g = absurd (some≢none (sym g))
-    by-deletes false g = down-within (lookup l m k) k (n .entries) (p .lo) (p .hi) (chain-make (rest (lows (n .entries))) (p .lo) (p .hi) h (ru .rise) (ru .splits)) g
+    by-deletes false g = down-in (lookup l m k) k (p .lo) (p .hi) (n .entries) (steps-of l p n h (all-at _ s 0) (all-at _ s 1)) g
 
     by-names : (b : Bool) → has k (names n) ≡ b → within (p .lo) (p .hi) k ≡ true
     by-names true g = every-has (within (p .lo) (p .hi)) k (names n) (ru .place) g
     by-names false g =
-        let c = or-false _ (has k (n .deletes)) (sym (has-names k n) ∙ g) in
-        by-deletes (has k (n .deletes))
-        (rw (not-live (find k (n .points)) (or-false (isLive (find k (n .points))) (isLive (find k (n .inserts))) c), not-live (find k (n .inserts)) (or-false-right (isLive (find k (n .points))) (isLive (find k (n .inserts))) c)) at e)
+        by-deletes (has k (n .deletes)) (rw (not-named k n g .0, not-named k n g .1) at e)

@@ -3,7 +3,7 @@
 -- Assumes nothing.
 use mathlib.Core.Path.{_≡_, refl, ap, ap₂, sym, _∙_}
 use mathlib.Core.Logic.{⊎-elim}
-use mathlib.Core.Bool.{Bool, true, false, not, _&&_, _||_, Bool·beq, or-true, or-false, or-assoc, and-assoc, false≢true}
+use mathlib.Core.Bool.{Bool, true, false, not, _&&_, _||_, or-true, or-false, or-assoc, and-assoc, false≢true}
 use mathlib.Core.List.{List, [], _∷_, _++_, List·Memᴰ, List·Memᴰ·head, List·Memᴰ·tail}
 use Prim.Native.Nat.{ℕ, zero, suc, _+_, _*_, _/_, _%_, _^_, _≤_, _<_}
 use native.Mathlib.Nat.{pow-suc}
@@ -14,22 +14,21 @@ use lib.Dec.{eqb}
 use lib.Bits.{bitOr, or-lt}
 use lib.Pow.{pow-lt}
 use borrow.Author.Tests.{eq-eqb, ne-eqb, eqb-true}
-use Rattle.octets.specs.Lists.{every, has, distinct, records, upTo}
+use Rattle.octets.specs.Lists.{every, has, distinct, records}
 use Rattle.octets.specs.Bitmap.{bit, setBit, markByte}
 use Rattle.octets.proofs.Order.{same-or-not, less-or-not, eqb-flip}
-use Rattle.octets.proofs.Tests.{and-left, and-right, and-both, bool-ext, beq-true, true-beq, all-at, all-cons, all-nil}
-use Rattle.octets.proofs.UpTo.{every-upTo, below-every}
+use Rattle.octets.proofs.Tests.{and-left, and-right, and-both, bool-ext}
 use Rattle.octets.proofs.Records.{length-records, records-at}
 use Rattle.octets.proofs.Digits.{digitAt, digit-zero, digit-suc, digit-lt, digit-of-zero}
 use Rattle.octets.proofs.Bits.{setBit-length, setBit-same, setBit-other}
-use Rattle.octets.proofs.Marks.{mark-byte-lt, marked-bit}
-use Rattle.block.specs.Table.{mapBytes, mapBlocks}
+use Rattle.octets.proofs.Marks.{mark-byte-lt}
+use Rattle.block.specs.Table.{mapBytes}
 use Rattle.tree.specs.SameList.{sameList}
 use Rattle.tree.specs.Sound.{mapExact}
 use Rattle.tree.specs.ReadMap.{isRead, readMap}
 use Rattle.tree.specs.Trace.{unseen, marked}
-use Rattle.tree.proofs.Visits.{onto}
-use Rattle.tree.proofs.Sources.{has-onto}
+use Rattle.tree.proofs.Onto.{onto, has-onto}
+use Rattle.tree.proofs.Marks.{map-bit, exact-once, exact-bit, exact-make}
 
 -- every number is a byte
 abbrev pub Bytes : List ℕ → Type 0
@@ -65,12 +64,14 @@ bit-digit a b i j l e =
     let q : (8 * i + j) % 8 ≡ j = omega arith in
     digit-same (digitAt (getD a i 0) j) (digitAt (getD b i 0) j) (digit-lt (getD a i 0) j) (digit-lt (getD b i 0) j) (rw (p, q) at e)
 
+-- two maps with the same bits are one
 pub bits-same : (a b : List ℕ) → length a ≡ length b → Bytes a → Bytes b → ((k : ℕ) → k < 8 * length a → bit a k ≡ bit b k) → a ≡ b
 bits-same a b e f g h =
     ext-getD 0 a b e (λ i l. digits-same 8 (getD a i 0) (getD b i 0) (f i) (g i) (λ j m. bit-digit a b i j m (h (8 * i + j) (omega arith))))
 
 -- ---- bits that are set
 
+-- a map with a bit set is still made of bytes
 pub setBit-bytes : (m : List ℕ) (n : ℕ) → Bytes m → Bytes (setBit m n)
 unfolding setBit
 setBit-bytes m n f i =
@@ -88,6 +89,7 @@ setBit-bytes m n f i =
     small : n % 8 < 8
     small = omega arith
 
+-- its bits
 pub bit-setBit : (m : List ℕ) (n k : ℕ) → n < 8 * length m → bit (setBit m n) k ≡ bit m k || eqb k n
 bit-setBit m n k l =
     ⊎-elim (λ (e : k ≡ n). rw (eq-eqb k n e, or-true (bit m k)) (ap (bit (setBit m n)) e ∙ setBit-same m n (omega arith)))
@@ -101,20 +103,24 @@ Fit bs n = (b : ℕ) → List·Memᴰ b bs → b < 8 * n
 fit-rest : (x : ℕ) (xs : List ℕ) (m : List ℕ) → Fit (x ∷ xs) (length m) → Fit xs (length (setBit m x))
 fit-rest x xs m h b i = rw (setBit-length m x) (h b (List·Memᴰ·tail i))
 
+-- marking some blocks: the length
 pub marked-length : (m bs : List ℕ) → length (marked m bs) ≡ length m
 marked-length m [] = refl
 marked-length m (b ∷ bs) = marked-length (setBit m b) bs ∙ setBit-length m b
 
+-- the bytes
 pub marked-bytes : (m bs : List ℕ) → Bytes m → Bytes (marked m bs)
 marked-bytes m [] f = f
 marked-bytes m (b ∷ bs) f = marked-bytes (setBit m b) bs (setBit-bytes m b f)
 
+-- and the bits
 pub bit-marked : (m bs : List ℕ) → Fit bs (length m) → (k : ℕ) → bit (marked m bs) k ≡ bit m k || has k bs
 bit-marked m [] h k = sym (or-false (bit m k))
 bit-marked m (b ∷ bs) h k =
     bit-marked (setBit m b) bs (fit-rest b bs m h) k ∙ ap (λ (a : Bool). a || has k bs) (bit-setBit m b k (h b (List·Memᴰ·head refl))) ∙
     or-assoc (bit m k) (eqb k b) (has k bs)
 
+-- some blocks after others
 pub marked-append : (m xs ys : List ℕ) → marked m (xs ++ ys) ≡ marked (marked m xs) ys
 marked-append m [] ys = refl
 marked-append m (x ∷ xs) ys = marked-append (setBit m x) xs ys
@@ -125,6 +131,7 @@ marked-append m (x ∷ xs) ys = marked-append (setBit m x) xs ys
 abbrev pub zeros : ℕ → List ℕ
 zeros n = replicate n 0
 
+-- its length
 pub zeros-length : (n : ℕ) → length (zeros n) ≡ n
 zeros-length n = length-replicate n 0
 
@@ -133,9 +140,11 @@ zero-at zero i = refl
 zero-at (suc n) zero = refl
 zero-at (suc n) (suc i) = zero-at n i
 
+-- its bytes
 pub zeros-bytes : (n : ℕ) → Bytes (zeros n)
 zeros-bytes n i = rw (zero-at n i) (omega arith)
 
+-- no bit is set
 pub bit-zeros : (n k : ℕ) → bit (zeros n) k ≡ false
 unfolding bit digitAt
 bit-zeros n k = ap (λ (x : ℕ). eqb (digitAt x (k % 8)) 1) (zero-at n (k / 8)) ∙ ap (λ (x : ℕ). eqb x 1) (digit-of-zero (k % 8))
@@ -147,12 +156,15 @@ abbrev pub freshMarks : ℕ → List ℕ → List ℕ
 freshMarks n bs = setBit (marked (zeros n) bs) 0
 
 module _ (n : ℕ) (bs : List ℕ) where
+  -- its length
   pub fresh-length : length (freshMarks n bs) ≡ n
   fresh-length = setBit-length (marked (zeros n) bs) 0 ∙ marked-length (zeros n) bs ∙ zeros-length n
 
+  -- its bytes
   pub fresh-bytes : Bytes (freshMarks n bs)
   fresh-bytes = setBit-bytes (marked (zeros n) bs) 0 (marked-bytes (zeros n) bs (zeros-bytes n))
 
+  -- its bits are those of the map of blocks read
   pub fresh-bit : 0 < n → Fit bs n → (k : ℕ) → bit (freshMarks n bs) k ≡ isRead bs k
   unfolding isRead
   fresh-bit z h k =
@@ -164,6 +176,7 @@ module _ (n : ℕ) (bs : List ℕ) where
       swap true b = sym (or-true b)
       swap false b = sym (or-false b)
 
+-- the length of the map of blocks read
 pub read-length : (bs : List ℕ) → length (readMap bs) ≡ mapBytes
 unfolding readMap
 read-length bs = length-records (markByte (isRead bs)) 8 mapBytes 0
@@ -174,18 +187,16 @@ marks-bytes f n i =
     (λ (l : i < n). rw (records-at (markByte f) 8 n 0 i 0 l) (mark-byte-lt f (0 + 8 * i)))
     (less-or-not n i)
 
+-- and its bytes
 pub read-bytes : (bs : List ℕ) → Bytes (readMap bs)
 unfolding readMap
 read-bytes bs = marks-bytes (isRead bs) mapBytes
 
-read-bit : (bs : List ℕ) (k : ℕ) → k < 8 * mapBytes → bit (readMap bs) k ≡ isRead bs k
-unfolding readMap
-read-bit bs k l = marked-bit (isRead bs) mapBytes k l
-
+-- marking makes this map
 pub marks-make : (bs : List ℕ) → ((b : ℕ) → List·Memᴰ b bs → b < 4096) → setBit (marked (replicate 512 0) bs) 0 ≡ readMap bs
 marks-make bs h =
     bits-same (freshMarks 512 bs) (readMap bs) (fresh-length 512 bs ∙ sym (read-length bs)) (fresh-bytes 512 bs) (read-bytes bs)
-    (λ k l. fresh-bit 512 bs (omega arith) (λ b i. omega (arith, h b i)) k ∙ sym (read-bit bs k (omega (arith, fresh-length 512 bs))))
+    (λ k l. fresh-bit 512 bs (omega arith) (λ b i. omega (arith, h b i)) k ∙ sym (map-bit bs k (omega (arith, fresh-length 512 bs))))
 
 -- the order in which blocks are read leaves no trace in the map
 pub read-onto : (bs : List ℕ) → readMap (onto bs []) ≡ readMap bs
@@ -194,7 +205,7 @@ read-onto bs =
     bits-same (readMap (onto bs [])) (readMap bs) (read-length (onto bs []) ∙ sym (read-length bs)) (read-bytes (onto bs [])) (read-bytes bs)
     (λ k l.
     let m : k < 8 * mapBytes = omega (arith, read-length (onto bs [])) in
-    read-bit (onto bs []) k m ∙ ap (λ (a : Bool). eqb k 0 || a) (has-onto k bs) ∙ sym (read-bit bs k m))
+    map-bit (onto bs []) k m ∙ ap (λ (a : Bool). eqb k 0 || a) (has-onto k bs) ∙ sym (map-bit bs k m))
 
 -- ---- blocks that are not marked
 
@@ -213,6 +224,7 @@ clear-after m b l (x ∷ xs) =
     go false true h r = refl
     go false false h r = refl
 
+-- one block, and then the others
 pub unseen-cons : (m : List ℕ) (b : ℕ) (bs : List ℕ) → b < 8 * length m → unseen m (b ∷ bs) ≡ not (bit m b) && unseen (setBit m b) bs
 unfolding unseen
 unseen-cons m b bs l =
@@ -226,10 +238,12 @@ unseen-cons m b bs l =
     go true false false d = refl
     go false r h d = refl
 
+-- no block
 pub unseen-nil : (m : List ℕ) → unseen m [] ≡ true
 unfolding unseen
 unseen-nil m = refl
 
+-- some blocks after others
 pub unseen-append : (m xs ys : List ℕ) → Fit xs (length m) → unseen m (xs ++ ys) ≡ unseen m xs && unseen (marked m xs) ys
 unseen-append m [] ys h = rw (unseen-nil m)
 unseen-append m (x ∷ xs) ys h =
@@ -238,6 +252,7 @@ unseen-append m (x ∷ xs) ys h =
     sym (and-assoc (not (bit m x)) (unseen (setBit m x) xs) (unseen (marked (setBit m x) xs) ys)) ∙
     ap (λ (t : Bool). t && unseen (marked m (x ∷ xs)) ys) (sym (unseen-cons m x xs l))
 
+-- in an empty map only a block that stands twice is seen
 pub unseen-zeros : (n : ℕ) (bs : List ℕ) → unseen (zeros n) bs ≡ distinct bs
 unfolding unseen
 unseen-zeros n bs = ap (λ (t : Bool). t && distinct bs) (clear bs)
@@ -248,6 +263,7 @@ unseen-zeros n bs = ap (λ (t : Bool). t && distinct bs) (clear bs)
 
 -- ---- two lists that are the same
 
+-- lists that pass the test are one
 pub same-lists : (a b : List ℕ) → sameList a b ≡ true → a ≡ b
 same-lists [] [] h = refl
 same-lists [] (y ∷ ys) h = absurd (false≢true h)
@@ -259,6 +275,7 @@ same-self : (a : List ℕ) → sameList a a ≡ true
 same-self [] = refl
 same-self (x ∷ xs) = and-both (eqb x x) (sameList xs xs) (eq-eqb x x refl) (same-self xs)
 
+-- and one list passes it
 pub lists-same : (a b : List ℕ) → a ≡ b → sameList a b ≡ true
 lists-same a b e = rw (← e) (same-self a)
 
@@ -269,29 +286,18 @@ same-from a b i l m = ap₂ sameList (drop-cons a i 0 l) (drop-cons b i 0 m)
 
 -- ---- the map of blocks in use
 
-exact-test : (f : ℕ → Bool) (m : List ℕ) (n : ℕ) → every (λ b. Bool·beq (bit m b) (f b)) (upTo 0 n) ≡ true → (b : ℕ) → b < n → bit m b ≡ f b
-exact-test f m n h b l = beq-true (bit m b) (f b) (below-every (λ k. Bool·beq (bit m k) (f k)) n h b l)
-
-test-exact : (f : ℕ → Bool) (m : List ℕ) (n : ℕ) → ((b : ℕ) → b < n → bit m b ≡ f b) → every (λ b. Bool·beq (bit m b) (f b)) (upTo 0 n) ≡ true
-test-exact f m n h = every-upTo (λ b. Bool·beq (bit m b) (f b)) 0 n (λ b k l. true-beq (bit m b) (f b) (h b (omega arith)))
-
 -- the map is exact where no block is reached twice and it is the map that marks the blocks reached
 pub exact-by : (m reached : List ℕ) → length m ≡ 512 → Bytes m → ((b : ℕ) → List·Memᴰ b reached → b < 4096)
     → mapExact m reached ≡ distinct reached && sameList m (setBit (marked (replicate 512 0) reached) 0)
-unfolding mapExact isRead
 exact-by m reached e f h =
     bool-ext (mapExact m reached) (distinct reached && sameList m (freshMarks 512 reached))
     (λ x.
-    and-both (distinct reached) (sameList m (freshMarks 512 reached)) (all-at _ x 0)
+    and-both (distinct reached) (sameList m (freshMarks 512 reached)) (exact-once m reached x)
     (lists-same m (freshMarks 512 reached)
-    (bits-same m (freshMarks 512 reached) (e ∙ sym (fresh-length 512 reached)) f (fresh-bytes 512 reached)
-    (λ k l. exact-test (isRead reached) m mapBlocks (all-at _ x 1) k (omega arith) ∙ sym (bits k)))))
+    (bits-same m (freshMarks 512 reached) (e ∙ sym (fresh-length 512 reached)) f (fresh-bytes 512 reached) (λ k l. exact-bit m reached x k (omega arith) ∙ sym (bits k)))))
     (λ x.
-    all-cons _ _ (and-left (distinct reached) (sameList m (freshMarks 512 reached)) x)
-    (all-cons _ _
-    (test-exact (isRead reached) m mapBlocks
+    exact-make m reached (and-left (distinct reached) (sameList m (freshMarks 512 reached)) x)
     (λ b l. ap (λ (a : List ℕ). bit a b) (same-lists m (freshMarks 512 reached) (and-right (distinct reached) (sameList m (freshMarks 512 reached)) x)) ∙ bits b))
-    all-nil))
   where
     bits : (k : ℕ) → bit (freshMarks 512 reached) k ≡ isRead reached k
     bits k = fresh-bit 512 reached (omega arith) (λ b i. omega (arith, h b i)) k

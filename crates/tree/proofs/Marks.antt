@@ -1,66 +1,96 @@
--- The bits of a map of blocks read: bit b is set exactly where b is 0 or a block read.
+-- The map of blocks read: bit b is set exactly where b is 0 or a block read, and the number of ones is at most one more than that of the blocks; for blocks
+-- below 4096 that are not 0 and stand once it is that. The map of blocks in use is exact where it is the same map of the blocks reached.
 -- Assumes nothing.
-use mathlib.Core.Path.{_≡_, refl, ap, _∙_}
-use mathlib.Core.Bool.{Bool, true, false}
-use mathlib.Core.List.{List, [], _∷_}
-use Prim.Native.Nat.{ℕ, zero, suc, _+_, _*_, _/_, _%_, _^_, _≤_, _<_}
-use native.Mathlib.Nat.{zero-mul, suc-mul}
+use mathlib.Core.Path.{_≡_, refl, ap, sym, _∙_}
+use mathlib.Core.Logic.{⊎-elim}
+use mathlib.Core.Bool.{true, _||_, Bool·beq, or-true}
+use mathlib.Core.List.{List, _∷_, List·Memᴰ, List·Memᴰ·head, List·Memᴰ·tail, List·Memᴰ·cases-cons}
+use Prim.Native.Nat.{ℕ, _+_, _≤_, _<_}
 use native.Mathlib.Omega.{arith}
-use lib.ListN.{getD}
+use lib.ListN.{length}
 use lib.Dec.{eqb}
-use Rattle.octets.specs.Lists.{records}
-use Rattle.octets.specs.Bitmap.{bit, digit, markByte}
-use Rattle.tree.specs.ReadMap.{isRead, readMap}
+use borrow.Author.Tests.{ne-eqb}
+use Rattle.octets.specs.Lists.{keep, has, distinct, upTo}
+use Rattle.octets.specs.Bitmap.{bit, onesBelow}
+use Rattle.octets.proofs.Order.{same-or-not}
+use Rattle.octets.proofs.Tests.{all-at, all-cons, all-nil, beq-true, true-beq, keep-mem, keep-there}
+use Rattle.octets.proofs.Sets.{has-mem, mem-has}
+use Rattle.octets.proofs.Once.{Once, fewer, keep-once}
+use Rattle.octets.proofs.UpTo.{upTo-in, upTo-from, upTo-once, every-upTo, below-every}
+use Rattle.octets.proofs.Marks.{marked-bit}
+use Rattle.block.specs.Table.{mapBytes, mapBlocks}
+use Rattle.tree.specs.Sound.{mapExact}
+use Rattle.tree.specs.ReadMap.{isRead, readMap, ones}
 
--- the record with index i
-records-at : (f : ℕ → ℕ) (w n at i : ℕ) → i < n → getD (records f w n at) i 0 ≡ f (at + i * w)
-records-at f w zero at i h = let z : ⊥ = omega arith in absurd z
-records-at f w (suc n) at zero h = ap f (omega (arith, zero-mul w))
-records-at f w (suc n) at (suc i) h = records-at f w n (at + w) i (omega arith) ∙ ap f (omega (arith, suc-mul i w))
+-- ---- bits
 
-pub digit-small : (b : Bool) → digit b ≤ 1
-digit-small true = omega arith
-digit-small false = omega arith
+-- block 0 counts as read
+pub read-header : (bs : List ℕ) → isRead bs 0 ≡ true
+unfolding isRead
+read-header bs = refl
 
-digit-bit : (b : Bool) → eqb (digit b) 1 ≡ b
-digit-bit true = refl
-digit-bit false = refl
+-- so does each of the blocks
+pub read-mem : (bs : List ℕ) (b : ℕ) → List·Memᴰ b bs → isRead bs b ≡ true
+unfolding isRead
+read-mem bs b k = rw (mem-has b bs k) (or-true (eqb b 0))
 
--- bit j of a byte made of eight digits
-module _ (a b c d e f g h : ℕ) (ha : a ≤ 1) (hb : b ≤ 1) (hc : c ≤ 1) (hd : d ≤ 1) (he : e ≤ 1) (hf : f ≤ 1) (hg : g ≤ 1) (hh : h ≤ 1) where
-  byte-bit : (j : ℕ) → j < 8
-      → (a + 2 * b + 4 * c + 8 * d + 16 * e + 32 * f + 64 * g + 128 * h) / 2 ^ j % 2 ≡ getD (a ∷ b ∷ c ∷ d ∷ e ∷ f ∷ g ∷ h ∷ []) j 0
-  byte-bit zero l = omega arith
-  byte-bit (suc zero) l = omega arith
-  byte-bit (suc (suc zero)) l = omega arith
-  byte-bit (suc (suc (suc zero))) l = omega arith
-  byte-bit (suc (suc (suc (suc zero)))) l = omega arith
-  byte-bit (suc (suc (suc (suc (suc zero))))) l = omega arith
-  byte-bit (suc (suc (suc (suc (suc (suc zero)))))) l = omega arith
-  byte-bit (suc (suc (suc (suc (suc (suc (suc zero))))))) l = omega arith
-  byte-bit (suc (suc (suc (suc (suc (suc (suc (suc j)))))))) l = let z : ⊥ = omega arith in absurd z
-
-mark-bit : (f : ℕ → Bool) (b j : ℕ) → j < 8 → eqb (markByte f b / 2 ^ j % 2) 1 ≡ f (b + j)
-unfolding markByte
-mark-bit f b j l = ap (λ (x : ℕ). eqb x 1) (byte-bit _ _ _ _ _ _ _ _ (digit-small (f b)) (digit-small (f (b + 1))) (digit-small (f (b + 2))) (digit-small (f (b + 3))) (digit-small (f (b + 4))) (digit-small (f (b + 5))) (digit-small (f (b + 6))) (digit-small (f (b + 7))) j l) ∙ nth j l
-  where
-    nth : (j : ℕ) → j < 8
-        → eqb (getD (digit (f b) ∷ digit (f (b + 1)) ∷ digit (f (b + 2)) ∷ digit (f (b + 3)) ∷ digit (f (b + 4)) ∷ digit (f (b + 5)) ∷ digit (f (b + 6)) ∷ digit (f (b + 7)) ∷ []) j 0) 1
-        ≡ f (b + j)
-    nth zero l = digit-bit (f b) ∙ ap f (omega arith)
-    nth (suc zero) l = digit-bit (f (b + 1))
-    nth (suc (suc zero)) l = digit-bit (f (b + 2))
-    nth (suc (suc (suc zero))) l = digit-bit (f (b + 3))
-    nth (suc (suc (suc (suc zero)))) l = digit-bit (f (b + 4))
-    nth (suc (suc (suc (suc (suc zero))))) l = digit-bit (f (b + 5))
-    nth (suc (suc (suc (suc (suc (suc zero)))))) l = digit-bit (f (b + 6))
-    nth (suc (suc (suc (suc (suc (suc (suc zero))))))) l = digit-bit (f (b + 7))
-    nth (suc (suc (suc (suc (suc (suc (suc (suc j)))))))) l = let z : ⊥ = omega arith in absurd z
+-- and no other does
+pub read-in : (bs : List ℕ) (b : ℕ) → isRead bs b ≡ true → List·Memᴰ b (0 ∷ bs)
+unfolding isRead
+read-in bs b h = ⊎-elim (λ e. List·Memᴰ·head e) (λ (n : b ≡ 0 → ⊥). List·Memᴰ·tail (has-mem b bs (rw (ne-eqb b 0 n) at h))) (same-or-not b 0)
 
 -- the bit of block b in the map
 pub map-bit : (bs : List ℕ) (b : ℕ) → b < 4096 → bit (readMap bs) b ≡ isRead bs b
-unfolding bit readMap
-map-bit bs b l =
-    ap (λ (x : ℕ). eqb (x / 2 ^ (b % 8) % 2) 1) (records-at (markByte (isRead bs)) 8 512 0 (b / 8) (omega arith)) ∙
-    mark-bit (isRead bs) (0 + b / 8 * 8) (b % 8) (omega arith) ∙
-    ap (isRead bs) (omega arith)
+unfolding readMap
+map-bit bs b l = marked-bit (isRead bs) mapBytes b (omega arith)
+
+-- block 0 is marked
+pub zero-marked : (bs : List ℕ) → bit (readMap bs) 0 ≡ true
+zero-marked bs = map-bit bs 0 (omega arith) ∙ read-header bs
+
+-- ---- the number of ones
+
+ones-up-to : (bs : List ℕ) (n : ℕ) → n ≤ 4096 → length (keep (bit (readMap bs)) (upTo 0 n)) ≤ 1 + length bs
+ones-up-to bs n l =
+    let marks = bit (readMap bs) in
+    let h = fewer (keep marks (upTo 0 n)) (0 ∷ bs) (keep-once marks (upTo 0 n) (upTo-once 0 n))
+    (λ k j. let r = keep-mem marks (upTo 0 n) j in read-in bs k (sym (map-bit bs k (omega (arith, upTo-from 0 n (r .0)))) ∙ r .1)) in
+    omega arith
+
+-- at most one more than the blocks
+pub ones-few : (bs : List ℕ) → ones (readMap bs) ≤ 1 + length bs
+unfolding onesBelow
+ones-few bs = ones-up-to bs mapBlocks (omega arith)
+
+-- exactly that, for blocks of the map that stand once
+pub ones-count : (bs : List ℕ) → Once (0 ∷ bs) → ((b : ℕ) → List·Memᴰ b bs → b < 4096) → ones (readMap bs) ≡ 1 + length bs
+unfolding onesBelow
+ones-count bs a low = count mapBlocks refl
+  where
+    there : (n : ℕ) → n ≡ 4096 → (k : ℕ) → k < 4096 → isRead bs k ≡ true → List·Memᴰ k (keep (bit (readMap bs)) (upTo 0 n))
+    there n z k l r = keep-there (bit (readMap bs)) (upTo 0 n) (upTo-in 0 n k (omega arith) (omega arith)) (map-bit bs k l ∙ r)
+
+    count : (n : ℕ) → n ≡ 4096 → length (keep (bit (readMap bs)) (upTo 0 n)) ≡ 1 + length bs
+    count n z =
+        let h = fewer (0 ∷ bs) (keep (bit (readMap bs)) (upTo 0 n)) a
+        (λ k j. ⊎-elim (λ (e : k ≡ 0). there n z k (omega arith) (ap (isRead bs) e ∙ read-header bs)) (λ i. there n z k (low k i) (read-mem bs k i)) (List·Memᴰ·cases-cons j)) in
+        omega (arith, ones-up-to bs n (omega arith))
+
+-- ---- the map of blocks in use, which is made in the same way
+
+-- an exact map: no block is reached twice
+pub exact-once : (m bs : List ℕ) → mapExact m bs ≡ true → distinct bs ≡ true
+unfolding mapExact
+exact-once m bs h = all-at _ h 0
+
+-- and each bit is that of the map of these blocks
+pub exact-bit : (m bs : List ℕ) → mapExact m bs ≡ true → (b : ℕ) → b < 4096 → bit m b ≡ isRead bs b
+unfolding mapExact isRead
+exact-bit m bs h b l = beq-true (bit m b) (eqb b 0 || has b bs) (below-every (λ k. Bool·beq (bit m k) (eqb k 0 || has k bs)) mapBlocks (all-at _ h 1) b l)
+
+-- that is all
+pub exact-make : (m bs : List ℕ) → distinct bs ≡ true → ((b : ℕ) → b < 4096 → bit m b ≡ isRead bs b) → mapExact m bs ≡ true
+unfolding mapExact isRead
+exact-make m bs d h =
+    all-cons _ _ d
+    (all-cons _ _ (every-upTo (λ k. Bool·beq (bit m k) (eqb k 0 || has k bs)) 0 mapBlocks (λ b i l. true-beq (bit m b) (eqb b 0 || has b bs) (h b (omega arith)))) all-nil)

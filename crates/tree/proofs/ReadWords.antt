@@ -4,7 +4,7 @@
 use mathlib.Core.Path.{_≡_, refl, ap, sym, _∙_}
 use mathlib.Core.Logic.{_⊎_, inl, inr, ⊎-elim, _↔_}
 use mathlib.Core.Bool.{Bool, true, false, _&&_, and-true, true≢false}
-use mathlib.Core.List.{List, [], _∷_, map, List·Memᴰ, List·Memᴰ·head, List·Memᴰ·tail, List·Memᴰ·not-nil, List·Memᴰ·cases-cons}
+use mathlib.Core.List.{Memᴰ·map, Memᴰ·of-map, List, [], _∷_, map, List·Memᴰ, List·Memᴰ·head, List·Memᴰ·tail, List·Memᴰ·not-nil, List·Memᴰ·cases-cons}
 use Prim.Native.Nat.{ℕ, zero, suc, _+_, _/_, _%_, _≤_, _<_}
 use native.Mathlib.Omega.{arith}
 use lib.Dec.{leb}
@@ -34,7 +34,7 @@ use Rattle.tree.specs.Sound.{sound}
 use Rattle.tree.specs.Walk.{blocksRead, walkTable}
 use Rattle.tree.specs.ReadMap.{readMap}
 use Rattle.tree.specs.Read.{HighEnough, HoldsPlace, Read, start, child, ReadBlock}
-use Rattle.tree.proofs.Below.{map-mem, map-back}
+use Rattle.tree.proofs.Empty.{held-some}
 use Rattle.tree.proofs.ReadKeys.{KeyRead, first, next, KeyReadBlock}
 use Rattle.tree.proofs.Exact.{marks-exact}
 
@@ -50,6 +50,7 @@ spots-small s w (suc n) at x k =
 abbrev Small : Node → Type 0
 Small n = (s : Spot) → List·Memᴰ s (n .points) → s .key < allKeys
 
+-- those of a table are so
 pub points-small : (t : List ℕ) (b : ℕ) → Small (storeOf t b)
 unfolding storeOf nodeOf nodeFrom
 points-small t b = spots-small (block t b) (version1 .spot) (be 1 (block t b) 4) (pointsFrom version1 (be 1 (block t b) 7))
@@ -64,7 +65,7 @@ keys-from (s ∷ ss) i =
 -- a spot of P is no higher than the highest
 below-highest : (n : Node) {s : Spot} → List·Memᴰ s (n .points) → rankKey (s .key) ≤ maximum (rankKeys n)
 unfolding rankKeys
-below-highest n i = maximum-ge (map rankKey (keys (n .points))) (map-mem rankKey (keys (n .points)) (keys-mem (n .points) i))
+below-highest n i = maximum-ge (map rankKey (keys (n .points))) (Memᴰ·map rankKey (keys-mem (n .points) i))
 
 -- and some spot of P is that high
 highest : (n : Node) → isEmpty (n .points) ≡ false → (s : Spot) × List·Memᴰ s (n .points) × (maximum (rankKeys n) ≡ rankKey (s .key))
@@ -74,13 +75,9 @@ highest n h = go (n .points) h
     go : (ss : List Spot) → isEmpty ss ≡ false → (s : Spot) × List·Memᴰ s ss × (maximum (map rankKey (keys ss)) ≡ rankKey (s .key))
     go [] e = absurd (true≢false e)
     go (s ∷ ss) e =
-        let r = map-back rankKey (keys (s ∷ ss)) (maximum-mem (rankKey (s .key)) (map rankKey (keys ss))) in
+        let r = Memᴰ·of-map rankKey (keys (s ∷ ss)) (maximum-mem (rankKey (s .key)) (map rankKey (keys ss))) in
         let k = keys-from (s ∷ ss) (r .1) in
-        (k .0, k .1, r .2 ∙ ap rankKey (k .2))
-
-held-some : (ss : List Spot) {s : Spot} → List·Memᴰ s ss → isEmpty ss ≡ false
-held-some [] i = absurd (List·Memᴰ·not-nil i)
-held-some (x ∷ xs) i = refl
+        (k .0, k .1, sym (r .2) ∙ ap rankKey (k .2))
 
 -- ---- ranks and places as whole numbers
 

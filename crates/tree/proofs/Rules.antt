@@ -2,22 +2,28 @@
 -- Assumes nothing.
 use mathlib.Core.Path.{_≡_, refl, ap, sym, _∙_, subst}
 use mathlib.Core.Logic.{_⊎_, inl, inr, ⊎-elim, _↔_}
-use mathlib.Core.Bool.{Bool, true, false, _||_, Bool·beq, false≢true}
-use mathlib.Core.List.{List, [], _∷_, _++_, map, List·Memᴰ, List·Memᴰ·head, List·Memᴰ·tail, List·Memᴰ·not-nil, List·Memᴰ·cases-cons, List·Memᴰ·append-cases, Memᴰ·append-left, Memᴰ·append-right, Memᴰ·cast}
+use mathlib.Core.Bool.{true, false, false≢true}
+use mathlib.Core.List.{Memᴰ·map, Memᴰ·of-map, List, [], _∷_, _++_, map, List·Memᴰ, List·Memᴰ·cases-cons, List·Memᴰ·append-cases, Memᴰ·append-left, Memᴰ·append-right, Memᴰ·cast}
 use Prim.Native.Nat.{ℕ, zero, suc, _+_, _≤_, _<_}
 use native.Mathlib.Omega.{arith}
 use lib.ListN.{length, getD, drop}
 use lib.Dec.{eqb}
 use borrow.Author.Tests.{leb-true, ltb-true, eqb-true, eq-eqb, ne-eqb}
-use Rattle.octets.specs.Lists.{all, every, has, isEmpty, rest, rising, maximum, minimum, upTo, records}
-use Rattle.spot.specs.Spots.{keys}
-use Rattle.spot.specs.Keys.{rankKey, allKeys, within}
+use Rattle.octets.specs.Lists.{all, every, isEmpty, rest, rising, maximum, minimum, records}
 use Rattle.octets.specs.Bitmap.{bit}
 use Rattle.octets.specs.Bytes.{be}
+use Rattle.octets.proofs.Tests.{all-at, every-mem, or-either, empty-list}
+use Rattle.octets.proofs.Sets.{no-member}
+use Rattle.octets.proofs.Extremes.{min-is}
+use Rattle.octets.proofs.Once.{Once, once-distinct}
+use Rattle.spot.specs.Spots.{keys}
+use Rattle.spot.specs.Keys.{rankKey, allKeys, within}
+use Rattle.spot.proofs.Places.{within-from, within-to}
+use Rattle.spot.proofs.Halves.{rank-small}
 use Rattle.block.specs.declared.Entry.{Entry}
 use Rattle.block.specs.Node.{Node, Store, storeOf, nodeOf, nodeFrom, laidOut, usedBytes, entryBlank, firstBlank}
 use Rattle.block.specs.Header.{headOf}
-use Rattle.block.specs.Table.{version1, capacity, mapBlocks, block}
+use Rattle.block.specs.Table.{version1, capacity, block}
 use Rattle.block.specs.declared.Asked.{Asked}
 use Rattle.block.specs.declared.Asked.the-variants.{Child}
 use Rattle.block.specs.NodeRules.{names, lows, fewest, childCountOk, buffersRise, namedOnce, lowsRise, pointsAbove, filled, lowest, leafBuffersEmpty, tops, rankKeys, agrees, nodeOk}
@@ -26,138 +32,14 @@ use Rattle.tree.specs.Part.{Part, whole, parts, children}
 use Rattle.tree.specs.Reach.{reach}
 use Rattle.tree.specs.Sound.{inRange, soundAt, mapExact, sound}
 use Rattle.tree.specs.Walk.{liveCount}
-use Rattle.tree.proofs.Laws.{all-at, every-mem, or-left}
-use Rattle.tree.proofs.Places.{within-from, within-to}
-use Rattle.tree.proofs.Below.{Under, under-point, under-lower, filled-by, has-insert, has-child, has-in, min-is, map-mem, map-back, entry-top, parts-mem, tops-mem}
-use Rattle.tree.proofs.Apart.{has-mem, Apart, apart-distinct, mem-has}
-use Rattle.tree.proofs.Once.{gather-mem, gather-in}
-use Rattle.tree.proofs.Exact.{upTo-in}
+use Rattle.tree.specs.ReadMap.{isRead}
+use Rattle.tree.proofs.Marks.{read-header, read-mem, read-in, exact-once, exact-bit}
+use Rattle.tree.proofs.Nodes.{NodeOf, start, child, Below, Stands, node-of-child, node-reached, reach-own, reach-node, node-stands, child-sound, node-high}
+use Rattle.tree.proofs.Says.{names-P}
+use Rattle.tree.proofs.Entries.{agree-size, agree-top, agree-bottom}
+use Rattle.tree.proofs.Ranges.{parts-mem}
+use Rattle.tree.proofs.Below.{Under, under-point, under-lower, filled-by, has-insert, has-delete, has-child, entry-top, tops-mem}
 use Rattle.tree.proofs.Tables.{sound-tree, sound-header}
-use Rattle.tree.proofs.Buffers.{rank-small}
-
--- c is a node of the part p: its uppermost, or a child of one
-pub data NodeOf (m : Store) (p : Part) : Part → Type 0 where
-  start : {c : Part} → c ≡ p → NodeOf m p c
-  child : {d c : Part} → NodeOf m p d → List·Memᴰ c (children d (m (d .block))) → NodeOf m p c
-
--- d stands below p
-abbrev pub Below : Store → Part → Part → Type 0
-Below m p d = (c : Part) × List·Memᴰ c (children p (m (p .block))) × NodeOf m c d
-
--- ---- what soundness says at each node
-
--- a node that keeps the rules, with as many levels below it as its level
-pub record Stands (m : Store) (c : Part) : Type 0 where
-  pub left : ℕ
-  pub ok : nodeOk left (c .asked) (m (c .block)) ≡ true
-  pub range : inRange c (m (c .block)) ≡ true
-  pub below : every (soundAt left m) (children c (m (c .block))) ≡ true
-
-stands : (l : ℕ) (m : Store) (c : Part) → soundAt l m c ≡ true → Stands m c
-unfolding soundAt
-stands zero m c s = absurd (false≢true s)
-stands (suc l) m c s = record { left = l; ok = all-at _ s 0; range = all-at _ s 1; below = all-at _ s 2 }
-
-child-sound : (m : Store) (d : Part) (w : Stands m d) {c : Part} → List·Memᴰ c (children d (m (d .block))) → soundAt (w .left) m c ≡ true
-child-sound m d w {c} k = every-mem (soundAt (w .left) m) (children d (m (d .block))) (w .below) k
-
-node-stands : (l : ℕ) (m : Store) (p : Part) → soundAt l m p ≡ true → {c : Part} → NodeOf m p c → Stands m c
-node-stands l m p s {c} (start e) = subst (λ (x : Part). Stands m x) (sym e) (stands l m p s)
-node-stands l m p s {c} (child {d = d} r k) =
-    let w = node-stands l m p s r in
-    stands (w .left) m c (child-sound m d w k)
-
--- a part's children end no higher than it
-parts-high : (lo hi : ℕ) (es : List Entry) → ((k : ℕ) → List·Memᴰ k (rest (lows es)) → k < hi) → {c : Part} → List·Memᴰ c (parts lo hi es) → c .hi ≤ hi
-parts-high lo hi [] f i = absurd (List·Memᴰ·not-nil i)
-parts-high lo hi (e ∷ []) f {c} i =
-    ⊎-elim (λ h. let x : c .hi ≡ hi = ap (λ (p : Part). p .hi) h in omega arith) (λ j. absurd (List·Memᴰ·not-nil j)) (List·Memᴰ·cases-cons i)
-parts-high lo hi (e ∷ g ∷ es) f {c} i =
-    ⊎-elim (λ h. let x : c .hi ≡ g .low = ap (λ (p : Part). p .hi) h in let y = f (g .low) (List·Memᴰ·head refl) in omega arith)
-    (λ j. parts-high (g .low) hi (g ∷ es) (λ k o. f k (List·Memᴰ·tail o)) j)
-    (List·Memᴰ·cases-cons i)
-
-node-high : (l : ℕ) (m : Store) (p : Part) → soundAt l m p ≡ true → {c : Part} → NodeOf m p c → c .hi ≤ p .hi
-unfolding inRange
-node-high l m p s {c} (start e) = let x : c .hi ≡ p .hi = ap (λ (q : Part). q .hi) e in omega arith
-node-high l m p s {c} (child {d = d} r k) =
-    let w = node-stands l m p s r in
-    let up = node-high l m p s r in
-    let n = m (d .block) in
-    let here = parts-high (d .lo) (d .hi) (n .entries) (λ j i. within-to (d .lo) (d .hi) j (every-mem (within (d .lo) (d .hi)) (rest (lows (n .entries))) (all-at _ (w .range) 1) i)) k in
-    omega (arith, here, up)
-
--- ---- the blocks reached
-
-reach-own : (l : ℕ) (m : Store) (c : Part) → soundAt l m c ≡ true → List·Memᴰ (c .block) (reach l m c)
-unfolding soundAt reach
-reach-own zero m c s = absurd (false≢true s)
-reach-own (suc l) m c s = List·Memᴰ·head refl
-
-node-of-child : (m : Store) {p c d : Part} → NodeOf m p c → NodeOf m c d → NodeOf m p d
-node-of-child m {p} r (start e) = subst (λ (x : Part). NodeOf m p x) (sym e) r
-node-of-child m r (child x k) = child (node-of-child m r x) k
-
-reach-node : (l : ℕ) (m : Store) (p : Part) {b : ℕ} → List·Memᴰ b (reach l m p) → (c : Part) × NodeOf m p c × (c .block ≡ b)
-unfolding reach
-reach-node zero m p k = absurd (List·Memᴰ·not-nil k)
-reach-node (suc l) m p k =
-    ⊎-elim (λ e. (p, start refl, sym e))
-    (λ j.
-    let g = gather-mem (reach l m) (children p (m (p .block))) j in
-    let r = reach-node l m (g .0) (g .2) in
-    (r .0, node-of-child m (child (start refl) (g .1)) (r .1), r .2))
-    (List·Memᴰ·cases-cons k)
-
-record Reached (l : ℕ) (m : Store) (p c : Part) : Type 0 where
-  left : ℕ
-  sound-there : soundAt left m c ≡ true
-  within-all : (b : ℕ) → List·Memᴰ b (reach left m c) → List·Memᴰ b (reach l m p)
-
-reached-child : (l : ℕ) (m : Store) (p d c : Part) (i : ℕ) → soundAt i m d ≡ true → ((b : ℕ) → List·Memᴰ b (reach i m d) → List·Memᴰ b (reach l m p))
-    → List·Memᴰ c (children d (m (d .block)))
-    → Reached l m p c
-unfolding soundAt reach
-reached-child l m p d c zero s f k = absurd (false≢true s)
-reached-child l m p d c (suc i) s f k =
-    record {
-      left = i;
-      sound-there = every-mem (soundAt i m) (children d (m (d .block))) (all-at _ s 2) k;
-      within-all = λ b j. f b (List·Memᴰ·tail (gather-in (reach i m) (children d (m (d .block))) c k j));
-    }
-
-node-reached : (l : ℕ) (m : Store) (p : Part) → soundAt l m p ≡ true → {c : Part} → NodeOf m p c → Reached l m p c
-node-reached l m p s (start e) = subst (λ (x : Part). Reached l m p x) (sym e) (record { left = l; sound-there = s; within-all = λ b j. j })
-node-reached l m p s (child {d = d} {c = c} r k) =
-    let v = node-reached l m p s r in
-    reached-child l m p d c (v .left) (v .sound-there) (v .within-all) k
-
--- ---- lists
-
-same-bool : (a b : Bool) → Bool·beq a b ≡ true → a ≡ b
-same-bool true true h = refl
-same-bool true false h = absurd (false≢true h)
-same-bool false true h = absurd (false≢true h)
-same-bool false false h = refl
-
-below-every : (f : ℕ → Bool) (n : ℕ) → every f (upTo 0 n) ≡ true → (b : ℕ) → b < n → f b ≡ true
-below-every f n h b l = every-mem f (upTo 0 n) h (upTo-in 0 n b (omega arith) (omega arith))
-
-empty-list : {A : Type 0} (xs : List A) → isEmpty xs ≡ true → xs ≡ []
-empty-list [] h = refl
-empty-list (x ∷ xs) h = absurd (false≢true h)
-
-no-member : (xs : List ℕ) → ((k : ℕ) → List·Memᴰ k xs → ⊥) → xs ≡ []
-no-member [] h = refl
-no-member (x ∷ xs) h = absurd (h x (List·Memᴰ·head refl))
-
-has-delete : (n : Node) {k : ℕ} → List·Memᴰ k (n .deletes) → lowest n ≡ true → ⊥
-unfolding lowest
-has-delete n {k} j h = List·Memᴰ·not-nil (subst (λ (ks : List ℕ). List·Memᴰ k ks) (empty-list (n .deletes) (all-at _ h 2)) j)
-
-or-either : (a b : Bool) → a || b ≡ true → (a ≡ true) ⊎ (b ≡ true)
-or-either true b h = inl refl
-or-either false b h = inr h
 
 -- the first number replaced by x
 abbrev pub firstThen : ℕ → List ℕ → List ℕ
@@ -177,13 +59,6 @@ part-range lo hi (e ∷ []) zero p = (refl, refl)
 part-range lo hi (e ∷ []) (suc i) p = (refl, refl)
 part-range lo hi (e ∷ f ∷ es) zero p = (refl, refl)
 part-range lo hi (e ∷ f ∷ es) (suc i) p = part-range (f .low) hi (f ∷ es) i p
-
-or-first : (x y : Bool) → x ≡ true → x || y ≡ true
-or-first x y e = rw e
-
-or-second : (x y : Bool) → y ≡ true → x || y ≡ true
-or-second true y e = refl
-or-second false y e = e
 
 -- the used length of a node's block, by its sizes
 abbrev pub usedOf : List ℕ → ℕ
@@ -229,9 +104,8 @@ module _ (t : List ℕ) (s : sound t ≡ true) where
   exact = all-at _ s 2
 
   -- rule 1: ".. each reached once"
-  pub rule1-once : Apart (reach (headOf t .levels) m top-part)
-  unfolding mapExact
-  rule1-once = apart-distinct (reach (headOf t .levels) m top-part) (all-at _ exact 0)
+  pub rule1-once : Once (reach (headOf t .levels) m top-part)
+  rule1-once = once-distinct (reach (headOf t .levels) m top-part) (exact-once (headOf t .inUse) (reach (headOf t .levels) m top-part) exact)
 
   -- the blocks reached are those of the nodes
   pub reached-nodes : (b : ℕ) → List·Memᴰ b (reach (headOf t .levels) m top-part) ↔ ((c : Part) × TableNode c × (c .block ≡ b))
@@ -242,21 +116,13 @@ module _ (t : List ℕ) (s : sound t ≡ true) where
         Memᴰ·cast (sym (r .2)) (v .within-all (r .0 .block) (reach-own (v .left) m (r .0) (v .sound-there))),
   )
 
-  marked : (b : ℕ) → b < 4096 → bit (headOf t .inUse) b ≡ (eqb b 0 || has b (reach (headOf t .levels) m top-part))
-  unfolding mapExact
-  marked b h =
-      same-bool (bit (headOf t .inUse) b) (eqb b 0 || has b (reach (headOf t .levels) m top-part))
-      (below-every (λ (b : ℕ). Bool·beq (bit (headOf t .inUse) b) (eqb b 0 || has b (reach (headOf t .levels) m top-part))) mapBlocks (all-at _ exact 1) b h)
-
   -- rule 1: "the map marks block 0 and exactly the blocks reached from the root"
   pub rule1-map : (b : ℕ) → b < 4096 → (bit (headOf t .inUse) b ≡ true) ↔ ((b ≡ 0) ⊎ ((c : Part) × TableNode c × (c .block ≡ b)))
   rule1-map b h =
-      let reached = has b (reach (headOf t .levels) m top-part) in (
-        λ e. ⊎-elim (λ z. inl (eqb-true b 0 z)) (λ k. inr (reached-nodes b .0 (mem-has b (reach (headOf t .levels) m top-part) k)))
-            (or-either (eqb b 0) reached (sym (marked b h) ∙ e)),
-        λ o. marked b h ∙
-            ⊎-elim (λ z. or-first (eqb b 0) reached (eq-eqb b 0 z))
-            (λ r. or-second (eqb b 0) reached (has-mem b (reach (headOf t .levels) m top-part) (reached-nodes b .1 r))) o,
+      let bs = reach (headOf t .levels) m top-part in
+      let marked = exact-bit (headOf t .inUse) bs exact b h in (
+        λ e. ⊎-elim inl (λ k. inr (reached-nodes b .0 k)) (List·Memᴰ·cases-cons (read-in bs b (sym marked ∙ e))),
+        λ o. marked ∙ ⊎-elim (λ z. ap (isRead bs) z ∙ read-header bs) (λ r. read-mem bs b (reached-nodes b .1 r)) o,
       )
 
   -- rule 2: "The root has level h − 1"
@@ -309,9 +175,9 @@ module _ (t : List ℕ) (s : sound t ≡ true) where
   rule3-rise c r = let h = all-at _ (node r .ok) 3 in (all-at _ h 0, all-at _ h 1, all-at _ h 2)
 
   -- rule 3: "no identity occurs twice in one node"
-  pub rule3-once : (c : Part) → TableNode c → Apart (names (at c))
+  pub rule3-once : (c : Part) → TableNode c → Once (names (at c))
   unfolding nodeOk namedOnce
-  rule3-once c r = apart-distinct (names (at c)) (all-at _ (node r .ok) 4)
+  rule3-once c r = once-distinct (names (at c)) (all-at _ (node r .ok) 4)
 
   -- rule 3: "All identities lie in the node's range"
   pub rule3-range : (c : Part) → TableNode c → (k : ℕ) → List·Memᴰ k (names (at c)) → (c .lo ≤ k) × (k < c .hi)
@@ -454,29 +320,26 @@ module _ (t : List ℕ) (s : sound t ≡ true) where
   pub rule6-block : (d c : Part) (r : TableNode d) (k : List·Memᴰ c (children d (at d))) → c .block ≡ entry d c r k .block
   rule6-block d c r k = entry-of d c r k .2
 
+  -- rule 6: .. its size
   pub rule6-size : (d c : Part) (r : TableNode d) (k : List·Memᴰ c (children d (at d))) → entry d c r k .size ≡ length (at c .points)
-  unfolding agrees
-  rule6-size d c r k = eqb-true _ _ (all-at _ (entry-agrees d c r k) 0)
+  rule6-size d c r k = agree-size (entry d c r k) (at c) (entry-agrees d c r k)
 
+  -- rule 6: .. its highest
   pub rule6-highest : (d c : Part) (r : TableNode d) (k : List·Memᴰ c (children d (at d))) → isEmpty (at c .points) ≡ false
       → List·Memᴰ (entry d c r k .top) (keys (at c .points)) × ((j : ℕ) → List·Memᴰ j (keys (at c .points)) → rankKey j ≤ rankKey (entry d c r k .top))
-  unfolding agrees
-  rule6-highest d c r k e =
-      let h = or-left _ _ (all-at _ (entry-agrees d c r k) 1) e in
-      (has-in _ _ (all-at _ h 0), λ j i. leb-true (rankKey j) (rankKey (entry d c r k .top)) (every-mem _ _ (all-at _ h 1) i))
+  rule6-highest d c r k e = agree-top (entry d c r k) (at c) (entry-agrees d c r k) e
 
+  -- rule 6: .. and its lowest
   pub rule6-lowest : (d c : Part) (r : TableNode d) (k : List·Memᴰ c (children d (at d))) → isEmpty (at c .points) ≡ false
       → List·Memᴰ (entry d c r k .bottom) (keys (at c .points)) × ((j : ℕ) → List·Memᴰ j (keys (at c .points)) → rankKey (entry d c r k .bottom) ≤ rankKey j)
-  unfolding agrees
-  rule6-lowest d c r k e =
-      let h = or-left _ _ (all-at _ (entry-agrees d c r k) 2) e in
-      (has-in _ _ (all-at _ h 0), λ j i. leb-true (rankKey (entry d c r k .bottom)) (rankKey j) (every-mem _ _ (all-at _ h 1) i))
+  rule6-lowest d c r k e = agree-bottom (entry d c r k) (at c) (entry-agrees d c r k) e
 
   -- .. the same of rank keys
   pub rule6-top : (d c : Part) (r : TableNode d) (k : List·Memᴰ c (children d (at d))) → isEmpty (at c .points) ≡ false
       → rankKey (entry d c r k .top) ≡ maximum (rankKeys (at c))
   rule6-top d c r k e = entry-top (entry d c r k) (at c) (entry-agrees d c r k) e .1
 
+  -- rule 6: .. the same of the lowest
   pub rule6-bottom : (d c : Part) (r : TableNode d) (k : List·Memᴰ c (children d (at d))) → isEmpty (at c .points) ≡ false
       → rankKey (entry d c r k .bottom) ≡ minimum allKeys (rankKeys (at c))
   unfolding rankKeys names
@@ -484,12 +347,12 @@ module _ (t : List ℕ) (s : sound t ≡ true) where
       let h = rule6-lowest d c r k e in
       let b = entry d c r k .bottom in
       let ks = keys (at c .points) in
-      let w = rule3-range c (child r k) b (Memᴰ·append-left (at c .deletes) (Memᴰ·append-left (keys (at c .inserts)) (h .0))) in
-      let high = node-high (headOf t .levels) m top-part (sound-tree t s) (child r k) in
+      let w = rule3-range c (child r k) b (names-P (at c) (h .0)) in
+      let high = node-high (headOf t .levels) m top-part (sound-tree t s) (omega arith) (child r k) .1 in
       let small = rank-small b (omega (arith, w .1, high)) in
       let most : rankKey b ≤ allKeys = omega (arith, small) in
-      min-is allKeys (map rankKey ks) (rankKey b) most (map-mem rankKey ks (h .0))
-      (λ x i. let q = map-back rankKey ks i in subst (λ (j : ℕ). rankKey b ≤ j) (sym (q .2)) (h .1 (q .0) (q .1)))
+      min-is allKeys (map rankKey ks) (rankKey b) most (Memᴰ·map rankKey (h .0))
+      (λ x i. let q = Memᴰ·of-map rankKey ks i in subst (λ (j : ℕ). rankKey b ≤ j) (q .2) (h .1 (q .0) (q .1)))
 
   -- rule 6: "The figure in bytes 8-11 lies in its limits": "never below the live count and never above capacity"
   pub rule6-figure : (liveCount t ≤ headOf t .bound) × (headOf t .bound ≤ capacity (length t))
@@ -503,6 +366,7 @@ module _ (t : List ℕ) (s : sound t ≡ true) where
       let h = sound-header t s in
       (eqb-true _ _ (all-at _ h 1), leb-true _ _ (all-at _ h 2), leb-true _ _ (all-at _ h 3), all-at _ h 7)
 
+  -- rule 6: .. in nodes
   pub rule6-node : (c : Part) → TableNode c → Laid (block t (c .block))
   unfolding nodeOk storeOf nodeOf nodeFrom laidOut
   rule6-node c r =

@@ -1,16 +1,18 @@
 -- Where a walk's spots and blocks come from, on every table: each spot found is wanted and stands in P or I of a block read, and where every node read keeps
 -- the rules, each block read is a node block of the table.
 -- Assumes nothing.
-use mathlib.Core.Path.{_≡_, refl, sym, subst}
+use mathlib.Core.Path.{_≡_, refl, sym, _∙_, subst}
 use mathlib.Core.Logic.{_⊎_, inl, inr, ⊎-elim}
 use mathlib.Core.Bool.{Bool, true, false, _&&_}
 use mathlib.Core.List.{List, [], _∷_, _++_, List·Memᴰ, List·Memᴰ·head, List·Memᴰ·tail, List·Memᴰ·not-nil, List·Memᴰ·cases-cons}
 use Prim.Native.Nat.{ℕ, zero, suc, _≤_, _<_}
+use native.Mathlib.Omega.{arith}
 use lib.ListN.{length}
 use borrow.Author.Tests.{leb-true, ltb-true}
-use Rattle.octets.specs.Lists.{every, has, distinct}
-use Rattle.octets.proofs.Tests.{and-left, and-right, bool-ext, all-at, every-mem, keep-mem, keep-in}
-use Rattle.octets.proofs.Sets.{has-mem, mem-has}
+use Rattle.octets.specs.Lists.{every, distinct}
+use Rattle.octets.specs.Bitmap.{bit}
+use Rattle.octets.proofs.Tests.{and-left, and-right, all-at, every-mem, keep-mem, keep-in}
+use Rattle.octets.proofs.Once.{Once, once-distinct}
 use Rattle.spot.specs.Spots.{putAll}
 use Rattle.spot.specs.Query.{wants}
 use Rattle.spot.specs.declared.Spot.{Spot}
@@ -22,28 +24,18 @@ use Rattle.block.specs.Node.{Store, storeOf, nodeOf, nodeFrom}
 use Rattle.block.specs.NodeRules.{names, nodeOk, childBlocksOk}
 use Rattle.block.specs.Header.{headOf}
 use Rattle.block.specs.HeaderRules.{headerOk}
+use Rattle.block.proofs.Facts.{head-facts}
 use Rattle.tree.specs.Part.{Part, whole, children}
 use Rattle.tree.specs.Reach.{reach}
 use Rattle.tree.specs.Sound.{soundAt}
 use Rattle.tree.specs.Walk.{spots, blocksRead, admits, takes, takesKey, finds, walkTable}
 use Rattle.tree.specs.Trace.{admitted, obeys, visits, pour, gains}
-use Rattle.tree.proofs.Below.{parts-mem}
-use Rattle.tree.proofs.Visits.{onto}
-use Rattle.tree.proofs.Once.{gather-mem, gather-in, onto-from}
-use Rattle.tree.proofs.Traces.{wholeIf, onto-twice, table-trace}
-
--- ---- blocks put onto a list
-
-pub onto-mem : (xs : List ℕ) {b : ℕ} → List·Memᴰ b xs → List·Memᴰ b (onto xs [])
-onto-mem xs {b} i =
-    ⊎-elim (λ j. j) (λ j. absurd (List·Memᴰ·not-nil j)) (onto-from (onto xs []) [] (subst (λ (ys : List ℕ). List·Memᴰ b ys) (sym (onto-twice xs)) i))
-
-pub mem-onto : (xs : List ℕ) {b : ℕ} → List·Memᴰ b (onto xs []) → List·Memᴰ b xs
-mem-onto xs i = ⊎-elim (λ j. j) (λ j. absurd (List·Memᴰ·not-nil j)) (onto-from xs [] i)
-
-pub has-onto : (b : ℕ) (xs : List ℕ) → has b (onto xs []) ≡ has b xs
-has-onto b xs =
-    bool-ext (has b (onto xs [])) (has b xs) (λ h. mem-has b xs (mem-onto xs (has-mem b (onto xs []) h))) (λ h. mem-has b (onto xs []) (onto-mem xs (has-mem b xs h)))
+use Rattle.tree.specs.ReadMap.{readMap}
+use Rattle.tree.proofs.Ranges.{parts-mem}
+use Rattle.tree.proofs.Marks.{map-bit, read-mem}
+use Rattle.tree.proofs.Onto.{onto, onto-mem, mem-onto, distinct-onto}
+use Rattle.tree.proofs.Gather.{gather-mem, gather-in}
+use Rattle.tree.proofs.Traces.{wholeIf, table-trace}
 
 -- ---- spots
 
@@ -67,6 +59,7 @@ finds-source m q named b bs s i k =
     let r = keep-mem (takes q named) (m b .points ++ m b .inserts) k in
     record { wanted = all-at _ (r .1) 0; block = b; read = i; held = r .0 }
 
+-- every spot of a walk comes from a block that it visits, or was there before
 pub gains-from : (l : ℕ) (m : Store) (q : Query) (named : List ℕ) (p : Part) (found : List Spot) (s : Spot) → List·Memᴰ s (gains l m q named p found)
     → Source m q (visits l m q p) s ⊎ List·Memᴰ s found
 unfolding gains visits
@@ -103,6 +96,7 @@ table-source t q s k =
     (λ i. ⊎-elim (λ r. r) (λ j. absurd (List·Memᴰ·not-nil j)) (gains-from L (storeOf t) q [] W [] s i))
     (rw (table-trace t q) at k))
 
+-- the same with the block named
 pub walk-sources : (t : List ℕ) (q : Query) (s : Spot) → List·Memᴰ s (spots (walkTable t q))
     → (wants q s ≡ true) × ((b : ℕ) × List·Memᴰ b (blocksRead (walkTable t q)) × List·Memᴰ s (storeOf t b .points ++ storeOf t b .inserts))
 walk-sources t q s k = let r = table-source t q s k in (r .wanted, (r .block, r .read, r .held))
@@ -142,29 +136,36 @@ module _ (r : ℕ) (m : Store) (room : (b : ℕ) → m b .room ≡ r) (P : ℕ �
       reach-in l (g .0) (every-mem (soundAt l m) (children p (m (p .block))) (all-at _ h 2) (g .1)) (child-in l (p .asked) p (all-at _ h 0) (g .1)) b (g .2))
       (List·Memᴰ·cases-cons k)
 
+-- a block that a node may stand in is one of the table
 pub block-low : (r b : ℕ) → blockOk r b ≡ true → b < r
 unfolding blockOk
 block-low r b h = ltb-true b r (all-at _ h 1)
 
+-- and not block 0
 pub block-some : (r b : ℕ) → blockOk r b ≡ true → 1 ≤ b
 unfolding blockOk
 block-some r b h = leb-true 1 b (all-at _ h 0)
 
 module _ (r : ℕ) (m : Store) (room : (b : ℕ) → m b .room ≡ r) where
+  -- blocks read are blocks of the table
   pub visits-low : (l : ℕ) (q : Query) (p : Part) → obeys l m q p ≡ true → p .block < r → (b : ℕ) → List·Memᴰ b (visits l m q p) → b < r
   visits-low = visits-in r m room (λ b. b < r) (block-low r)
 
+  -- and none is block 0
   pub visits-some : (l : ℕ) (q : Query) (p : Part) → obeys l m q p ≡ true → 1 ≤ p .block → (b : ℕ) → List·Memᴰ b (visits l m q p) → 1 ≤ b
   visits-some = visits-in r m room (λ b. 1 ≤ b) (block-some r)
 
+  -- so are blocks reached
   pub reach-low : (l : ℕ) (p : Part) → soundAt l m p ≡ true → p .block < r → (b : ℕ) → List·Memᴰ b (reach l m p) → b < r
   reach-low = reach-in r m room (λ b. b < r) (block-low r)
 
+  -- and none is block 0
   pub reach-some : (l : ℕ) (p : Part) → soundAt l m p ≡ true → 1 ≤ p .block → (b : ℕ) → List·Memᴰ b (reach l m p) → 1 ≤ b
   reach-some = reach-in r m room (λ b. 1 ≤ b) (block-some r)
 
 -- ---- blocks of a table
 
+-- every node of a table has the table's room
 pub room-is : (t : List ℕ) (b : ℕ) → storeOf t b .room ≡ blocksOf (length t)
 unfolding storeOf nodeOf nodeFrom
 room-is t b = refl
@@ -178,18 +179,74 @@ in-table : (t : List ℕ) (b : ℕ) → blockOk (blocksOf (length t)) b ≡ true
 in-table t b h = record { low = block-low _ b h; some = block-some _ b h }
 
 module _ (t : List ℕ) (h : headerOk (length t) (headOf t) ≡ true) where
+  -- at most as many blocks as the map has bits, and at least 9
   pub header-few : blocksOf (length t) ≤ 4096
-  unfolding headerOk tableSized
-  header-few = leb-true _ 4096 (all-at _ (all-at _ h 8) 2)
+  header-few = head-facts (length t) (headOf t) h .blocks-most
 
+  -- and at least 9
+  pub header-least : 9 ≤ blocksOf (length t)
+  unfolding tableSized
+  header-least = leb-true _ _ (all-at _ (head-facts (length t) (headOf t) h .sized) 1)
+
+  -- the root is a node block
   pub root-in : InTable t (headOf t .root)
   unfolding headerOk
   root-in = in-table t (headOf t .root) (all-at _ h 4)
 
+  -- and so is every block that a walk from it reads
   pub table-visits : (q : Query) → let L = headOf t .levels in let W = whole (headOf t) in obeys L (storeOf t) q W ≡ true
       → (b : ℕ) → List·Memᴰ b (visits L (storeOf t) q W) → InTable t b
   table-visits q o = visits-in _ (storeOf t) (room-is t) (InTable t) (in-table t) (headOf t .levels) q (whole (headOf t)) o root-in
 
+  -- and every block reached from it
   pub table-reach : let L = headOf t .levels in let W = whole (headOf t) in soundAt L (storeOf t) W ≡ true
       → (b : ℕ) → List·Memᴰ b (reach L (storeOf t) W) → InTable t b
   table-reach o = reach-in _ (storeOf t) (room-is t) (InTable t) (in-table t) (headOf t .levels) (whole (headOf t)) o root-in
+
+-- ---- blocks that the walk of a table reads
+
+module _ (t : List ℕ) (q : Query) where
+  abbrev bs : List ℕ
+  bs = blocksRead (walkTable t q)
+
+  -- a list of blocks that has what a walk that is whole reads, and holds where it reads nothing
+  by-trace : (P : List ℕ → Type 0) → P []
+      → (headerOk (length t) (headOf t) ≡ true → let L = headOf t .levels in let W = whole (headOf t) in obeys L (storeOf t) q W ≡ true
+      → distinct (visits L (storeOf t) q W) ≡ true
+      → P (onto (visits L (storeOf t) q W) []))
+      → P bs
+  by-trace P none some = rw (table-trace t q) (go _ refl)
+    where
+      W : Part
+      W = whole (headOf t)
+
+      good : Bool
+      good = obeys (headOf t .levels) (storeOf t) q W
+
+      apart : Bool
+      apart = distinct (visits (headOf t .levels) (storeOf t) q W)
+
+      go : (ok : Bool) → headerOk (length t) (headOf t) && (good && apart) ≡ ok
+          → P (blocksRead (wholeIf ok (gains (headOf t .levels) (storeOf t) q [] W []) (onto (visits (headOf t .levels) (storeOf t) q W) [])))
+      go true e =
+          let r = and-right (headerOk (length t) (headOf t)) (good && apart) e in
+          some (and-left (headerOk (length t) (headOf t)) (good && apart) e) (and-left good apart r) (and-right good apart r)
+      go false e = none
+
+  -- each is a node block of the table
+  pub read-in-table : (b : ℕ) → List·Memᴰ b bs → InTable t b
+  read-in-table b = by-trace (λ xs. List·Memᴰ b xs → InTable t b) (λ k. absurd (List·Memᴰ·not-nil k)) (λ h o d k. table-visits t h q o b (mem-onto _ k))
+
+  -- it has a bit in the map
+  pub read-few : (b : ℕ) → List·Memᴰ b bs → b < 4096
+  read-few b =
+      by-trace (λ xs. List·Memᴰ b xs → b < 4096) (λ k. absurd (List·Memᴰ·not-nil k))
+      (λ h o d k. omega (arith, header-few t h, table-visits t h q o b (mem-onto _ k) .low))
+
+  -- and the bit is set
+  pub read-marked : (b : ℕ) → List·Memᴰ b bs → bit (readMap bs) b ≡ true
+  read-marked b k = map-bit bs b (read-few b k) ∙ read-mem bs b k
+
+  -- none is read twice
+  pub read-once : Once bs
+  read-once = by-trace Once tt (λ h o d. let v = visits (headOf t .levels) (storeOf t) q (whole (headOf t)) in once-distinct (onto v []) (distinct-onto v ∙ d))

@@ -2,7 +2,7 @@
 -- Assumes nothing.
 use mathlib.Core.Path.{_≡_, refl, ap, sym, _∙_}
 use mathlib.Core.Bool.{Bool, true, false, cond, _&&_, true≢false}
-use mathlib.Core.List.{List, [], _∷_}
+use mathlib.Core.List.{List, []}
 use mathlib.Core.Option.{Option, none, some}
 use Prim.Native.Nat.{ℕ, _≤_}
 use native.Mathlib.Omega.{arith}
@@ -10,9 +10,15 @@ use lib.ListN.{length}
 use lib.Dec.{leb}
 use borrow.Author.Tests.{le-leb, leb-true}
 use Rattle.octets.specs.Lists.{all, keep, rising, distinct}
+use Rattle.octets.proofs.Tests.{all-at, all-cons, all-nil}
 use Rattle.spot.specs.declared.Spot.{Spot}
 use Rattle.spot.specs.Spots.{keys, find}
 use Rattle.spot.specs.Keys.{rankOf, allKeys, within}
+use Rattle.spot.specs.declared.Query.{Query}
+use Rattle.spot.specs.Query.{wants, wantsKey, placed, everything}
+use Rattle.spot.proofs.Canon.{canon, cond-none}
+use Rattle.spot.proofs.Places.{everything-placed}
+use Rattle.spot.proofs.Buffers.{find-only, keep-rises}
 use Rattle.block.specs.Header.{headOf}
 use Rattle.block.specs.Node.{storeOf}
 use Rattle.block.specs.HeaderRules.{headerOk}
@@ -20,15 +26,10 @@ use Rattle.tree.specs.Part.{whole}
 use Rattle.tree.specs.Lookup.{lookup, live}
 use Rattle.tree.specs.Sound.{soundAt, sound, mapExact}
 use Rattle.tree.specs.Reach.{reach}
-use Rattle.tree.proofs.Once.{walk-once}
-use Rattle.spot.specs.declared.Query.{Query}
 use Rattle.tree.specs.Walk.{Finds, liveCount, walk, once, walked, spots, takesKey, walkTable, walkFrom, liveSpots}
-use Rattle.spot.specs.Query.{wants, wantsKey, placed, everything}
-use Rattle.tree.proofs.Laws.{all-at, all-cons, all-nil}
-use Rattle.tree.proofs.Canon.{canon}
-use Rattle.tree.proofs.Places.{everything-placed}
-use Rattle.tree.proofs.Live.{Found, sel, walk-found, lookup-within, find-keep, cond-none}
-use Rattle.tree.proofs.Rises.{keep-rises}
+use Rattle.tree.proofs.Marks.{exact-once}
+use Rattle.tree.proofs.Visits.{walk-once}
+use Rattle.tree.proofs.Live.{Found, sel, walk-found, lookup-within}
 
 -- all of soundness but the count
 pub record Shaped (t : List ℕ) : Type 0 where
@@ -36,14 +37,17 @@ pub record Shaped (t : List ℕ) : Type 0 where
   pub tree : soundAt (headOf t .levels) (storeOf t) (whole (headOf t)) ≡ true
   pub map : mapExact (headOf t .inUse) (reach (headOf t .levels) (storeOf t) (whole (headOf t))) ≡ true
 
+-- a sound table keeps these rules
 pub shaped : (t : List ℕ) → sound t ≡ true → Shaped t
 unfolding sound
 shaped t s = record { header = all-at _ s 0; tree = all-at _ s 1; map = all-at _ s 2 }
 
+-- and its figure is no lower than the count
 pub counted : (t : List ℕ) → sound t ≡ true → length (liveSpots t) ≤ headOf t .bound
 unfolding sound liveCount
 counted t s = leb-true (length (liveSpots t)) (headOf t .bound) (all-at _ s 3)
 
+-- that is all
 pub sound-from : (t : List ℕ) → Shaped t → length (liveSpots t) ≤ headOf t .bound → sound t ≡ true
 unfolding sound liveCount
 sound-from t h c = all-cons _ _ (h .header) (all-cons _ _ (h .tree) (all-cons _ _ (h .map) (all-cons _ _ (le-leb (length (liveSpots t)) (headOf t .bound) c) all-nil)))
@@ -51,8 +55,7 @@ sound-from t h c = all-cons _ _ (h .header) (all-cons _ _ (h .tree) (all-cons _ 
 -- a table that keeps the rules, whatever its bound
 module _ (t : List ℕ) (g : Shaped t) where
   apart : distinct (reach (headOf t .levels) (storeOf t) (whole (headOf t))) ≡ true
-  unfolding mapExact
-  apart = all-at _ (g .map) 0
+  apart = exact-once (headOf t .inUse) _ (g .map)
 
   raw : (q : Query) → Found q [] 0 allKeys (live t) [] (walk (headOf t .levels) (storeOf t) q [] (whole (headOf t)) (walked [] []))
   unfolding live
@@ -76,6 +79,7 @@ module _ (t : List ℕ) (g : Shaped t) where
   unfolding liveSpots
   live-is = ap spots (found everything .is)
 
+  -- its live spots rise in place order
   pub tree-rises : rising (keys (liveSpots t)) ≡ true
   tree-rises = rw live-is (found everything .up)
 
@@ -105,6 +109,7 @@ module _ (t : List ℕ) (g : Shaped t) where
       go true w = rw (everything-placed k w, le-leb 0 (rankOf k) (omega arith))
       go false w = rw (live-none k w) (cond-none (placed everything k && (leb 0 (rankOf k) && true)))
 
+  -- and are found as they are live
   pub tree-finds : (k : ℕ) → find k (liveSpots t) ≡ live t k
   tree-finds k = rw live-is (found everything .found k ∙ taken everything k ∙ everything-wants k)
 
@@ -115,28 +120,35 @@ module _ (t : List ℕ) (g : Shaped t) where
       same : found q .after ≡ keep (wants q) (liveSpots t)
       same =
           canon 0 (found q .after) (keep (wants q) (liveSpots t)) (found q .up) (keep-rises (wants q) 0 (liveSpots t) tree-rises)
-          (λ k. found q .found k ∙ taken q k ∙ sym (find-keep (wantsKey q) k (liveSpots t) ∙ ap (λ (o : Option ℕ). cond (wantsKey q k) o none) (tree-finds k)))
+          (λ k. found q .found k ∙ taken q k ∙ sym (find-only (wantsKey q) k (liveSpots t) ∙ ap (λ (o : Option ℕ). cond (wantsKey q k) o none) (tree-finds k)))
 
+  -- a walk for everything finds them all
   pub tree-count : Finds (walkTable t everything) (liveSpots t)
   tree-count = (found everything .blocks, found everything .is ∙ ap (λ (ss : List Spot). walked ss (found everything .blocks)) (sym live-is))
 
 module _ (t : List ℕ) (s : sound t ≡ true) where
+  -- a sound table: its tree
   pub sound-tree : soundAt (headOf t .levels) (storeOf t) (whole (headOf t)) ≡ true
   unfolding sound
   sound-tree = all-at _ s 1
 
+  -- its header
   pub sound-header : headerOk (length t) (headOf t) ≡ true
   unfolding sound
   sound-header = all-at _ s 0
 
+  -- its live spots rise
   pub live-rises : rising (keys (liveSpots t)) ≡ true
   live-rises = tree-rises t (shaped t s)
 
+  -- and are found as they are live
   pub live-finds : (k : ℕ) → find k (liveSpots t) ≡ live t k
   live-finds = tree-finds t (shaped t s)
 
+  -- a Report finds those that it wants
   pub report-finds : (q : Query) → Finds (walkTable t q) (keep (wants q) (liveSpots t))
   report-finds = tree-report t (shaped t s)
 
+  -- and Count all
   pub count-finds : Finds (walkTable t everything) (liveSpots t)
   count-finds = tree-count t (shaped t s)

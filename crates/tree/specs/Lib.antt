@@ -7,4 +7,5 @@ pub mod ReadMap
 pub mod Sound
 pub mod Read
 pub mod Top
+pub mod BestFirst
 pub mod SameList

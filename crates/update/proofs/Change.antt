@@ -1,21 +1,22 @@
 -- Parts of a store that became other parts of another store, over the same range.
 -- Assumes nothing.
-use mathlib.Core.Path.{_≡_, refl, ap, ap₂, sym, _∙_}
+use mathlib.Core.Path.{_≡_, refl, ap, sym, _∙_}
 use mathlib.Core.Logic.{_⊎_, inl, inr, ⊎-elim}
-use mathlib.Core.Bool.{Bool, true, false, cond, _&&_, _||_, true≢false, false≢true}
-use mathlib.Core.List.{List, [], _∷_, _++_, List·Memᴰ, List·Memᴰ·head, List·Memᴰ·tail, List·Memᴰ·not-nil, List·Memᴰ·cases-cons, Memᴰ·append-left, Memᴰ·append-right, List·Memᴰ·append-cases, append-nil}
-use mathlib.Core.Option.{Option, none}
-use Prim.Native.Nat.{ℕ, zero, suc}
+use mathlib.Core.Bool.{Bool, true, false, cond, _||_}
+use mathlib.Core.List.{List, [], _∷_, _++_, List·Memᴰ, Memᴰ·append-left, Memᴰ·append-right, List·Memᴰ·append-cases}
+use mathlib.Core.Option.{Option}
+use Prim.Native.Nat.{ℕ}
 use Rattle.octets.specs.Lists.{every, distinct}
-use Rattle.block.specs.Node.{Node, Store}
-use Rattle.tree.specs.Part.{Part, children}
+use Rattle.octets.proofs.Tests.{every-left, every-right, every-join}
+use Rattle.octets.proofs.Sets.{Split, distinct-split, distinct-join}
 use Rattle.spot.specs.Keys.{within}
+use Rattle.block.specs.Node.{Store}
+use Rattle.tree.specs.Part.{Part}
 use Rattle.tree.specs.Lookup.{down, lookup}
 use Rattle.tree.specs.Reach.{gather, reach}
 use Rattle.tree.specs.Sound.{soundAt}
-use Rattle.tree.proofs.Laws.{and-left, and-right, and-both}
-use Rattle.tree.proofs.Sets.{Apart, Split, distinct-split, distinct-join, every-left, every-right, every-join}
-use Rattle.tree.proofs.Frame.{Same, gather-append, reaches-same, sounds-same, lookups-same}
+use Rattle.tree.proofs.Frame.{Same, reaches-same, sounds-same, lookups-same}
+use Rattle.tree.proofs.Gather.{gather-append}
 
 -- the range of one of the parts holds k
 abbrev pub covers : ℕ → List Part → Bool
@@ -41,11 +42,13 @@ pub record Changed (l : ℕ) (New : ℕ → Type 0) (x : Store) (ps : List Part)
   pub still : (z : ℕ) → List·Memᴰ z (reaches l x ps) ⊎ New z → List·Memᴰ z (reaches l y qs)
   pub kept : (z : ℕ) → (List·Memᴰ z (reaches l x ps) → ⊥) → (New z → ⊥) → y z ≡ x z
 
+-- what is found may be said in other words
 pub changed-as : (l : ℕ) (New : ℕ → Type 0) (x : Store) (ps : List Part) (y : Store) (qs : List Part) (f g : ℕ → Option ℕ)
     → ((k : ℕ) → covers k ps ≡ true → f k ≡ g k) → Changed l New x ps y qs f → Changed l New x ps y qs g
 changed-as l New x ps y qs f g h c =
     record { sound = c .sound; span = c .span; found = λ k i. c .found k i ∙ h k i; reached = c .reached; still = c .still; kept = c .kept }
 
+-- nothing changed
 pub changed-refl : (l : ℕ) (New : ℕ → Type 0) (x : Store) (ps : List Part) → ((z : ℕ) → New z → ⊥) → Sound l x ps → Changed l New x ps x ps (λ k. down (lookup l x k) k ps)
 changed-refl l New x ps no-new s = record { sound = s; span = λ k. refl; found = λ k i. refl; reached = λ z i. inl i; still = λ z i. ⊎-elim (λ j. j) (λ j. absurd (no-new z j)) i; kept = λ z a b. refl }
 
@@ -63,6 +66,7 @@ changed-trans l A B New x ps y qs w rs f g a b exact c d =
       kept = λ z n o. d .kept z (λ i. ⊎-elim n (λ j. o (a z j)) (c .reached z i)) (λ j. o (b z j)) ∙ c .kept z n (λ j. o (a z j));
     }
 
+-- a search among some parts and others
 pub down-append : (f : Part → Option ℕ) (k : ℕ) (ps qs : List Part) → down f k (ps ++ qs) ≡ cond (covers k ps) (down f k ps) (down f k qs)
 down-append f k [] qs = refl
 down-append f k (p ∷ ps) qs = go (within (p .lo) (p .hi) k) (down-append f k ps qs)
@@ -72,6 +76,7 @@ down-append f k (p ∷ ps) qs = go (within (p .lo) (p .hi) k) (down-append f k p
     go true h = refl
     go false h = h
 
+-- the range of some parts and others
 pub covers-append : (k : ℕ) (ps qs : List Part) → covers k (ps ++ qs) ≡ covers k ps || covers k qs
 covers-append k [] qs = refl
 covers-append k (p ∷ ps) qs = go (within (p .lo) (p .hi) k) (covers-append k ps qs)
@@ -152,6 +157,7 @@ module _ (l : ℕ) (New : ℕ → Type 0) (x y : Store) (us ps qs vs : List Part
   abbrev pub among : ℕ → Option ℕ
   among k = cond (covers k us) (down (lookup l x k) k us) (cond (covers k ps) (f k) (down (lookup l x k) k vs))
 
+  -- a search finds that
   pub found-after : (k : ℕ) → down (lookup l y k) k (us ++ (qs ++ vs)) ≡ among k
   found-after k =
       down-append (lookup l y k) k us (qs ++ vs) ∙
@@ -162,6 +168,7 @@ module _ (l : ℕ) (New : ℕ → Type 0) (x y : Store) (us ps qs vs : List Part
       go true e = c .found k e
       go false e = refl
 
+  -- and all parts together changed
   pub changed-among : Changed l New x (us ++ (ps ++ vs)) y (us ++ (qs ++ vs)) among
   changed-among =
       let e = every-right (soundAt l x) us (ps ++ vs) (s .each) in

@@ -1,43 +1,33 @@
 -- A node in memory is stored: with the sizes right it is sound again, as one part, as two, or as a new root over two.
 -- Assumes nothing.
-use mathlib.Core.Path.{_≡_, refl, ap, ap₂, sym, _∙_, subst, subst⁻¹}
+use mathlib.Core.Path.{_≡_, refl, _∙_, subst⁻¹}
 use mathlib.Core.Logic.{_⊎_, inl, inr, ⊎-elim}
-use mathlib.Core.Bool.{Bool, true, false, not, cond, _&&_, _||_, true≢false, false≢true}
+use mathlib.Core.Bool.{true, _||_}
 use mathlib.Core.List.{List, [], _∷_, _++_, List·Memᴰ, List·Memᴰ·head, List·Memᴰ·tail, List·Memᴰ·not-nil, List·Memᴰ·cases-cons, append-nil}
-use mathlib.Core.Option.{Option, none, some}
-use Prim.Native.Nat.{ℕ, zero, suc, _<_, _≤_}
+use mathlib.Core.Option.{Option}
+use Prim.Native.Nat.{ℕ, suc, _<_, _≤_}
 use native.Mathlib.Omega.{arith}
-use lib.ListN.{length}
-use lib.Dec.{eqb, ltb, leb}
-use borrow.Author.Tests.{eqb-true, eq-eqb, ltb-true, lt-ltb, leb-true, le-leb}
-use Rattle.octets.specs.Lists.{all, every, keep, has, distinct, rest, rising, risingFrom}
-use Rattle.spot.specs.declared.Spot.{Spot}
-use Rattle.spot.specs.Spots.{keys, find}
-use Rattle.spot.specs.Keys.{rankKey, allKeys, within}
+use lib.Dec.{eqb}
+use Rattle.octets.specs.Lists.{every, distinct, rest}
+use Rattle.octets.proofs.Tests.{all-cons, all-nil, and-both, every-make}
+use Rattle.octets.proofs.Sets.{distinct-cons}
+use Rattle.spot.specs.Keys.{rankKey, within}
 use Rattle.block.specs.declared.Entry.{Entry}
 use Rattle.block.specs.Node.{Node, Store}
 use Rattle.block.specs.declared.Asked.{Asked}
-use Rattle.block.specs.declared.Asked.the-variants.{Root, Child}
-use Rattle.block.specs.NodeRules.{names, nodeOk, buffersRise, namedOnce, lowsRise, pointsAbove, filled, lowest, lows, agrees, notBelow, leafBuffersEmpty, childCountOk, childBlocksOk}
-use Rattle.tree.specs.Part.{Part, nextLow, parts, children}
-use Rattle.tree.specs.Lookup.{orElse, down, lookup}
-use Rattle.tree.specs.Reach.{gather, reach}
+use Rattle.block.specs.NodeRules.{names, nodeOk, lowsRise, filled, lowest, lows, agrees, leafBuffersEmpty, childCountOk, childBlocksOk}
+use Rattle.tree.specs.Part.{Part, parts, children}
+use Rattle.tree.specs.Lookup.{lookup}
+use Rattle.tree.specs.Reach.{reach}
 use Rattle.tree.specs.Sound.{soundAt, inRange}
-use Rattle.tree.proofs.Laws.{all-at, all-cons, all-nil, and-left, and-right, and-both, every-mem}
-use Rattle.tree.proofs.Sets.{distinct-cons, every-make}
+use Rattle.tree.proofs.Entries.{lowOf, not-below}
+use Rattle.tree.proofs.Below.{live-top}
+use Rattle.tree.proofs.Ranges.{Steps}
 use Rattle.tree.proofs.Frame.{Same}
-use Rattle.update.proofs.Change.{covers, reaches, Sound, Changed}
-use Rattle.update.proofs.Spread.{Steps, covers-parts, within-from, within-to, within-yes}
-use Rattle.update.proofs.Ready.{say, Ready}
-use Rattle.update.proofs.Moves.{Held, Fit, says}
-use Rattle.update.proofs.Loose.{word, look, part, Opened, closed, stored-reach, stored-lookup, stored-sound, node-changed, node-split}
-use Rattle.update.proofs.Node.{Rules, rules-back, live-top}
+use Rattle.update.proofs.Change.{reaches, Sound, Changed}
+use Rattle.update.proofs.Loose.{part, stored-reach, stored-lookup, stored-sound, node-changed, node-split}
+use Rattle.update.proofs.Node.{rules-back}
 use Rattle.update.proofs.Open.{under, Open, heldOf}
-
--- the low of what leads to a part
-abbrev pub lowOf : Asked → ℕ
-lowOf Root = 0
-lowOf (Child e) = e .low
 
 -- what a node in memory must have beside ready buffers to be stored, read at level l with a in the range [lo, hi)
 pub record Shape (l : ℕ) (a : Asked) (lo hi : ℕ) (n : Node) : Type 0 where
@@ -52,11 +42,7 @@ pub record Shape (l : ℕ) (a : Asked) (lo hi : ℕ) (n : Node) : Type 0 where
   pub low : lowOf a ≤ lo
   pub blocks : childBlocksOk n ≡ true
 
-not-below : (a : Asked) (lo hi : ℕ) (n : Node) → lowOf a ≤ lo → ((k : ℕ) → List·Memᴰ k (names n) → within lo hi k ≡ true) → notBelow a n ≡ true
-unfolding notBelow
-not-below Root lo hi n h w = refl
-not-below (Child e) lo hi n h w = every-make _ (names n) (λ k i. le-leb (e .low) k (let z = within-from lo hi k (w k i) in omega arith))
-
+-- then it keeps the rules
 pub closed-node : (l : ℕ) (m : Store) (b : ℕ) (a : Asked) (lo hi r : ℕ) (n : Node) (f : ℕ → Option ℕ) → Open l m lo hi r (n .entries) (heldOf n) f → Shape l a lo hi n
     → (nodeOk l a n ≡ true) × (inRange (part b a lo hi) n ≡ true)
 unfolding nodeOk inRange
@@ -111,13 +97,10 @@ raise l m lo hi r e es f s st h above =
         above = λ k i. absurd (List·Memᴰ·not-nil i);
         underI = λ k i. absurd (List·Memᴰ·not-nil i);
         underD = λ k i. absurd (List·Memᴰ·not-nil i);
-        deep = λ k a i. let t = live-top l m (part 0 Root lo hi) bare (s .each) k a i in let u = above (t .0) (t .1) in omega (arith, u, t .3);
+        deep = λ k a i. let t = live-top l m lo hi (e ∷ es) (s .each) k a i in let u = above (t .0) (t .1) in omega (arith, u, t .3);
       };
       found = h;
     }
-  where
-    bare : Node
-    bare = record { level = 0; entries = e ∷ es; points = []; inserts = []; deletes = []; laid = true; room = 0 }
 
 -- and stored, in a new block
 pub raised : (l : ℕ) (New : ℕ → Type 0) (x : Store) (ps : List Part) (y w : Store) (b : ℕ) (a : Asked) (lo hi r : ℕ) (n : Node) (f g : ℕ → Option ℕ) (Old : ℕ → Type 0)

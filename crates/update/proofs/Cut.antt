@@ -1,39 +1,40 @@
 -- A node in memory with more: a batch pushed into a child, the node cut in two, and the entry of a part read another way.
 -- Assumes nothing.
-use mathlib.Core.Path.{_≡_, refl, ap, ap₂, sym, _∙_, subst, subst⁻¹}
-use mathlib.Core.Logic.{_⊎_, inl, inr, ⊎-elim}
-use mathlib.Core.Bool.{Bool, true, false, not, cond, _&&_, _||_, true≢false, false≢true}
-use mathlib.Core.List.{List, [], _∷_, _++_, List·Memᴰ, List·Memᴰ·head, List·Memᴰ·tail, List·Memᴰ·not-nil}
-use mathlib.Core.Option.{Option, none, some}
-use Prim.Native.Nat.{ℕ, zero, suc, _<_, _≤_}
+use mathlib.Core.Path.{_≡_, refl, ap, sym, _∙_}
+use mathlib.Core.Logic.{_⊎_, inl, ⊎-elim}
+use mathlib.Core.Bool.{Bool, true, false, not, cond, true≢false, false≢true}
+use mathlib.Core.List.{List, [], _∷_, _++_, List·Memᴰ}
+use mathlib.Core.Option.{Option, none}
+use Prim.Native.Nat.{ℕ, zero, suc, _≤_}
 use native.Mathlib.Omega.{arith}
-use lib.ListN.{length}
-use lib.Dec.{eqb, ltb, leb}
-use borrow.Author.Tests.{eqb-true, eq-eqb, ltb-true, lt-ltb, leb-true, le-leb}
-use Rattle.octets.specs.Lists.{all, every, keep, has, distinct, isEmpty, maximum, minimum}
+use lib.Dec.{ltb, leb}
+use borrow.Author.Tests.{ltb-true, lt-ltb, leb-true, le-leb}
+use Rattle.octets.specs.Lists.{every, keep, has}
+use Rattle.octets.proofs.Tests.{all-at, all-cons, all-nil, and-left, and-right, and-both, every-mem, every-make, every-left, every-right, every-join}
+use Rattle.octets.proofs.Sets.{Split, has-not, distinct-split}
 use Rattle.spot.specs.declared.Spot.{Spot}
 use Rattle.spot.specs.Spots.{keys, find}
-use Rattle.spot.specs.Keys.{rankKey, allKeys, within}
+use Rattle.spot.specs.Keys.{allKeys, within}
+use Rattle.spot.specs.Sorted.{only}
+use Rattle.spot.proofs.Places.{within-from, within-to, within-yes}
+use Rattle.spot.proofs.Buffers.{find-none}
 use Rattle.block.specs.declared.Entry.{Entry}
 use Rattle.block.specs.Node.{Node, Store, openBelow}
 use Rattle.block.specs.declared.Asked.{Asked}
-use Rattle.block.specs.declared.Asked.the-variants.{Root, Child}
-use Rattle.block.specs.NodeRules.{names, nodeOk, agrees, notBelow, childCountOk, fewest, rankKeys}
-use Rattle.tree.specs.Part.{Part, nextLow, parts, children}
+use Rattle.block.specs.declared.Asked.the-variants.{Child}
+use Rattle.block.specs.NodeRules.{names, nodeOk, agrees, notBelow, childCountOk, fewest}
+use Rattle.tree.specs.Part.{Part, nextLow, parts}
 use Rattle.tree.specs.Lookup.{orElse, down, lookup}
-use Rattle.tree.specs.Reach.{gather, reach}
+use Rattle.tree.specs.Reach.{reach}
 use Rattle.tree.specs.Sound.{soundAt, inRange}
-use Rattle.tree.proofs.Laws.{all-at, all-cons, all-nil, and-left, and-right, and-both, every-mem}
-use Rattle.tree.proofs.Canon.{same-or-not, some≢none}
-use Rattle.tree.proofs.Sets.{Split, has-not, distinct-split, every-make, every-left, every-right, every-join}
-use Rattle.tree.proofs.Frame.{gather-append}
+use Rattle.tree.proofs.Gather.{gather-append}
+use Rattle.tree.proofs.Ranges.{Steps, steps-le, down-in}
+use Rattle.update.specs.Held.{Held}
 use Rattle.update.proofs.Change.{covers, reaches, Sound, Changed, down-append, covers-append}
-use Rattle.update.proofs.Spread.{Steps, start, childAt, parts-append, steps-split, steps-le, next-le, covers-parts, off-left, within-from, within-to, within-yes, within-low, within-high}
-use Rattle.tree.proofs.Buffers.{only, find-only, find-mem, find-none, only-mem}
-use Rattle.update.proofs.Ready.{say, Ready}
-use Rattle.update.proofs.Moves.{Held, Fit, says, push-I, pushed-I, push-D, pushed-D, cut, cut-says}
+use Rattle.update.proofs.Spread.{childAt, parts-append, steps-split, covers-parts, off-left}
+use Rattle.update.proofs.Moves.{says, push-I, pushed-I, push-D, pushed-D, cut, cut-says}
 use Rattle.update.proofs.Loose.{part}
-use Rattle.update.proofs.Open.{under, Open, after, open-child, ready-ext}
+use Rattle.update.proofs.Open.{under, Open, after, open-child}
 use Rattle.update.proofs.Fill.{under-child}
 
 -- PUSH: the inserts that don't stay, all in the range of the child at e, were settled there; it became one or more entries
@@ -47,6 +48,7 @@ module _ (l : ℕ) (New : ℕ → Type 0) (x y : Store) (lo hi : ℕ) (full : hi
   abbrev B₀ : ℕ → Option ℕ
   B₀ = under l x lo hi (us ++ (e ∷ vs))
 
+  -- inserts
   pub open-push-I : ((k : ℕ) → List·Memᴰ k (keys (only (λ j. not (stay j)) (b .inserts))) → within (c₀ .lo) (c₀ .hi) k ≡ true)
       → Changed l New x (c₀ ∷ []) y (parts (c₀ .lo) (c₀ .hi) (e′ ∷ es)) (λ k. orElse (find k (only (λ j. not (stay j)) (b .inserts))) (lookup l x k c₀))
       → Open l y lo hi r (us ++ ((e′ ∷ es) ++ vs)) (record { points = b .points; inserts = only stay (b .inserts); deletes = b .deletes }) f
@@ -108,6 +110,7 @@ relow-node l p n e e′ a b c d i h =
     (all-cons _ _ (rw (a, b, c) (all-at _ h 9))
     (all-cons _ _ (every-make _ (names n) (λ k j. le-leb (e′ .low) k (let z = within-from (p .lo) (p .hi) k (every-mem _ _ (all-at _ i 0) j) in omega arith))) (all-cons _ _ (all-at _ h 11) all-nil)))))))))))
 
+-- the same of a part
 pub sound-relow : (l : ℕ) (m : Store) (b lo hi : ℕ) (e e′ : Entry) → e′ .size ≡ e .size → e′ .top ≡ e .top → e′ .bottom ≡ e .bottom → e′ .low ≤ lo
     → soundAt l m (part b (Child e) lo hi) ≡ true → soundAt l m (part b (Child e′) lo hi) ≡ true
 unfolding soundAt inRange
@@ -115,24 +118,13 @@ sound-relow zero m b lo hi e e′ p q r d h = absurd (false≢true h)
 sound-relow (suc l) m b lo hi e e′ p q r d h =
     all-cons _ _ (relow-node l (part b (Child e) lo hi) (m b) e e′ p q r d (all-at _ h 1) (all-at _ h 0)) (all-cons _ _ (all-at _ h 1) (all-cons _ _ (all-at _ h 2) all-nil))
 
--- what is sound for an entry is sound for the root
-root-node : (l : ℕ) (n : Node) (e : Entry) → nodeOk l (Child e) n ≡ true → nodeOk l Root n ≡ true
-unfolding nodeOk agrees notBelow childCountOk fewest
-root-node l n e h =
-    all-cons _ _ (all-at _ h 0) (all-cons _ _ (all-at _ h 1) (all-cons _ _ (fewer (eqb (n .level) 0) (all-at _ h 2)) (all-cons _ _ (all-at _ h 3) (all-cons _ _ (all-at _ h 4) (all-cons _ _ (all-at _ h 5) (all-cons _ _ (all-at _ h 6) (all-cons _ _ (all-at _ h 7) (all-cons _ _ (all-at _ h 8)
-    (all-cons _ _ refl (all-cons _ _ refl (all-cons _ _ (all-at _ h 11) all-nil)))))))))))
-  where
-    fewer : (t : Bool) → cond t (isEmpty (n .entries)) (all (leb 4 (length (n .entries)) ∷ leb (length (n .entries)) 8 ∷ [])) ≡ true
-        → cond t (isEmpty (n .entries)) (all (leb 2 (length (n .entries)) ∷ leb (length (n .entries)) 8 ∷ [])) ≡ true
-    fewer true g = g
-    fewer false g = all-cons _ _ (le-leb 2 (length (n .entries)) (let z = leb-true 4 (length (n .entries)) (all-at _ g 0) in omega arith)) (all-cons _ _ (all-at _ g 1) all-nil)
-
 -- reach and lookup don't ask what leads to a part
 pub reach-asked : (l : ℕ) (m : Store) (b lo hi : ℕ) (a a′ : Asked) → reach l m (part b a lo hi) ≡ reach l m (part b a′ lo hi)
 unfolding reach
 reach-asked zero m b lo hi a a′ = refl
 reach-asked (suc l) m b lo hi a a′ = refl
 
+-- nor does lookup
 pub lookup-asked : (l : ℕ) (m : Store) (k b lo hi : ℕ) (a a′ : Asked) → lookup l m k (part b a lo hi) ≡ lookup l m k (part b a′ lo hi)
 unfolding lookup
 lookup-asked zero m k b lo hi a a′ = refl
@@ -140,25 +132,69 @@ lookup-asked (suc l) m k b lo hi a a′ = refl
 
 -- the first of some entries with its low put to 0, as it stands in a block
 module _ (l : ℕ) (m : Store) (lo hi : ℕ) (v : Entry) (vs : List Entry) where
+  -- finds the same
   pub under-open : (k : ℕ) → under l m lo hi (openBelow v ∷ vs) k ≡ under l m lo hi (v ∷ vs) k
   under-open k = ap (λ (q : Option ℕ). cond (within lo (nextLow vs hi) k) q (under l m (nextLow vs hi) hi vs k)) (lookup-asked l m k (v .block) lo (nextLow vs hi) (Child (openBelow v)) (Child v))
 
+  -- reaches the same
   pub reaches-open : reaches l m (parts lo hi (openBelow v ∷ vs)) ≡ reaches l m (parts lo hi (v ∷ vs))
   reaches-open = ap (λ (q : List ℕ). q ++ reaches l m (parts (nextLow vs hi) hi vs)) (reach-asked l m (v .block) lo (nextLow vs hi) (Child (openBelow v)) (Child v))
 
+  -- and is sound
   pub sounds-open : every (soundAt l m) (parts lo hi (v ∷ vs)) ≡ true → every (soundAt l m) (parts lo hi (openBelow v ∷ vs)) ≡ true
   sounds-open h =
       let a = part (v .block) (Child v) lo (nextLow vs hi) in
       let r = every (soundAt l m) (parts (nextLow vs hi) hi vs) in
       and-both (soundAt l m (part (v .block) (Child (openBelow v)) lo (nextLow vs hi))) r (sound-relow l m (v .block) lo (nextLow vs hi) v (openBelow v) refl refl refl (omega arith) (and-left (soundAt l m a) r h)) (and-right (soundAt l m a) r h)
 
-down-covers : (f : Part → Option ℕ) (k : ℕ) (ps : List Part) {a : ℕ} → down f k ps ≡ some a → covers k ps ≡ true
-down-covers f k [] h = absurd (some≢none (sym h))
-down-covers f k (p ∷ ps) {a} h = go (within (p .lo) (p .hi) k) h (down-covers f k ps)
-  where
-    go : (b : Bool) → cond b (f p) (down f k ps) ≡ some a → (down f k ps ≡ some a → covers k ps ≡ true) → b || covers k ps ≡ true
-    go true g ih = refl
-    go false g ih = ih g
+-- the keys of the buffers that pass a test
+abbrev pub halfOf : (ℕ → Bool) → Held → Held
+halfOf g b = record { points = only g (b .points); inserts = only g (b .inserts); deletes = keep g (b .deletes) }
+
+-- A side of a node that is cut: its keys are those that pass g, and what its entries find is what all found.
+module _ (l : ℕ) (m : Store) (lo hi r : ℕ) (es : List Entry) (b : Held) (f : ℕ → Option ℕ) (o : Open l m lo hi r es b f) where
+  open-half : (lo′ hi′ : ℕ) (es′ : List Entry) (g : ℕ → Bool) → Sound l m (parts lo′ hi′ es′) → Steps lo′ hi′ es′
+      → ((k : ℕ) → g k ≡ true → within lo hi k ≡ true → within lo′ hi′ k ≡ true)
+      → ((k : ℕ) → within lo′ hi′ k ≡ true → (g k ≡ true) × (within lo hi k ≡ true))
+      → ((k : ℕ) → within lo′ hi′ k ≡ true → under l m lo hi es k ≡ under l m lo′ hi′ es′ k)
+      → Open l m lo′ hi′ r es′ (halfOf g b) f
+  open-half lo′ hi′ es′ g s st into out same =
+      record {
+        kids = s;
+        steps = st;
+        ready = cut lo hi lo′ hi′ r (b .points) (b .inserts) (b .deletes) (under l m lo hi es) (under l m lo′ hi′ es′) g into
+            (λ k a e. same k (down-in (lookup l m k) k lo′ hi′ es′ st e) ∙ e)
+            (o .ready);
+        found = λ k w.
+            let q = out k w in
+            cut-says (b .points) (b .inserts) (b .deletes) g k (under l m lo′ hi′ es′ k) (q .0) ∙ ap (says b k) (sym (same k w)) ∙ o .found k (q .1);
+      }
+
+  -- the side below sep
+  pub open-low : (sep : ℕ) (es′ : List Entry) → sep ≤ hi → Sound l m (parts lo sep es′) → Steps lo sep es′
+      → ((k : ℕ) → within lo sep k ≡ true → under l m lo hi es k ≡ under l m lo sep es′ k)
+      → Open l m lo sep r es′ (halfOf (λ k. ltb k sep) b) f
+  open-low sep es′ h s st same =
+      open-half lo sep es′ (λ k. ltb k sep) s st (λ k g w. within-yes lo sep k (within-from lo hi k w) (ltb-true k sep g))
+      (λ k w. let z = within-to lo sep k w in (lt-ltb k sep z, within-yes lo hi k (within-from lo sep k w) (omega arith)))
+      same
+
+  -- the side from sep on
+  pub open-high : (sep : ℕ) (es′ : List Entry) → lo ≤ sep → Sound l m (parts sep hi es′) → Steps sep hi es′
+      → ((k : ℕ) → within sep hi k ≡ true → under l m lo hi es k ≡ under l m sep hi es′ k)
+      → Open l m sep hi r es′ (halfOf (λ k. leb sep k) b) f
+  open-high sep es′ h s st same =
+      open-half sep hi es′ (λ k. leb sep k) s st (λ k g w. within-yes sep hi k (leb-true sep k g) (within-to lo hi k w))
+      (λ k w. let z = within-from sep hi k w in (le-leb sep k z, within-yes lo hi k (omega arith) (within-to sep hi k w)))
+      same
+
+-- a leaf cut in two
+pub leaf-cut : (l : ℕ) (m : Store) (lo sep hi r : ℕ) (b : Held) (f : ℕ → Option ℕ) → lo ≤ sep → sep ≤ hi → Open l m lo hi r [] b f
+    → Open l m lo sep r [] (halfOf (λ k. ltb k sep) b) f × Open l m sep hi r [] (halfOf (λ k. leb sep k) b) f
+leaf-cut l m lo sep hi r b f a c o = (
+  open-low l m lo hi r [] b f o sep [] c (record { each = refl; once = refl }) tt (λ k w. refl),
+  open-high l m lo hi r [] b f o sep [] a (record { each = refl; once = refl }) tt (λ k w. refl),
+)
 
 -- SPLIT: the entries u ∷ us on the left of v .low, v ∷ vs from there on
 module _ (l : ℕ) (m : Store) (lo hi r : ℕ) (u : Entry) (us : List Entry) (v : Entry) (vs : List Entry) (b : Held) (f : ℕ → Option ℕ) (o : Open l m lo hi r ((u ∷ us) ++ (v ∷ vs)) b f) where
@@ -170,9 +206,6 @@ module _ (l : ℕ) (m : Store) (lo hi r : ℕ) (u : Entry) (us : List Entry) (v 
 
   abbrev C : List Part
   C = parts sep hi (v ∷ vs)
-
-  abbrev pub halfOf : (ℕ → Bool) → Held
-  halfOf g = record { points = only g (b .points); inserts = only g (b .inserts); deletes = keep g (b .deletes) }
 
   cut-parts : parts lo hi ((u ∷ us) ++ (v ∷ vs)) ≡ A ++ C
   cut-parts = parts-append lo hi (u ∷ us) (v ∷ vs)
@@ -189,54 +222,30 @@ module _ (l : ℕ) (m : Store) (lo hi r : ℕ) (u : Entry) (us : List Entry) (v 
   steps-C : Steps sep hi (v ∷ vs)
   steps-C = steps-split lo hi (u ∷ us) (v ∷ vs) (o .steps) .1
 
+  -- the cut lies in the range
   pub low-sep : lo ≤ sep
   low-sep = steps-le lo sep u us steps-A
 
+  -- below its end
   pub sep-high : sep ≤ hi
   sep-high = steps-le sep hi v vs steps-C
 
   whole : (k : ℕ) → under l m lo hi ((u ∷ us) ++ (v ∷ vs)) k ≡ cond (covers k A) (under l m lo sep (u ∷ us) k) (under l m sep hi (v ∷ vs) k)
   whole k = ap (λ (ps : List Part). down (lookup l m k) k ps) cut-parts ∙ down-append (lookup l m k) k A C
 
-  left-under : (k : ℕ) → covers k A ≡ true → under l m lo hi ((u ∷ us) ++ (v ∷ vs)) k ≡ under l m lo sep (u ∷ us) k
-  left-under k h = whole k ∙ rw h
-
-  right-under : (k : ℕ) → sep ≤ k → under l m lo hi ((u ∷ us) ++ (v ∷ vs)) k ≡ under l m sep hi (v ∷ vs) k
-  right-under k h = whole k ∙ rw (off-left lo sep hi k (u ∷ us) steps-A h)
-
-  pub open-left : Open l m lo sep r (u ∷ us) (halfOf (λ k. ltb k sep)) f
+  -- the left side
+  pub open-left : Open l m lo sep r (u ∷ us) (halfOf (λ k. ltb k sep) b) f
   open-left =
-      record {
-        kids = record { each = every-left (soundAt l m) A C (kids .each); once = both .left };
-        steps = steps-A;
-        ready = cut lo hi lo sep r (b .points) (b .inserts) (b .deletes) (under l m lo hi ((u ∷ us) ++ (v ∷ vs))) (under l m lo sep (u ∷ us)) (λ k. ltb k sep)
-            (λ k g w. within-yes lo sep k (within-from lo hi k w) (ltb-true k sep g))
-            (λ k a e. left-under k (down-covers (lookup l m k) k A e) ∙ e)
-            (o .ready);
-        found = λ k w.
-            let z = within-to lo sep k w in
-            cut-says (b .points) (b .inserts) (b .deletes) (λ k. ltb k sep) k (under l m lo sep (u ∷ us) k) (lt-ltb k sep z) ∙
-            ap (says b k) (sym (left-under k (covers-parts lo sep u us k steps-A ∙ w))) ∙
-            o .found k (within-yes lo hi k (within-from lo sep k w) (let q = sep-high in omega arith));
-      }
+      open-low l m lo hi r ((u ∷ us) ++ (v ∷ vs)) b f o sep (u ∷ us) sep-high (record { each = every-left (soundAt l m) A C (kids .each); once = both .left }) steps-A
+      (λ k w. whole k ∙ rw (covers-parts lo sep u us k steps-A ∙ w))
 
-  pub open-right : Open l m sep hi r (openBelow v ∷ vs) (halfOf (λ k. leb sep k)) f
+  -- the right side
+  pub open-right : Open l m sep hi r (openBelow v ∷ vs) (halfOf (λ k. leb sep k) b) f
   open-right =
-      record {
-        kids = record { each = sounds-open l m sep hi v vs (every-right (soundAt l m) A C (kids .each)); once = rw (reaches-open l m sep hi v vs) (both .right) };
-        steps = steps-C;
-        ready = cut lo hi sep hi r (b .points) (b .inserts) (b .deletes) (under l m lo hi ((u ∷ us) ++ (v ∷ vs))) (under l m sep hi (openBelow v ∷ vs)) (λ k. leb sep k)
-            (λ k g w. within-yes sep hi k (leb-true sep k g) (within-to lo hi k w))
-            (λ k a e.
-            let e′ : under l m sep hi (v ∷ vs) k ≡ some a = sym (under-open l m sep hi v vs k) ∙ e in
-            right-under k (within-from sep hi k (sym (covers-parts sep hi v vs k steps-C) ∙ down-covers (lookup l m k) k C e′)) ∙ e′)
-            (o .ready);
-        found = λ k w.
-            let z = within-from sep hi k w in
-            cut-says (b .points) (b .inserts) (b .deletes) (λ k. leb sep k) k (under l m sep hi (openBelow v ∷ vs) k) (le-leb sep k z) ∙
-            ap (says b k) (under-open l m sep hi v vs k ∙ sym (right-under k z)) ∙
-            o .found k (within-yes lo hi k (let q = low-sep in omega arith) (within-to sep hi k w));
-      }
+      open-high l m lo hi r ((u ∷ us) ++ (v ∷ vs)) b f o sep (openBelow v ∷ vs) low-sep
+      (record { each = sounds-open l m sep hi v vs (every-right (soundAt l m) A C (kids .each)); once = rw (reaches-open l m sep hi v vs) (both .right) })
+      steps-C
+      (λ k w. whole k ∙ rw (off-left lo sep hi k (u ∷ us) steps-A (within-from sep hi k w)) (sym (under-open l m sep hi v vs k)))
 
   -- nothing moved
   pub cut-changed : (New : ℕ → Type 0) → ((z : ℕ) → New z → ⊥) → Changed l New m (parts lo hi ((u ∷ us) ++ (v ∷ vs))) m (A ++ parts sep hi (openBelow v ∷ vs)) (under l m lo hi ((u ∷ us) ++ (v ∷ vs)))

@@ -1,39 +1,34 @@
 -- One round of fill that takes the top t out of a child, for a node in memory over a store.
 -- Assumes nothing.
-use mathlib.Core.Path.{_≡_, refl, ap, ap₂, sym, _∙_, subst, subst⁻¹}
-use mathlib.Core.Logic.{_⊎_, inl, inr, ⊎-elim}
-use mathlib.Core.Bool.{Bool, true, false, not, cond, true≢false}
-use mathlib.Core.List.{List, [], _∷_, _++_, List·Memᴰ, List·Memᴰ·head, Memᴰ·append-left, Memᴰ·append-right}
+use mathlib.Core.Path.{_≡_, refl, ap, sym, _∙_, subst⁻¹}
+use mathlib.Core.Logic.{_⊎_, inl, inr}
+use mathlib.Core.Bool.{Bool, true, false, cond}
+use mathlib.Core.List.{List, [], _∷_, _++_, List·Memᴰ, List·Memᴰ·head, Memᴰ·append-right}
 use mathlib.Core.Option.{Option, none, some}
-use Prim.Native.Nat.{ℕ, zero, suc, _<_, _≤_}
+use Prim.Native.Nat.{ℕ, _<_, _≤_}
 use native.Mathlib.Omega.{arith}
 use lib.Dec.{eqb}
 use borrow.Author.Tests.{eq-eqb, ne-eqb}
 use Rattle.octets.specs.Lists.{keep, has}
+use Rattle.octets.proofs.Order.{same-or-not}
 use Rattle.spot.specs.declared.Spot.{Spot}
 use Rattle.spot.specs.Spots.{keys, find, put}
 use Rattle.spot.specs.Keys.{rankKey, allKeys, within}
+use Rattle.spot.specs.Sorted.{only, but, lower}
+use Rattle.spot.proofs.Canon.{some≢none}
+use Rattle.spot.proofs.Places.{within-from, within-to}
 use Rattle.block.specs.declared.Entry.{Entry}
-use Rattle.block.specs.Node.{Node, Store}
-use Rattle.tree.specs.Part.{Part, nextLow, parts}
-use Rattle.tree.specs.Lookup.{down, lookup}
-use Rattle.tree.proofs.Canon.{same-or-not, some≢none}
-use Rattle.update.proofs.Change.{reaches, Sound, Changed}
-use Rattle.update.proofs.Spread.{Steps, start, childAt, parts-one, down-from, down-at, part-bounds, within-from, within-to, within-yes}
-use Rattle.tree.proofs.Buffers.{only}
-use Rattle.update.proofs.Ready.{say, Ready, but, lower, fill-I, filled-I, fill-child, filled-child, fill-dead, filled-dead, fill-ends, filled-ends, top-taken, top-gone}
-use Rattle.update.proofs.Moves.{Held, Fit, says}
+use Rattle.block.specs.Node.{Store}
+use Rattle.tree.specs.Part.{Part, parts}
+use Rattle.tree.specs.Lookup.{lookup}
+use Rattle.tree.proofs.Ranges.{down-in, Steps, down-at}
+use Rattle.update.specs.Held.{Held}
+use Rattle.update.proofs.Change.{reaches, Changed}
+use Rattle.update.proofs.Spread.{childAt, parts-one}
+use Rattle.update.proofs.Ready.{fill-I, filled-I, fill-child, filled-child, fill-dead, filled-dead, fill-ends, filled-ends, top-taken, top-gone}
 use Rattle.update.proofs.Open.{under, Open, open-held, after, open-child}
 
--- what is found below lies in the range
-pub under-in : (l : ℕ) (m : Store) (lo hi : ℕ) (es : List Entry) → Steps lo hi es → (k a : ℕ) → under l m lo hi es k ≡ some a → within lo hi k ≡ true
-under-in l m lo hi es st k a e =
-    let c = down-from (lookup l m k) k (parts lo hi es) e in
-    let b = part-bounds lo hi es st (c .1) in
-    let u = within-from (c .0 .lo) (c .0 .hi) k (c .2) in
-    let v = within-to (c .0 .lo) (c .0 .hi) k (c .2) in
-    within-yes lo hi k (omega (arith, b .0, u)) (omega (arith, b .1, v))
-
+-- the part whose range holds the key says what is found
 pub under-child : (l : ℕ) (m : Store) (lo hi : ℕ) (us vs : List Entry) (e : Entry) → Steps lo hi (us ++ (e ∷ vs)) → (k : ℕ)
     → within (childAt lo hi us vs e .lo) (childAt lo hi us vs e .hi) k ≡ true → under l m lo hi (us ++ (e ∷ vs)) k ≡ lookup l m k (childAt lo hi us vs e)
 under-child l m lo hi us vs e st k w =
@@ -68,8 +63,8 @@ open-fill-I l m lo hi full r es b f o s g top best gone w =
     let B = under l m lo hi es in
     let b′ : Held = record { points = put s (b .points); inserts = only (but (s .key)) (b .inserts); deletes = keep (lower (s .key)) (b .deletes) } in
     open-held l m lo hi r (rankKey (s .key)) es b b′ f f o
-    (fill-I lo hi full r (b .points) (b .inserts) (b .deletes) B (o .ready) (s .key) w B gone (λ k n. refl) best (under-in l m lo hi es (o .steps)) s refl g top)
-    (λ k v. filled-I lo hi full r (b .points) (b .inserts) (b .deletes) B (o .ready) (s .key) w B gone (λ k n. refl) best (under-in l m lo hi es (o .steps)) s refl g k v ∙ o .found k v)
+    (fill-I lo hi full r (b .points) (b .inserts) (b .deletes) B (o .ready) (s .key) w B gone (λ k n. refl) best (λ k a i. down-in (lookup l m k) k lo hi es (o .steps) i) s refl g top)
+    (λ k v. filled-I lo hi full r (b .points) (b .inserts) (b .deletes) B (o .ready) (s .key) w B gone (λ k n. refl) best (λ k a i. down-in (lookup l m k) k lo hi es (o .steps) i) s refl g k v ∙ o .found k v)
 
 -- t is taken out of the child at e, whose entry becomes e′
 module _ (l : ℕ) (New : ℕ → Type 0) (x y : Store) (lo hi : ℕ) (full : hi ≤ allKeys) (r : ℕ) (us vs : List Entry) (e e′ : Entry) (b : Held) (f : ℕ → Option ℕ) (t : ℕ)
@@ -103,7 +98,7 @@ module _ (l : ℕ) (New : ℕ → Type 0) (x y : Store) (lo hi : ℕ) (full : hi
     where
       go : (k ≡ t) ⊎ (k ≡ t → ⊥) → within lo hi k ≡ true
       go (inl i) = absurd (some≢none (sym h ∙ ap B₁ i ∙ gone))
-      go (inr n) = under-in l x lo hi (us ++ (e ∷ vs)) (o .steps) k a (sym (stays k n) ∙ h)
+      go (inr n) = down-in (lookup l x k) k lo hi (us ++ (e ∷ vs)) (o .steps) (sym (stays k n) ∙ h)
 
   one : Steps (childAt lo hi us vs e .lo) (childAt lo hi us vs e .hi) (e′ ∷ [])
   one = let u = within-from _ _ t holds in let v = within-to _ _ t holds in (omega arith, tt)

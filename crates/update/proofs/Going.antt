@@ -1,34 +1,23 @@
 -- An update under way at one node: where it began, the spare blocks left, and the node in memory now. The loop invariant of fill, the state between the
 -- steps of settle, and what push is handed and hands back.
 -- Assumes nothing.
-use mathlib.Core.Path.{_≡_, refl, ap, ap₂, sym, _∙_, subst, subst⁻¹}
-use mathlib.Core.Logic.{_⊎_, inl, inr, ⊎-elim}
-use mathlib.Core.Bool.{Bool, true, false, cond}
-use mathlib.Core.List.{List, [], _∷_, _++_, List·Memᴰ, List·Memᴰ·head, List·Memᴰ·tail, append-nil}
-use mathlib.Core.Option.{Option, none, some}
-use Prim.Native.Nat.{ℕ, zero, suc, _<_, _≤_}
-use native.Mathlib.Omega.{arith}
-use lib.Dec.{eqb}
-use Rattle.spot.specs.declared.Spot.{Spot}
-use Rattle.spot.specs.Spots.{keys}
-use Rattle.spot.specs.Keys.{rankKey, allKeys, within}
+use mathlib.Core.Path.{_≡_, refl, subst}
+use mathlib.Core.List.{List, [], _∷_, _++_, List·Memᴰ}
+use mathlib.Core.Option.{Option, none}
+use Prim.Native.Nat.{ℕ, suc}
+use Rattle.octets.proofs.Sets.{Apart}
 use Rattle.block.specs.declared.Entry.{Entry}
 use Rattle.block.specs.Node.{Node, Store}
 use Rattle.block.specs.declared.Asked.{Asked}
-use Rattle.block.specs.declared.Asked.the-variants.{Child}
-use Rattle.block.specs.NodeRules.{lowest}
-use Rattle.tree.specs.Part.{Part, nextLow, parts, children}
-use Rattle.tree.specs.Lookup.{lookup}
+use Rattle.tree.specs.Part.{Part, nextLow, parts}
 use Rattle.tree.specs.Reach.{reach}
-use Rattle.tree.specs.Sound.{soundAt}
-use Rattle.tree.proofs.Sets.{Apart, in-or-not}
-use Rattle.update.proofs.Change.{reaches, Sound, Changed, changed-refl, changed-as}
-use Rattle.update.proofs.Spread.{Steps, childAt, parts-one}
-use Rattle.update.proofs.Moves.{Held, Fit, says}
-use Rattle.update.proofs.Loose.{part, opened, reach-step}
+use Rattle.update.specs.Held.{Held}
+use Rattle.update.proofs.Change.{reaches, Sound, Changed, changed-refl}
+use Rattle.update.proofs.Spread.{childAt, parts-one}
+use Rattle.update.proofs.Loose.{part}
 use Rattle.update.proofs.Open.{under, Open, heldOf, open-changed}
-use Rattle.update.proofs.Close.{Shape, settle-one, settle-two}
-use Rattle.update.proofs.Spare.{Taken, Within, spare-left, spare-trans, sound-one, apart-one, taken-fresh}
+use Rattle.update.proofs.Close.{Shape, settle-one}
+use Rattle.update.proofs.Spare.{Taken, Within, spare-left, spare-trans, sound-one, apart-one}
 
 -- From the entries es₀ over the store x with the spare blocks s: now the store is y, the spare blocks are s′, and a node in memory with the entries es and
 -- the buffers b stands over y
@@ -38,6 +27,7 @@ pub record Going (l : ℕ) (lo hi : ℕ) (x : Store) (s : List ℕ) (es₀ : Lis
   pub spare : Apart s (reaches l x (parts lo hi es₀))
   pub less : Within s′ s
 
+-- before anything is done
 pub going-start : (l lo hi : ℕ) (x : Store) (s : List ℕ) (r : ℕ) (es : List Entry) (b : Held) (f : ℕ → Option ℕ) → Open l x lo hi r es b f → Apart s (reaches l x (parts lo hi es))
     → Going l lo hi x s es x s r es b f
 going-start l lo hi x s r es b f o a =
@@ -64,6 +54,7 @@ module _ (l lo hi : ℕ) (x : Store) (s : List ℕ) (es₀ : List Entry) (y : St
     apart-one l y s′ (parts lo (e .low) us) (childAt lo hi us vs e) (parts (nextLow vs hi) hi vs) (subst (λ (ps : List Part). Apart s′ (reaches l y ps)) going-parts going-spare),
   )
 
+  -- blocks taken of them are new
   pub going-fresh : (s″ : List ℕ) (z : ℕ) → Taken s′ s″ z → List·Memᴰ z (reaches l y (parts lo hi (us ++ (e ∷ vs)))) → ⊥
   going-fresh s″ z t i = going-spare z (t .0) i
 

@@ -1,21 +1,19 @@
 -- A node cut in two, then the left half filled, then the right: both stand over the last store, ready for settle-two.
 -- Assumes nothing.
-use mathlib.Core.Path.{_≡_, refl, ap, sym, _∙_, subst, subst⁻¹}
-use mathlib.Core.Logic.{_⊎_, inl, inr, ⊎-elim}
-use mathlib.Core.Bool.{Bool, true, false, cond}
-use mathlib.Core.List.{List, [], _∷_, _++_, List·Memᴰ, append-nil}
-use mathlib.Core.Option.{Option, none, some}
-use Prim.Native.Nat.{ℕ, _≤_}
-use lib.Dec.{ltb, leb}
+use mathlib.Core.Path.{subst}
+use mathlib.Core.Logic.{inl}
+use mathlib.Core.List.{List, [], _∷_, _++_, append-nil}
+use mathlib.Core.Option.{Option}
+use Prim.Native.Nat.{ℕ}
+use lib.Dec.{leb}
+use Rattle.octets.proofs.Sets.{Split, distinct-split}
 use Rattle.block.specs.declared.Entry.{Entry}
 use Rattle.block.specs.Node.{Store, openBelow}
 use Rattle.tree.specs.Part.{Part, parts}
-use Rattle.tree.specs.Lookup.{lookup}
 use Rattle.tree.specs.Reach.{reach}
-use Rattle.tree.proofs.Sets.{Split, distinct-split}
-use Rattle.tree.proofs.Frame.{Same, gather-append}
+use Rattle.tree.proofs.Gather.{gather-append}
+use Rattle.update.specs.Held.{Held}
 use Rattle.update.proofs.Change.{reaches, Sound, Changed, among, changed-among, changed-trans}
-use Rattle.update.proofs.Moves.{Held}
 use Rattle.update.proofs.Open.{under, Open, open-frame}
 use Rattle.update.proofs.Cut.{halfOf, open-right, cut-changed}
 
@@ -38,9 +36,9 @@ module _ (l : ℕ) (New : ℕ → Type 0) (no-new : (z : ℕ) → New z → ⊥)
   apart₀ = distinct-split (reaches l m A) (reaches l m C) (rw (gather-append (reach l m) A C) at (cut₀ .sound .once))
 
   -- the right half after the left was filled
-  pub right-stays : Open l y (v .low) hi r (openBelow v ∷ vs) (halfOf l m lo hi r u us v vs b f o (λ k. leb (v .low) k)) f
+  pub right-stays : Open l y (v .low) hi r (openBelow v ∷ vs) (halfOf (λ k. leb (v .low) k) b) f
   right-stays =
-      open-frame l m y (v .low) hi r (openBelow v ∷ vs) (halfOf l m lo hi r u us v vs b f o (λ k. leb (v .low) k)) f
+      open-frame l m y (v .low) hi r (openBelow v ∷ vs) (halfOf (λ k. leb (v .low) k) b) f
       (λ z i. c₁ .kept z (λ j. apart₀ .off z j i) (no-new z))
       (open-right l m lo hi r u us v vs b f o)
 

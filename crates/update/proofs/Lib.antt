@@ -12,7 +12,6 @@ pub mod Spare
 pub mod Best
 pub mod Going
 pub mod Count
-pub mod Sizes
 pub mod TakeTop
 pub mod Taken
 pub mod Settle

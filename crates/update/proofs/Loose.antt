@@ -2,41 +2,36 @@
 -- Assumes nothing.
 use mathlib.Core.Path.{_≡_, refl, ap, ap₂, sym, _∙_, subst, subst⁻¹}
 use mathlib.Core.Logic.{_⊎_, inl, inr, ⊎-elim}
-use mathlib.Core.Bool.{Bool, true, false, cond, _&&_, _||_, true≢false, false≢true}
-use mathlib.Core.List.{List, [], _∷_, _++_, List·Memᴰ, List·Memᴰ·head, List·Memᴰ·tail, List·Memᴰ·not-nil, List·Memᴰ·cases-cons, Memᴰ·append-left, Memᴰ·append-right, List·Memᴰ·append-cases, Memᴰ·cast, append-nil}
-use mathlib.Core.Option.{Option, none, some}
-use Prim.Native.Nat.{ℕ, zero, suc, _≤_, _<_}
-use native.Mathlib.Omega.{arith}
-use Rattle.octets.specs.Lists.{all, every, has, distinct}
-use Rattle.block.specs.declared.Entry.{Entry}
+use mathlib.Core.Bool.{Bool, true, false, cond, _||_, or-false}
+use mathlib.Core.List.{List, [], _∷_, _++_, List·Memᴰ, List·Memᴰ·head, List·Memᴰ·tail, List·Memᴰ·cases-cons, Memᴰ·append-left, Memᴰ·append-right, List·Memᴰ·append-cases, Memᴰ·cast, append-nil}
+use mathlib.Core.Option.{Option, none}
+use Prim.Native.Nat.{ℕ, suc, _≤_}
+use Rattle.octets.specs.Lists.{every, distinct}
+use Rattle.octets.proofs.Tests.{all-at, all-cons, all-nil, and-left, and-both, every-left, every-right}
+use Rattle.octets.proofs.Sets.{distinct-split, distinct-join, distinct-head, distinct-tail, distinct-cons}
+use Rattle.spot.specs.Keys.{within}
+use Rattle.spot.proofs.Places.{within-join}
 use Rattle.block.specs.Node.{Node, Store}
 use Rattle.block.specs.declared.Asked.{Asked}
-use Rattle.block.specs.declared.Asked.the-variants.{Child}
 use Rattle.block.specs.NodeRules.{nodeOk}
 use Rattle.tree.specs.Part.{Part, parts, children}
-use Rattle.spot.specs.Keys.{within}
-use Rattle.spot.specs.Spots.{find}
-use Rattle.tree.specs.Lookup.{orElse, down, lookup}
-use Rattle.tree.specs.Reach.{gather, reach}
+use Rattle.tree.specs.Lookup.{down, lookup, nodeWord}
+use Rattle.tree.specs.Reach.{reach}
 use Rattle.tree.specs.Sound.{soundAt, inRange}
-use Rattle.tree.proofs.Laws.{all-at, all-cons, all-nil, and-left, and-right, and-both}
-use Rattle.tree.proofs.Sets.{Apart, Split, distinct-split, distinct-join, distinct-head, distinct-tail, distinct-cons, every-left, every-right}
-use Rattle.tree.proofs.Frame.{Same, gather-append, reaches-same, sounds-same, lookups-same}
+use Rattle.tree.proofs.Frame.{Same, reaches-same, sounds-same, lookups-same}
+use Rattle.tree.proofs.Gather.{gather-append}
 use Rattle.update.proofs.Change.{covers, reaches, Sound, Changed}
-use Rattle.update.proofs.Spread.{within-yes, within-low, within-high, within-from, within-to, within-join}
-
--- the node's word on k, and where it has none, d
-abbrev pub word : Node → ℕ → Option ℕ → Option ℕ
-word n k d = orElse (find k (n .points)) (orElse (find k (n .inserts)) (cond (has k (n .deletes)) none d))
 
 -- what is found at k through a node in memory that stands for the part p
 abbrev pub look : ℕ → Store → Part → Node → ℕ → Option ℕ
-look l m p n k = word n k (down (lookup l m k) k (children p n))
+look l m p n k = nodeWord n k (down (lookup l m k) k (children p n))
 
+-- one level of lookup
 pub lookup-step : (l : ℕ) (m : Store) (k : ℕ) (p : Part) → lookup (suc l) m k p ≡ look l m p (m (p .block)) k
 unfolding lookup
 lookup-step l m k p = refl
 
+-- and of reach
 pub reach-step : (l : ℕ) (m : Store) (p : Part) → reach (suc l) m p ≡ p .block ∷ reaches l m (children p (m (p .block)))
 unfolding reach
 reach-step l m p = refl
@@ -48,6 +43,7 @@ pub record Opened (l : ℕ) (m : Store) (p : Part) : Type 0 where
   pub kids : Sound l m (children p (m (p .block)))
   pub off : List·Memᴰ (p .block) (reaches l m (children p (m (p .block)))) → ⊥
 
+-- a sound part is made of these
 pub opened : (l : ℕ) (m : Store) (p : Part) → Sound (suc l) m (p ∷ []) → Opened l m p
 unfolding soundAt
 opened l m p s =
@@ -60,6 +56,7 @@ opened l m p s =
       off = distinct-head (p .block) (reaches l m (children p (m (p .block)))) d;
     }
 
+-- and they make one
 pub closed : (l : ℕ) (m : Store) (p : Part) → Opened l m p → Sound (suc l) m (p ∷ [])
 unfolding soundAt
 closed l m p o =
@@ -70,12 +67,15 @@ closed l m p o =
 
 -- a node stored: w has it in p's block, and is y where its children reach
 module _ (l : ℕ) (y w : Store) (p : Part) (n : Node) (at-block : w (p .block) ≡ n) (same : Same y w (reaches l y (children p n))) where
+  -- what it then reaches
   pub stored-reach : reach (suc l) w p ≡ p .block ∷ reaches l y (children p n)
   stored-reach = reach-step l w p ∙ rw (at-block) (ap (λ (r : List ℕ). p .block ∷ r) (reaches-same y w l (children p n) same))
 
+  -- what is found there
   pub stored-lookup : (k : ℕ) → lookup (suc l) w k p ≡ look l y p n k
-  stored-lookup k = lookup-step l w k p ∙ rw at-block (ap (word n k) (lookups-same y w l (children p n) same k))
+  stored-lookup k = lookup-step l w k p ∙ rw at-block (ap (nodeWord n k) (lookups-same y w l (children p n) same k))
 
+  -- and that it is sound
   pub stored-sound : nodeOk l (p .asked) n ≡ true → inRange p n ≡ true → every (soundAt l y) (children p n) ≡ true → soundAt (suc l) w p ≡ true
   unfolding soundAt
   stored-sound a b c = rw at-block (all-cons _ _ a (all-cons _ _ b (all-cons _ _ (sounds-same y w l (children p n) same ∙ c) all-nil)))
@@ -84,9 +84,9 @@ module _ (l : ℕ) (y w : Store) (p : Part) (n : Node) (at-block : w (p .block) 
 abbrev pub part : ℕ → Asked → ℕ → ℕ → Part
 part b a lo hi = record { block = b; asked = a; lo = lo; hi = hi }
 
-not-covered : (b : Bool) → b || false ≡ true → b ≡ true
-not-covered true h = refl
-not-covered false h = h
+-- what the children reach is reached
+kids-in : (l : ℕ) (m : Store) (p : Part) (z : ℕ) → List·Memᴰ z (reaches l m (children p (m (p .block)))) → List·Memᴰ z (reach (suc l) m p)
+kids-in l m p z i = rw (reach-step l m p) (List·Memᴰ·tail i)
 
 -- The children of p changed, and its node is stored anew in its block: p changed.
 module _ (l : ℕ) (New : ℕ → Type 0) (x y w : Store) (p : Part) (a : Asked) (n : Node) (f g : ℕ → Option ℕ) (s : Sound (suc l) x (p ∷ []))
@@ -99,24 +99,22 @@ module _ (l : ℕ) (New : ℕ → Type 0) (x y w : Store) (p : Part) (a : Asked)
   o : Opened l x p
   o = opened l x p s
 
-  in-p : (z : ℕ) → List·Memᴰ z (reaches l x (children p (x (p .block)))) → List·Memᴰ z (reach (suc l) x p)
-  in-p z i = rw (reach-step l x p) (List·Memᴰ·tail i)
-
   off-block : List·Memᴰ (p .block) (reaches l y (children q n)) → ⊥
   off-block i = ⊎-elim (λ j. o .off j) (λ j. fresh (p .block) j (rw (reach-step l x p) (List·Memᴰ·head refl))) (c .reached (p .block) i)
 
   same : Same y w (reaches l y (children q n))
   same z i = else z (λ (e : z ≡ p .block). off-block (rw e at i))
 
+  -- if the node keeps the rules and finds f
   pub node-changed : nodeOk l a n ≡ true → inRange q n ≡ true → ((k : ℕ) → within (p .lo) (p .hi) k ≡ true → look l y q n k ≡ f k)
       → Changed (suc l) New x (p ∷ []) w (q ∷ []) f
   node-changed ok inside h =
       record {
         sound = record { each = and-both (soundAt (suc l) w q) true (stored-sound l y w q n at-block same ok inside (c .sound .each)) refl; once = rw (append-nil (reach (suc l) w q), stored-reach l y w q n at-block same) (distinct-cons (p .block) (reaches l y (children q n)) off-block (c .sound .once)) };
         span = λ k. refl;
-        found = λ k i. rw (not-covered (within (p .lo) (p .hi) k) i) (stored-lookup l y w q n at-block same k ∙ h k (not-covered (within (p .lo) (p .hi) k) i));
+        found = λ k i. rw (sym (or-false (within (p .lo) (p .hi) k)) ∙ i) (stored-lookup l y w q n at-block same k ∙ h k (sym (or-false (within (p .lo) (p .hi) k)) ∙ i));
         reached = λ z i. ⊎-elim (λ (e : z ≡ p .block). inl (rw (append-nil (reach (suc l) x p), reach-step l x p) (List·Memᴰ·head e)))
-            (λ j. ⊎-elim (λ u. inl (rw (append-nil (reach (suc l) x p)) (in-p z u))) inr (c .reached z j))
+            (λ j. ⊎-elim (λ u. inl (rw (append-nil (reach (suc l) x p)) (kids-in l x p z u))) inr (c .reached z j))
             (List·Memᴰ·cases-cons (rw (append-nil (reach (suc l) w q), stored-reach l y w q n at-block same) at i));
         still = λ z i. rw (append-nil (reach (suc l) w q), stored-reach l y w q n at-block same)
             (⊎-elim (λ j. ⊎-elim (λ (e : z ≡ p .block). List·Memᴰ·head e) (λ u. List·Memᴰ·tail (c .still z (inl u))) (List·Memᴰ·cases-cons (rw (append-nil (reach (suc l) x p), reach-step l x p) at j)))
@@ -124,7 +122,7 @@ module _ (l : ℕ) (New : ℕ → Type 0) (x y w : Store) (p : Part) (a : Asked)
             i);
         kept = λ z i j.
             else z (λ (e : z ≡ p .block). i (rw (append-nil (reach (suc l) x p), reach-step l x p) (List·Memᴰ·head e))) ∙
-            c .kept z (λ u. i (rw (append-nil (reach (suc l) x p)) (in-p z u))) j;
+            c .kept z (λ u. i (rw (append-nil (reach (suc l) x p)) (kids-in l x p z u))) j;
       }
 
 -- The same, stored as two nodes: the second in a new block, from the key sep on.
@@ -151,9 +149,6 @@ module _ (l : ℕ) (Old New : ℕ → Type 0) (x y w : Store) (p : Part) (a₁ a
   o₂ : Opened l x p
   o₂ = opened l x p s
 
-  in-p₂ : (z : ℕ) → List·Memᴰ z (reaches l x (children p (x (p .block)))) → List·Memᴰ z (reach (suc l) x p)
-  in-p₂ z i = rw (reach-step l x p) (List·Memᴰ·tail i)
-
   itself : List·Memᴰ (p .block) (reach (suc l) x p)
   itself = rw (reach-step l x p) (List·Memᴰ·head refl)
 
@@ -164,7 +159,7 @@ module _ (l : ℕ) (Old New : ℕ → Type 0) (x y w : Store) (p : Part) (a₁ a
   off-old i = ⊎-elim (λ j. o₂ .off j) (λ j. fresh (p .block) (more (p .block) j) itself) (from (p .block) i)
 
   off-new : List·Memᴰ b (K₁ ++ K₂) → ⊥
-  off-new i = ⊎-elim (λ j. fresh b new (in-p₂ b j)) free (from b i)
+  off-new i = ⊎-elim (λ j. fresh b new (kids-in l x p b j)) free (from b i)
 
   apart : p .block ≡ b → ⊥
   apart e = fresh b new (Memᴰ·cast (sym e) itself)
@@ -191,11 +186,12 @@ module _ (l : ℕ) (Old New : ℕ → Type 0) (x y w : Store) (p : Part) (a₁ a
       (List·Memᴰ·cases-cons i))
 
   old-or-new : (z : ℕ) → List·Memᴰ z (K₁ ++ K₂) → List·Memᴰ z (reach (suc l) x p ++ []) ⊎ New z
-  old-or-new z i = ⊎-elim (λ j. inl (rw (append-nil (reach (suc l) x p)) (in-p₂ z j))) (λ j. inr (more z j)) (from z i)
+  old-or-new z i = ⊎-elim (λ j. inl (rw (append-nil (reach (suc l) x p)) (kids-in l x p z j))) (λ j. inr (more z j)) (from z i)
 
   kid-in : (z : ℕ) → List·Memᴰ z (K₁ ++ K₂) → List·Memᴰ z ((p .block ∷ K₁) ++ (b ∷ K₂))
   kid-in z i = ⊎-elim (λ j. Memᴰ·append-left (b ∷ K₂) (List·Memᴰ·tail j)) (λ j. Memᴰ·append-right (p .block ∷ K₁) (List·Memᴰ·tail j)) (List·Memᴰ·append-cases K₁ i)
 
+  -- if both nodes keep the rules and find f
   pub node-split : nodeOk l a₁ n₁ ≡ true → inRange q₁ n₁ ≡ true → nodeOk l a₂ n₂ ≡ true → inRange q₂ n₂ ≡ true
       → ((k : ℕ) → within (p .lo) sep k ≡ true → look l y q₁ n₁ k ≡ f k) → ((k : ℕ) → within sep (p .hi) k ≡ true → look l y q₂ n₂ k ≡ f k)
       → Changed (suc l) New x (p ∷ []) w (q₁ ∷ q₂ ∷ []) f
@@ -207,7 +203,7 @@ module _ (l : ℕ) (Old New : ℕ → Type 0) (x y w : Store) (p : Part) (a₁ a
           once = rw all-reached once-two;
         };
         span = λ k. spans k;
-        found = λ k i. go k (within (p .lo) sep k) refl (not-covered (within (p .lo) (p .hi) k) i);
+        found = λ k i. go k (within (p .lo) sep k) refl (sym (or-false (within (p .lo) (p .hi) k)) ∙ i);
         reached = λ z i.
             ⊎-elim
             (λ j. ⊎-elim (λ (e : z ≡ p .block). inl (rw (append-nil (reach (suc l) x p), reach-step l x p) (List·Memᴰ·head e))) (λ u. old-or-new z (Memᴰ·append-left K₂ u)) (List·Memᴰ·cases-cons j))
@@ -219,7 +215,7 @@ module _ (l : ℕ) (Old New : ℕ → Type 0) (x y w : Store) (p : Part) (a₁ a
             i);
         kept = λ z i j.
             else z (λ (e : z ≡ p .block). i (rw (append-nil (reach (suc l) x p), reach-step l x p) (List·Memᴰ·head e))) (λ (e : z ≡ b). j (rw e new)) ∙
-            c .kept z (λ u. i (rw (append-nil (reach (suc l) x p)) (in-p₂ z u))) (λ u. j (more z u));
+            c .kept z (λ u. i (rw (append-nil (reach (suc l) x p)) (kids-in l x p z u))) (λ u. j (more z u));
       }
     where
       or-off : (u v : Bool) → u || (v || false) ≡ (u || v) || false

@@ -1,56 +1,38 @@
 -- More steps of an update on the buffers of a node: a whole batch, the lowest of P to I, a batch pushed down, a node cut in two.
 -- Assumes nothing.
-use mathlib.Core.Path.{_≡_, refl, ap, ap₂, sym, _∙_}
+use mathlib.Core.Path.{_≡_, refl, ap, sym, _∙_}
 use mathlib.Core.Logic.{_⊎_, inl, inr, ⊎-elim}
-use mathlib.Core.Bool.{Bool, true, false, not, cond, _&&_, _||_, true≢false, false≢true}
-use mathlib.Core.List.{List, [], _∷_, _++_, List·Memᴰ, List·Memᴰ·head, List·Memᴰ·tail, List·Memᴰ·not-nil, List·Memᴰ·cases-cons}
+use mathlib.Core.Bool.{Bool, true, false, not, cond, _||_}
+use mathlib.Core.List.{List, [], _∷_, List·Memᴰ, List·Memᴰ·head, List·Memᴰ·tail}
 use mathlib.Core.Option.{Option, none, some}
 use Prim.Native.Nat.{ℕ, suc, _<_, _≤_}
 use native.Mathlib.Omega.{arith}
-use lib.Dec.{eqb, ltb, leb}
-use borrow.Author.Tests.{eq-eqb, ne-eqb, le-leb, lt-leb, leb-true, leb-false}
-use Rattle.octets.specs.Lists.{keep, has, rising}
+use lib.Dec.{eqb, leb}
+use borrow.Author.Tests.{eq-eqb, ne-eqb, leb-true, leb-false}
+use Rattle.octets.specs.Lists.{keep, has}
+use Rattle.octets.proofs.Order.{same-or-not}
+use Rattle.octets.proofs.Sets.{has-not, has-keep}
+use Rattle.octets.proofs.Tests.{keep-mem}
+use Rattle.octets.proofs.Rising.{keep-rises}
 use Rattle.spot.specs.declared.Spot.{Spot}
 use Rattle.spot.specs.Spots.{keys, find, put}
 use Rattle.spot.specs.Keys.{rankKey, allKeys, within}
+use Rattle.spot.specs.Sorted.{only, insertKey, but}
+use Rattle.spot.proofs.Canon.{some≢none, find-put}
+use Rattle.spot.proofs.Buffers.{find-only, only-rises, only-mem, find-mem, put-mem, put-up}
+use Rattle.spot.proofs.Sorted.{but-not}
 use Rattle.tree.specs.Lookup.{orElse}
-use Rattle.tree.proofs.Canon.{same-or-not, less-or-not, some≢none, find-put}
-use Rattle.tree.proofs.Sets.{Apart, has-mem, mem-has, has-not, not-has-mem, in-or-not}
-use Rattle.tree.proofs.Buffers.{only, find-only, keep-mem, has-keep, keep-rises, only-rises, only-mem, find-mem, find-none, put-mem, put-up, putKey}
-use Rattle.update.proofs.Ready.{say, Ready, but, but-not, strict, not-P, P-not-I, P-not-D, taken, deleted-high, delete-low, deleted-low, insert-high, inserted-high, insert-low, inserted-low}
+use Rattle.tree.proofs.Says.{else-cond}
+use Rattle.update.specs.Held.{Held, insertOne, deleteOne, insertAll, deleteAll}
+use Rattle.update.proofs.Ready.{say, Ready, ready-fewer, strict, taken, deleted-high, delete-low, deleted-low, insert-high, inserted-high, insert-low, inserted-low}
 
--- the three buffers together
-pub record Held : Type 0 where
-  pub points : List Spot
-  pub inserts : List Spot
-  pub deletes : List ℕ
-
+-- the buffers are ready
 abbrev pub Fit : ℕ → ℕ → ℕ → Held → (ℕ → Option ℕ) → Type 0
 Fit lo hi r b below = Ready lo hi r (b .points) (b .inserts) (b .deletes) below
 
+-- what they say of a key
 abbrev pub says : Held → ℕ → Option ℕ → Option ℕ
 says b k d = say (b .points) (b .inserts) (b .deletes) k d
-
--- 6. one insert and one delete, by the lowest rank r of P that was noted before
-abbrev pub insertOne : ℕ → Spot → Held → Held
-insertOne r s b =
-    cond (leb r (rankKey (s .key)))
-    (record { points = put s (only (but (s .key)) (b .points)); inserts = only (but (s .key)) (b .inserts); deletes = keep (but (s .key)) (b .deletes) })
-    (record { points = only (but (s .key)) (b .points); inserts = put s (only (but (s .key)) (b .inserts)); deletes = keep (but (s .key)) (b .deletes) })
-
-abbrev pub deleteOne : ℕ → ℕ → Held → Held
-deleteOne r k b =
-    cond (leb r (rankKey k))
-    (record { points = only (but k) (b .points); inserts = only (but k) (b .inserts); deletes = keep (but k) (b .deletes) })
-    (record { points = only (but k) (b .points); inserts = only (but k) (b .inserts); deletes = putKey k (keep (but k) (b .deletes)) })
-
-abbrev pub insertAll : ℕ → List Spot → Held → Held
-insertAll r [] b = b
-insertAll r (s ∷ ss) b = insertOne r s (insertAll r ss b)
-
-abbrev pub deleteAll : ℕ → List ℕ → Held → Held
-deleteAll r [] b = b
-deleteAll r (k ∷ ks) b = deleteOne r k (deleteAll r ks b)
 
 module _ (lo hi : ℕ) (full : hi ≤ allKeys) (r : ℕ) (below : ℕ → Option ℕ) where
   insert-one : (s : Spot) (b : Held) → within lo hi (s .key) ≡ true → Fit lo hi r b below
@@ -76,7 +58,7 @@ module _ (lo hi : ℕ) (full : hi ≤ allKeys) (r : ℕ) (below : ℕ → Option
       high = record { points = only (but t) (b .points); inserts = only (but t) (b .inserts); deletes = keep (but t) (b .deletes) }
 
       low : Held
-      low = record { points = only (but t) (b .points); inserts = only (but t) (b .inserts); deletes = putKey t (keep (but t) (b .deletes)) }
+      low = record { points = only (but t) (b .points); inserts = only (but t) (b .inserts); deletes = insertKey t (keep (but t) (b .deletes)) }
 
       go : (u : Bool) → leb r (rankKey t) ≡ u
           → Fit lo hi r (cond u high low) below × ((k : ℕ) → says (cond u high low) k (below k) ≡ cond (eqb k t) none (says b k (below k)))
@@ -91,10 +73,6 @@ module _ (lo hi : ℕ) (full : hi ≤ allKeys) (r : ℕ) (below : ℕ → Option
       let a = insert-all ss b (λ k i. w k (List·Memᴰ·tail i)) h in
       let c = insert-one s (insertAll r ss b) (w (s .key) (List·Memᴰ·head refl)) (a .0) in
       (c .0, λ k. c .1 k ∙ ap (cond (eqb k (s .key)) (some (s .track))) (a .1 k) ∙ else-cond (eqb k (s .key)) (s .track) (find k ss) (says b k (below k)))
-    where
-      else-cond : (t : Bool) (u : ℕ) (o d : Option ℕ) → cond t (some u) (orElse o d) ≡ orElse (cond t (some u) o) d
-      else-cond true u o d = refl
-      else-cond false u o d = refl
 
   -- a batch of deletes
   pub delete-all : (ks : List ℕ) (b : Held) → ((k : ℕ) → List·Memᴰ k ks → within lo hi k ≡ true) → Fit lo hi r b below
@@ -142,19 +120,8 @@ module _ (lo hi : ℕ) (full : hi ≤ allKeys) (r : ℕ) (below : ℕ → Option
     module _ (g : ℕ → Bool) (below′ : ℕ → Option ℕ) where
       pub push-I : ((k : ℕ) → below′ k ≡ orElse (find k (only (λ j. not (g j)) I)) (below k)) → Ready lo hi r P (only g I) D below′
       push-I e =
-          record {
-            upP = h .upP;
-            upI = only-rises g I (h .upI);
-            upD = h .upD;
-            inP = h .inP;
-            inI = λ k i. h .inI k (only-mem g I i .0);
-            inD = h .inD;
-            off = λ k i j. h .off k (only-mem g I i .0) j;
-            above = h .above;
-            underI = λ k i. h .underI k (only-mem g I i .0);
-            underD = h .underD;
-            deep = λ k a i. go k a (find k (only (λ j. not (g j)) I)) refl (sym (e k) ∙ i);
-          }
+          ready-fewer h (h .upP) (only-rises g I (h .upI)) (h .upD) (λ k i. i) (λ k i. only-mem g I i .0) (λ k i. i)
+          (λ k a i. go k a (find k (only (λ j. not (g j)) I)) refl (sym (e k) ∙ i))
         where
           go : (k a : ℕ) (o : Option ℕ) → find k (only (λ j. not (g j)) I) ≡ o → orElse o (below k) ≡ some a → rankKey k < r
           go k a none f i = h .deep k a i
@@ -173,19 +140,8 @@ module _ (lo hi : ℕ) (full : hi ≤ allKeys) (r : ℕ) (below : ℕ → Option
       -- and the deletes that don't
       pub push-D : ((k : ℕ) → below′ k ≡ cond (has k (keep (λ j. not (g j)) D)) none (below k)) → Ready lo hi r P I (keep g D) below′
       push-D e =
-          record {
-            upP = h .upP;
-            upI = h .upI;
-            upD = keep-rises g 0 D (h .upD);
-            inP = h .inP;
-            inI = h .inI;
-            inD = λ k i. h .inD k (keep-mem g D i .0);
-            off = λ k i j. h .off k i (keep-mem g D j .0);
-            above = h .above;
-            underI = h .underI;
-            underD = λ k i. h .underD k (keep-mem g D i .0);
-            deep = λ k a i. go k a (has k (keep (λ j. not (g j)) D)) (sym (e k) ∙ i);
-          }
+          ready-fewer h (h .upP) (h .upI) (keep-rises g 0 D (h .upD)) (λ k i. i) (λ k i. i) (λ k i. keep-mem g D i .0)
+          (λ k a i. go k a (has k (keep (λ j. not (g j)) D)) (sym (e k) ∙ i))
         where
           go : (k a : ℕ) (t : Bool) → cond t none (below k) ≡ some a → rankKey k < r
           go k a true i = absurd (some≢none (sym i))
@@ -220,5 +176,6 @@ cut lo hi lo′ hi′ r P I D below below′ g w d h =
       deep = λ k a e. h .deep k a (d k a e);
     }
 
+-- they say of a key that passes what all said
 pub cut-says : (P I : List Spot) (D : List ℕ) (g : ℕ → Bool) (k : ℕ) (d : Option ℕ) → g k ≡ true → say (only g P) (only g I) (keep g D) k d ≡ say P I D k d
 cut-says P I D g k d e = rw (find-only g k P, find-only g k I, has-keep g k D, e)

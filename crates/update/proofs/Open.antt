@@ -1,51 +1,41 @@
 -- A node in memory during an update: its children stand in a store, its buffers are ready, and f is what is found through it. Each step of
 -- settle, push, split and fill leads from one such state to another; a state with the sizes right can be stored.
 -- Assumes nothing.
-use mathlib.Core.Path.{_≡_, refl, ap, ap₂, sym, _∙_, subst}
-use mathlib.Core.Logic.{_⊎_, inl, inr, ⊎-elim}
-use mathlib.Core.Bool.{Bool, true, false, not, cond, _&&_, _||_, true≢false, false≢true}
-use mathlib.Core.List.{List, [], _∷_, _++_, List·Memᴰ, List·Memᴰ·head, List·Memᴰ·tail, List·Memᴰ·not-nil, List·Memᴰ·cases-cons}
-use mathlib.Core.Option.{Option, none, some}
-use Prim.Native.Nat.{ℕ, zero, suc, _<_, _≤_}
-use native.Mathlib.Omega.{arith}
-use lib.ListN.{length}
-use lib.Dec.{eqb, ltb, leb}
-use borrow.Author.Tests.{eqb-true, eq-eqb, ne-eqb, ltb-true, lt-ltb, leb-true, le-leb}
-use Rattle.octets.specs.Lists.{all, every, keep, has, rest, rising, risingFrom}
+use mathlib.Core.Path.{_≡_, ap, sym, _∙_}
+use mathlib.Core.Bool.{true, cond}
+use mathlib.Core.List.{List, [], _∷_, _++_, List·Memᴰ}
+use mathlib.Core.Option.{Option}
+use Prim.Native.Nat.{ℕ, suc, _≤_}
 use Rattle.spot.specs.declared.Spot.{Spot}
-use Rattle.spot.specs.Spots.{keys, find, put}
-use Rattle.spot.specs.Keys.{rankKey, allKeys, within}
+use Rattle.spot.specs.Spots.{keys}
+use Rattle.spot.specs.Keys.{rankKey, within}
 use Rattle.block.specs.declared.Entry.{Entry}
-use Rattle.block.specs.Node.{Node, Store, openBelow}
-use Rattle.block.specs.declared.Asked.{Asked}
-use Rattle.block.specs.declared.Asked.the-variants.{Root, Child}
-use Rattle.block.specs.NodeRules.{names, nodeOk, buffersRise, namedOnce, lowsRise, pointsAbove, filled, lowest, lows, agrees, notBelow, leafBuffersEmpty, childCountOk, childBlocksOk, fewest}
-use Rattle.tree.specs.Part.{Part, nextLow, parts, children}
-use Rattle.tree.specs.Lookup.{orElse, down, lookup}
-use Rattle.tree.specs.Reach.{reach}
-use Rattle.tree.specs.Sound.{soundAt, inRange}
-use Rattle.tree.proofs.Laws.{all-at, all-cons, all-nil, and-left, and-right, and-both, every-mem, or-left, or-right}
-use Rattle.tree.proofs.Canon.{same-or-not, less-or-not, some≢none}
-use Rattle.tree.proofs.Sets.{every-make, every-left, every-right}
+use Rattle.block.specs.Node.{Node, Store}
+use Rattle.block.specs.NodeRules.{lowest}
+use Rattle.tree.specs.Part.{Part, parts}
+use Rattle.tree.specs.Lookup.{down, lookup}
 use Rattle.tree.proofs.Frame.{Same, reaches-same, sounds-same, lookups-same}
-use Rattle.update.proofs.Change.{covers, reaches, Sound, Changed, changed-as}
-use Rattle.update.proofs.Spread.{Steps, steps-make, start, childAt, child-found, child-changed, child-steps, down-from, part-bounds, within-from, within-to, within-yes}
-use Rattle.tree.proofs.Buffers.{only, find-mem}
-use Rattle.update.proofs.Ready.{say, Ready, but, lower, fill-I, filled-I, fill-child, filled-child, fill-dead, filled-dead, top-taken, top-gone}
-use Rattle.update.proofs.Moves.{Held, Fit, says}
-use Rattle.update.proofs.Loose.{word, look, lookup-step, Opened, opened, part}
-use Rattle.update.proofs.Node.{beneath, Rules, rules-of, rules-back, steps-of, ready-of, ready-lowest, nothing-below}
+use Rattle.tree.proofs.Ranges.{Steps, steps-of}
+use Rattle.update.specs.Held.{Held}
+use Rattle.update.proofs.Change.{reaches, Sound, Changed}
+use Rattle.update.proofs.Spread.{childAt, child-found, child-changed, child-steps}
+use Rattle.update.proofs.Ready.{Ready, ready-fewer}
+use Rattle.update.proofs.Moves.{Fit, says}
+use Rattle.update.proofs.Loose.{lookup-step, opened}
+use Rattle.update.proofs.Node.{rules-of, ready-of, ready-lowest}
 
 -- what is found below the entries es of a node with the range [lo, hi)
 abbrev pub under : ℕ → Store → ℕ → ℕ → List Entry → ℕ → Option ℕ
 under l m lo hi es k = down (lookup l m k) k (parts lo hi es)
 
+-- a node in memory over children in a store: all of them sound, their ranges in order, the buffers ready, and f found through it
 pub record Open (l : ℕ) (m : Store) (lo hi r : ℕ) (es : List Entry) (b : Held) (f : ℕ → Option ℕ) : Type 0 where
   pub kids : Sound l m (parts lo hi es)
   pub steps : Steps lo hi es
   pub ready : Fit lo hi r b (under l m lo hi es)
   pub found : (k : ℕ) → within lo hi k ≡ true → says b k (under l m lo hi es k) ≡ f k
 
+-- the buffers of a node
 abbrev pub heldOf : Node → Held
 heldOf n = record { points = n .points; inserts = n .inserts; deletes = n .deletes }
 
@@ -84,9 +74,9 @@ open-held l m lo hi r r′ es b b′ f g o a e = record { kids = o .kids; steps 
 
 -- the store changes elsewhere
 pub ready-ext : (lo hi r : ℕ) (P I : List Spot) (D : List ℕ) (below below′ : ℕ → Option ℕ) → ((k : ℕ) → below′ k ≡ below k) → Ready lo hi r P I D below → Ready lo hi r P I D below′
-ready-ext lo hi r P I D below below′ e h =
-    record { upP = h .upP; upI = h .upI; upD = h .upD; inP = h .inP; inI = h .inI; inD = h .inD; off = h .off; above = h .above; underI = h .underI; underD = h .underD; deep = λ k a i. h .deep k a (sym (e k) ∙ i) }
+ready-ext lo hi r P I D below below′ e h = ready-fewer h (h .upP) (h .upI) (h .upD) (λ k i. i) (λ k i. i) (λ k i. i) (λ k a i. h .deep k a (sym (e k) ∙ i))
 
+-- the node in memory stays what it was
 pub open-frame : (l : ℕ) (x y : Store) (lo hi r : ℕ) (es : List Entry) (b : Held) (f : ℕ → Option ℕ) → Same x y (reaches l x (parts lo hi es)) → Open l x lo hi r es b f → Open l y lo hi r es b f
 open-frame l x y lo hi r es b f a o =
     let e = lookups-same x y l (parts lo hi es) a in
@@ -102,6 +92,7 @@ module _ (l : ℕ) (New : ℕ → Type 0) (x y : Store) (lo hi r : ℕ) (us vs :
     (low : e′ .low ≡ e .low) (o : Open l x lo hi r (us ++ (e ∷ vs)) b f)
     (fresh : (z : ℕ) → New z → List·Memᴰ z (reaches l x (parts lo hi (us ++ (e ∷ vs)))) → ⊥)
     (c : Changed l New x (childAt lo hi us vs e ∷ []) y (parts (childAt lo hi us vs e .lo) (childAt lo hi us vs e .hi) (e′ ∷ es)) g) where
+  -- what is found below then
   abbrev pub after : ℕ → Option ℕ
   after k = cond (within (childAt lo hi us vs e .lo) (childAt lo hi us vs e .hi) k) (g k) (under l x lo hi (us ++ (e ∷ vs)) k)
 
@@ -112,6 +103,7 @@ module _ (l : ℕ) (New : ℕ → Type 0) (x y : Store) (lo hi r : ℕ) (us vs :
   pub open-changed : Changed l New x (parts lo hi (us ++ (e ∷ vs))) y (parts lo hi (us ++ ((e′ ∷ es) ++ vs))) after
   open-changed = child-changed l New x y lo hi us vs e e′ es g low (o .steps) (o .kids) fresh c
 
+  -- the node in memory over the changed child
   pub open-child : Steps (childAt lo hi us vs e .lo) (childAt lo hi us vs e .hi) (e′ ∷ es) → (r′ : ℕ) (b′ : Held) (h : ℕ → Option ℕ) → Fit lo hi r′ b′ after
       → ((k : ℕ) → within lo hi k ≡ true → says b′ k (after k) ≡ h k)
       → Open l y lo hi r′ (us ++ ((e′ ∷ es) ++ vs)) b′ h

@@ -1,23 +1,29 @@
 -- The buffers of a node in memory, over what is found below it: all the rules but the sizes. Each step of an update keeps them, and what is found.
 -- Assumes nothing.
-use mathlib.Core.Path.{_≡_, refl, ap, ap₂, sym, _∙_}
+use mathlib.Core.Path.{_≡_, refl, ap, sym, _∙_}
 use mathlib.Core.Logic.{_⊎_, inl, inr, ⊎-elim}
-use mathlib.Core.Bool.{Bool, true, false, not, cond, _&&_, _||_, true≢false, false≢true}
-use mathlib.Core.List.{List, [], _∷_, _++_, List·Memᴰ, List·Memᴰ·head, List·Memᴰ·tail, List·Memᴰ·not-nil, List·Memᴰ·cases-cons}
+use mathlib.Core.Bool.{Bool, true, false, not, cond, _||_}
+use mathlib.Core.List.{List, [], List·Memᴰ, List·Memᴰ·not-nil}
 use mathlib.Core.Option.{Option, none, some}
 use Prim.Native.Nat.{ℕ, suc, _<_, _≤_}
 use native.Mathlib.Omega.{arith}
-use lib.Dec.{eqb, ltb}
-use borrow.Author.Tests.{eq-eqb, ne-eqb, eqb-false, ltb-true, lt-ltb, le-ltb, not-true}
+use lib.Dec.{eqb}
+use borrow.Author.Tests.{eq-eqb, ne-eqb, ltb-true, lt-ltb, le-ltb}
 use Rattle.octets.specs.Lists.{keep, has, rising}
+use Rattle.octets.proofs.Order.{same-or-not, less-or-not}
+use Rattle.octets.proofs.Sets.{Apart, has-not, has-keep}
+use Rattle.octets.proofs.Tests.{keep-mem}
+use Rattle.octets.proofs.Rising.{keep-rises}
 use Rattle.spot.specs.declared.Spot.{Spot}
 use Rattle.spot.specs.Spots.{keys, find, put}
 use Rattle.spot.specs.Keys.{rankKey, allKeys, within}
+use Rattle.spot.specs.Sorted.{only, insertKey, but, lower}
+use Rattle.spot.proofs.Canon.{cond-none, some≢none, find-put}
+use Rattle.spot.proofs.Places.{within-to}
+use Rattle.spot.proofs.Halves.{rank-strict}
+use Rattle.spot.proofs.Buffers.{find-only, only-rises, only-mem, find-mem, find-none, put-mem, put-up}
+use Rattle.spot.proofs.Sorted.{has-insertKey, insertKey-mem, insertKey-rises, but-not}
 use Rattle.tree.specs.Lookup.{orElse}
-use Rattle.tree.proofs.Canon.{same-or-not, less-or-not, some≢none, find-put}
-use Rattle.tree.proofs.Sets.{Apart, has-mem, mem-has, has-not, not-has-mem, in-or-not}
-use Rattle.update.proofs.Spread.{within-from, within-to}
-use Rattle.tree.proofs.Buffers.{rank-inj, only, find-only, keep-mem, has-keep, keep-rises, only-rises, only-mem, find-mem, find-none, mem-find, put-mem, put-up, putKey, has-putKey, putKey-mem, putKey-rises}
 
 -- the word of three buffers on k, and where they have none, d
 abbrev pub say : List Spot → List Spot → List ℕ → ℕ → Option ℕ → Option ℕ
@@ -37,6 +43,27 @@ pub record Ready (lo hi r : ℕ) (P I : List Spot) (D : List ℕ) (below : ℕ �
   pub underD : (k : ℕ) → List·Memᴰ k D → rankKey k < r
   pub deep : (k a : ℕ) → below k ≡ some a → rankKey k < r
 
+-- fewer in each buffer, and nothing of rank r found below
+pub ready-fewer : {lo hi r : ℕ} {P I : List Spot} {D : List ℕ} {below : ℕ → Option ℕ} → Ready lo hi r P I D below → {P′ I′ : List Spot} {D′ : List ℕ} {below′ : ℕ → Option ℕ}
+    → rising (keys P′) ≡ true → rising (keys I′) ≡ true → rising D′ ≡ true
+    → ((k : ℕ) → List·Memᴰ k (keys P′) → List·Memᴰ k (keys P)) → ((k : ℕ) → List·Memᴰ k (keys I′) → List·Memᴰ k (keys I)) → ((k : ℕ) → List·Memᴰ k D′ → List·Memᴰ k D)
+    → ((k a : ℕ) → below′ k ≡ some a → rankKey k < r)
+    → Ready lo hi r P′ I′ D′ below′
+ready-fewer h upP upI upD inP inI inD deep =
+    record {
+      upP = upP;
+      upI = upI;
+      upD = upD;
+      inP = λ k i. h .inP k (inP k i);
+      inI = λ k i. h .inI k (inI k i);
+      inD = λ k i. h .inD k (inD k i);
+      off = λ k i j. h .off k (inI k i) (inD k j);
+      above = λ k i. h .above k (inP k i);
+      underI = λ k i. h .underI k (inI k i);
+      underD = λ k i. h .underD k (inD k i);
+      deep = deep;
+    }
+
 -- what is not of the rank that is live below is not found there
 pub too-high : (r : ℕ) (below : ℕ → Option ℕ) → ((k a : ℕ) → below k ≡ some a → rankKey k < r) → (k : ℕ) → r ≤ rankKey k → below k ≡ none
 too-high r below deep k h = go (below k) refl
@@ -45,27 +72,13 @@ too-high r below deep k h = go (below k) refl
     go none e = e
     go (some a) e = let z = deep k a e in absurd (omega arith)
 
--- all keys but t; the keys under t in rank order
-abbrev pub but : ℕ → ℕ → Bool
-but t k = not (eqb k t)
-
-abbrev pub lower : ℕ → ℕ → Bool
-lower t k = ltb (rankKey k) (rankKey t)
-
-pub but-not : (t k : ℕ) → but t k ≡ true → k ≡ t → ⊥
-but-not t k h = eqb-false k t (not-true (eqb k t) h)
-
 module _ (lo hi : ℕ) (full : hi ≤ allKeys) where
   under-all : (k : ℕ) → within lo hi k ≡ true → k < allKeys
   under-all k w = let z = within-to lo hi k w in omega arith
 
   -- of two keys of the range one is above the other
   pub strict : (a b : ℕ) → within lo hi a ≡ true → within lo hi b ≡ true → (a ≡ b → ⊥) → rankKey a ≤ rankKey b → rankKey a < rankKey b
-  strict a b u v n h = go (same-or-not (rankKey a) (rankKey b))
-    where
-      go : (rankKey a ≡ rankKey b) ⊎ (rankKey a ≡ rankKey b → ⊥) → rankKey a < rankKey b
-      go (inl e) = absurd (n (rank-inj a b (under-all a u) (under-all b v) e))
-      go (inr g) = omega arith
+  strict a b u v n h = rank-strict a b (under-all a u) (under-all b v) n h
 
   module _ (r : ℕ) (P I : List Spot) (D : List ℕ) (below : ℕ → Option ℕ) (h : Ready lo hi r P I D below) where
     -- where a key of P, of I, of D isn't
@@ -98,15 +111,11 @@ module _ (lo hi : ℕ) (full : hi ≤ allKeys) where
           split : (a b : ℕ) → (a < b) ⊎ (b ≤ a)
           split a b = ⊎-elim inr inl (less-or-not b a)
 
-          cond-none : (b : Bool) → none ≡ cond {A = Option ℕ} b none none
-          cond-none true = refl
-          cond-none false = refl
-
           high : rankKey t ≤ rankKey k → cond (cond (lower t k) (has k D) false) none (below k) ≡ cond (has k D) none (below k)
           high g =
               let z = strict t k wt w (λ e. n (sym e)) g in
               let e : below k ≡ none = too-high (suc (rankKey t)) below (λ j a i. let u = best j a i in omega arith) k z in
-              rw (le-ltb (rankKey k) (rankKey t) g, e) (cond-none (has k D))
+              rw (le-ltb (rankKey k) (rankKey t) g, e) (sym (cond-none (has k D)))
 
       deep′ : (k a : ℕ) → below′ k ≡ some a → rankKey k < rankKey t
       deep′ k a e = go (same-or-not k t)
@@ -115,24 +124,33 @@ module _ (lo hi : ℕ) (full : hi ≤ allKeys) where
           go (inl i) = absurd (some≢none (sym e ∙ ap below′ i ∙ gone))
           go (inr n) = strict k t (inn k a e) wt n (best k a (sym (stays k n) ∙ e))
 
+      -- t, and nothing else, may come to P; all others are under it
+      fill-by : (P′ I′ : List Spot) → rising (keys P′) ≡ true → rising (keys I′) ≡ true → ((k : ℕ) → List·Memᴰ k (keys P′) → (k ≡ t) ⊎ List·Memᴰ k (keys P))
+          → ((k : ℕ) → List·Memᴰ k (keys I′) → List·Memᴰ k (keys I)) → rankKey t < r → ((k : ℕ) → List·Memᴰ k (keys I′) → rankKey k < rankKey t)
+          → Ready lo hi (rankKey t) P′ I′ (keep (lower t) D) below′
+      fill-by P′ I′ upP upI from-P from-I r>t under =
+          record {
+            upP = upP;
+            upI = upI;
+            upD = keep-rises (lower t) 0 D (h .upD);
+            inP = λ k i. ⊎-elim (λ (g : k ≡ t). ap (within lo hi) g ∙ wt) (λ j. h .inP k j) (from-P k i);
+            inI = λ k i. h .inI k (from-I k i);
+            inD = λ k i. h .inD k (keep-mem (lower t) D i .0);
+            off = λ k i j. h .off k (from-I k i) (keep-mem (lower t) D j .0);
+            above = λ k i. ⊎-elim (λ (g : k ≡ t). rw g (omega arith)) (λ j. let z = h .above k j in omega arith) (from-P k i);
+            underI = under;
+            underD = λ k i. ltb-true (rankKey k) (rankKey t) (keep-mem (lower t) D i .1);
+            deep = deep′;
+          }
+
       -- (from I; an older copy below may have been taken out)
       pub fill-I : (s : Spot) → s .key ≡ t → find t I ≡ some (s .track) → ((k : ℕ) → List·Memᴰ k (keys I) → rankKey k ≤ rankKey t)
           → Ready lo hi (rankKey t) (put s P) (only (but t) I) (keep (lower t) D) below′
       fill-I s e f top =
           let r>t : rankKey t < r = h .underI t (find-mem t I f) in
-          record {
-            upP = put-up s P (h .upP) (λ i. let z = h .above t (rw e at i) in omega arith);
-            upI = only-rises (but t) I (h .upI);
-            upD = keep-rises (lower t) 0 D (h .upD);
-            inP = λ k i. ⊎-elim (λ (g : k ≡ s .key). ap (within lo hi) (g ∙ e) ∙ wt) (λ j. h .inP k j) (put-mem s P i);
-            inI = λ k i. h .inI k (only-mem (but t) I i .0);
-            inD = λ k i. h .inD k (keep-mem (lower t) D i .0);
-            off = λ k i j. h .off k (only-mem (but t) I i .0) (keep-mem (lower t) D j .0);
-            above = λ k i. ⊎-elim (λ (g : k ≡ s .key). let z : k ≡ t = g ∙ e in rw z (omega arith)) (λ j. let z = h .above k j in omega arith) (put-mem s P i);
-            underI = λ k i. let m = only-mem (but t) I i in strict k t (h .inI k (m .0)) wt (but-not t k (m .1)) (top k (m .0));
-            underD = λ k i. ltb-true (rankKey k) (rankKey t) (keep-mem (lower t) D i .1);
-            deep = deep′;
-          }
+          fill-by (put s P) (only (but t) I) (put-up s P (h .upP) (λ i. let z = h .above t (rw e at i) in omega arith)) (only-rises (but t) I (h .upI))
+          (λ k i. ⊎-elim (λ g. inl (g ∙ e)) inr (put-mem s P i)) (λ k i. only-mem (but t) I i .0) r>t
+          (λ k i. let m = only-mem (but t) I i in strict k t (h .inI k (m .0)) wt (but-not t k (m .1)) (top k (m .0)))
 
       pub filled-I : (s : Spot) → s .key ≡ t → find t I ≡ some (s .track) → (k : ℕ) → within lo hi k ≡ true
           → say (put s P) (only (but t) I) (keep (lower t) D) k (below′ k) ≡ say P I D k (below k)
@@ -148,19 +166,8 @@ module _ (lo hi : ℕ) (full : hi ≤ allKeys) where
           → Ready lo hi (rankKey t) (put s P) I (keep (lower t) D) below′
       fill-child s e f top =
           let r>t : rankKey t < r = h .deep t (s .track) f in
-          record {
-            upP = put-up s P (h .upP) (λ i. let z = h .above t (rw e at i) in omega arith);
-            upI = h .upI;
-            upD = keep-rises (lower t) 0 D (h .upD);
-            inP = λ k i. ⊎-elim (λ (g : k ≡ s .key). ap (within lo hi) (g ∙ e) ∙ wt) (λ j. h .inP k j) (put-mem s P i);
-            inI = h .inI;
-            inD = λ k i. h .inD k (keep-mem (lower t) D i .0);
-            off = λ k i j. h .off k i (keep-mem (lower t) D j .0);
-            above = λ k i. ⊎-elim (λ (g : k ≡ s .key). let z : k ≡ t = g ∙ e in rw z (omega arith)) (λ j. let z = h .above k j in omega arith) (put-mem s P i);
-            underI = top;
-            underD = λ k i. ltb-true (rankKey k) (rankKey t) (keep-mem (lower t) D i .1);
-            deep = deep′;
-          }
+          fill-by (put s P) I (put-up s P (h .upP) (λ i. let z = h .above t (rw e at i) in omega arith)) (h .upI)
+          (λ k i. ⊎-elim (λ g. inl (g ∙ e)) inr (put-mem s P i)) (λ k i. i) r>t top
 
       pub filled-child : (s : Spot) → s .key ≡ t → below t ≡ some (s .track) → ((k : ℕ) → List·Memᴰ k (keys I) → rankKey k < rankKey t)
           → has t D ≡ false → (k : ℕ) → within lo hi k ≡ true
@@ -174,20 +181,7 @@ module _ (lo hi : ℕ) (full : hi ≤ allKeys) where
 
       -- (from a child, and D names it: neither is left)
       pub fill-dead : rankKey t < r → ((k : ℕ) → List·Memᴰ k (keys I) → rankKey k < rankKey t) → Ready lo hi (rankKey t) P I (keep (lower t) D) below′
-      fill-dead r>t top =
-          record {
-            upP = h .upP;
-            upI = h .upI;
-            upD = keep-rises (lower t) 0 D (h .upD);
-            inP = h .inP;
-            inI = h .inI;
-            inD = λ k i. h .inD k (keep-mem (lower t) D i .0);
-            off = λ k i j. h .off k i (keep-mem (lower t) D j .0);
-            above = λ k i. let z = h .above k i in omega arith;
-            underI = top;
-            underD = λ k i. ltb-true (rankKey k) (rankKey t) (keep-mem (lower t) D i .1);
-            deep = deep′;
-          }
+      fill-dead r>t top = fill-by P I (h .upP) (h .upI) (λ k i. inr i) (λ k i. i) r>t top
 
       pub filled-dead : has t D ≡ true → ((k : ℕ) → List·Memᴰ k (keys I) → rankKey k < rankKey t) → (k : ℕ) → within lo hi k ≡ true
           → say P I (keep (lower t) D) k (below′ k) ≡ say P I D k (below k)
@@ -199,32 +193,16 @@ module _ (lo hi : ℕ) (full : hi ≤ allKeys) where
 
     -- nothing in I and nothing live below: D may go
     pub fill-ends : ((k : ℕ) → below k ≡ none) → Ready lo hi r P I [] below
-    fill-ends e =
-        record { upP = h .upP; upI = h .upI; upD = refl; inP = h .inP; inI = h .inI; inD = λ k i. absurd (List·Memᴰ·not-nil i); off = λ k i j. List·Memᴰ·not-nil j; above = h .above; underI = h .underI; underD = λ k i. absurd (List·Memᴰ·not-nil i); deep = h .deep }
+    fill-ends e = ready-fewer h (h .upP) (h .upI) refl (λ k i. i) (λ k i. i) (λ k i. absurd (List·Memᴰ·not-nil i)) (h .deep)
 
     pub filled-ends : ((k : ℕ) → below k ≡ none) → (k : ℕ) → say P I [] k (below k) ≡ say P I D k (below k)
-    filled-ends e k = rw (e k) (ap (λ (o : Option ℕ). orElse (find k P) (orElse (find k I) o)) (cond-none (has k D)))
-      where
-        cond-none : (b : Bool) → none ≡ cond {A = Option ℕ} b none none
-        cond-none true = refl
-        cond-none false = refl
+    filled-ends e k = rw (e k) (ap (λ (o : Option ℕ). orElse (find k P) (orElse (find k I) o)) (sym (cond-none (has k D))))
 
     -- a key taken out of all three
     pub taken : (t : ℕ) → Ready lo hi r (only (but t) P) (only (but t) I) (keep (but t) D) below
     taken t =
-        record {
-          upP = only-rises (but t) P (h .upP);
-          upI = only-rises (but t) I (h .upI);
-          upD = keep-rises (but t) 0 D (h .upD);
-          inP = λ k i. h .inP k (only-mem (but t) P i .0);
-          inI = λ k i. h .inI k (only-mem (but t) I i .0);
-          inD = λ k i. h .inD k (keep-mem (but t) D i .0);
-          off = λ k i j. h .off k (only-mem (but t) I i .0) (keep-mem (but t) D j .0);
-          above = λ k i. h .above k (only-mem (but t) P i .0);
-          underI = λ k i. h .underI k (only-mem (but t) I i .0);
-          underD = λ k i. h .underD k (keep-mem (but t) D i .0);
-          deep = h .deep;
-        }
+        ready-fewer h (only-rises (but t) P (h .upP)) (only-rises (but t) I (h .upI)) (keep-rises (but t) 0 D (h .upD))
+        (λ k i. only-mem (but t) P i .0) (λ k i. only-mem (but t) I i .0) (λ k i. keep-mem (but t) D i .0) (h .deep)
 
     say-taken : (t k : ℕ) (d : Option ℕ) → say (only (but t) P) (only (but t) I) (keep (but t) D) k d ≡ cond (eqb k t) d (say P I D k d)
     say-taken t k d = rw (find-only (but t) k P, find-only (but t) k I, has-keep (but t) k D) (go (eqb k t))
@@ -245,20 +223,7 @@ module _ (lo hi : ℕ) (full : hi ≤ allKeys) where
 
     -- take_top of a node: the same, where t is a key of P
     pub top-taken : (t : ℕ) → List·Memᴰ t (keys P) → Ready lo hi r (only (but t) P) I D below
-    top-taken t j =
-        record {
-          upP = only-rises (but t) P (h .upP);
-          upI = h .upI;
-          upD = h .upD;
-          inP = λ k i. h .inP k (only-mem (but t) P i .0);
-          inI = h .inI;
-          inD = h .inD;
-          off = h .off;
-          above = λ k i. h .above k (only-mem (but t) P i .0);
-          underI = h .underI;
-          underD = h .underD;
-          deep = h .deep;
-        }
+    top-taken t j = ready-fewer h (only-rises (but t) P (h .upP)) (h .upI) (h .upD) (λ k i. only-mem (but t) P i .0) (λ k i. i) (λ k i. i) (h .deep)
 
     pub top-gone : (t : ℕ) → List·Memᴰ t (keys P) → (k : ℕ) → say (only (but t) P) I D k (below k) ≡ cond (eqb k t) none (say P I D k (below k))
     top-gone t j k = rw (find-only (but t) k P) (go (same-or-not k t))
@@ -268,24 +233,24 @@ module _ (lo hi : ℕ) (full : hi ≤ allKeys) where
         go (inr n) = rw (ne-eqb k t n)
 
     -- a delete under r goes to D
-    pub delete-low : (t : ℕ) → within lo hi t ≡ true → rankKey t < r → Ready lo hi r (only (but t) P) (only (but t) I) (putKey t (keep (but t) D)) below
+    pub delete-low : (t : ℕ) → within lo hi t ≡ true → rankKey t < r → Ready lo hi r (only (but t) P) (only (but t) I) (insertKey t (keep (but t) D)) below
     delete-low t w g =
         record {
           upP = only-rises (but t) P (h .upP);
           upI = only-rises (but t) I (h .upI);
-          upD = putKey-rises 0 t (keep (but t) D) (omega arith) (keep-rises (but t) 0 D (h .upD)) (λ i. but-not t t (keep-mem (but t) D i .1) refl);
+          upD = insertKey-rises 0 t (keep (but t) D) (omega arith) (keep-rises (but t) 0 D (h .upD)) (λ i. but-not t t (keep-mem (but t) D i .1) refl);
           inP = λ k i. h .inP k (only-mem (but t) P i .0);
           inI = λ k i. h .inI k (only-mem (but t) I i .0);
-          inD = λ k i. ⊎-elim (λ (e : k ≡ t). rw e w) (λ j. h .inD k (keep-mem (but t) D j .0)) (putKey-mem t (keep (but t) D) i);
-          off = λ k i j. let m = only-mem (but t) I i in ⊎-elim (λ e. but-not t k (m .1) e) (λ u. h .off k (m .0) (keep-mem (but t) D u .0)) (putKey-mem t (keep (but t) D) j);
+          inD = λ k i. ⊎-elim (λ (e : k ≡ t). rw e w) (λ j. h .inD k (keep-mem (but t) D j .0)) (insertKey-mem t (keep (but t) D) i);
+          off = λ k i j. let m = only-mem (but t) I i in ⊎-elim (λ e. but-not t k (m .1) e) (λ u. h .off k (m .0) (keep-mem (but t) D u .0)) (insertKey-mem t (keep (but t) D) j);
           above = λ k i. h .above k (only-mem (but t) P i .0);
           underI = λ k i. h .underI k (only-mem (but t) I i .0);
-          underD = λ k i. ⊎-elim (λ (e : k ≡ t). rw e g) (λ j. h .underD k (keep-mem (but t) D j .0)) (putKey-mem t (keep (but t) D) i);
+          underD = λ k i. ⊎-elim (λ (e : k ≡ t). rw e g) (λ j. h .underD k (keep-mem (but t) D j .0)) (insertKey-mem t (keep (but t) D) i);
           deep = h .deep;
         }
 
-    pub deleted-low : (t k : ℕ) → say (only (but t) P) (only (but t) I) (putKey t (keep (but t) D)) k (below k) ≡ cond (eqb k t) none (say P I D k (below k))
-    deleted-low t k = rw (find-only (but t) k P, find-only (but t) k I, has-putKey k t (keep (but t) D), has-keep (but t) k D) (go (eqb k t))
+    pub deleted-low : (t k : ℕ) → say (only (but t) P) (only (but t) I) (insertKey t (keep (but t) D)) k (below k) ≡ cond (eqb k t) none (say P I D k (below k))
+    deleted-low t k = rw (find-only (but t) k P, find-only (but t) k I, has-insertKey k t (keep (but t) D), has-keep (but t) k D) (go (eqb k t))
       where
         go : (b : Bool)
             → orElse (cond (not b) (find k P) none) (orElse (cond (not b) (find k I) none) (cond (b || cond (not b) (has k D) false) none (below k))) ≡ cond b none (say P I D k (below k))

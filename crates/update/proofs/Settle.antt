@@ -1,6 +1,6 @@
 -- Settle's own steps on a node in memory: a batch of inserts or of deletes, and the lowest of P to I.
 -- Assumes nothing.
-use mathlib.Core.Path.{_≡_, refl, ap, sym, _∙_}
+use mathlib.Core.Path.{_≡_, ap, _∙_}
 use mathlib.Core.Bool.{true, cond}
 use mathlib.Core.List.{List, List·Memᴰ}
 use mathlib.Core.Option.{Option, none, some}
@@ -9,12 +9,13 @@ use Rattle.octets.specs.Lists.{has}
 use Rattle.spot.specs.declared.Spot.{Spot}
 use Rattle.spot.specs.Spots.{keys, find, put}
 use Rattle.spot.specs.Keys.{rankKey, allKeys, within}
+use Rattle.spot.specs.Sorted.{only, but}
+use Rattle.spot.proofs.Buffers.{find-mem}
 use Rattle.block.specs.declared.Entry.{Entry}
 use Rattle.block.specs.Node.{Store}
 use Rattle.tree.specs.Lookup.{orElse}
-use Rattle.tree.proofs.Buffers.{only, find-mem}
-use Rattle.update.proofs.Ready.{but}
-use Rattle.update.proofs.Moves.{Held, insertAll, deleteAll, insert-all, delete-all, spill, spilled}
+use Rattle.update.specs.Held.{Held, insertAll, deleteAll}
+use Rattle.update.proofs.Moves.{insert-all, delete-all, spill, spilled}
 use Rattle.update.proofs.Open.{under, Open, open-held}
 
 module _ (l : ℕ) (m : Store) (lo hi : ℕ) (full : hi ≤ allKeys) (r : ℕ) (es : List Entry) (b : Held) (f : ℕ → Option ℕ) (o : Open l m lo hi r es b f) where

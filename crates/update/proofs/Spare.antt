@@ -1,37 +1,32 @@
 -- Spare blocks: what an update may take, what it took, and one child of many.
 -- Assumes nothing.
-use mathlib.Core.Path.{_≡_, refl, ap, ap₂, sym, _∙_, subst, subst⁻¹}
+use mathlib.Core.Path.{_≡_, refl, ap, sym, _∙_, subst, subst⁻¹}
 use mathlib.Core.Logic.{_⊎_, inl, inr, ⊎-elim}
-use mathlib.Core.Bool.{Bool, true, false, cond, _&&_, true≢false}
-use mathlib.Core.List.{List, [], _∷_, _++_, List·Memᴰ, List·Memᴰ·head, List·Memᴰ·tail, List·Memᴰ·not-nil, List·Memᴰ·cases-cons, Memᴰ·append-left, Memᴰ·append-right, append-nil}
-use mathlib.Core.Option.{Option, none, some}
-use Prim.Native.Nat.{ℕ, zero, suc, _<_, _≤_}
+use mathlib.Core.Bool.{true}
+use mathlib.Core.List.{List, [], _∷_, _++_, List·Memᴰ, Memᴰ·append-left, Memᴰ·append-right}
+use mathlib.Core.Option.{Option}
+use Prim.Native.Nat.{ℕ, suc, _<_}
 use native.Mathlib.Omega.{arith}
-use lib.Dec.{eqb, leb}
-use borrow.Author.Tests.{leb-true, le-leb}
-use Rattle.octets.specs.Lists.{every, distinct, rest, rising, risingFrom}
-use Rattle.spot.specs.declared.Spot.{Spot}
-use Rattle.spot.specs.Spots.{keys}
-use Rattle.spot.specs.Keys.{rankKey, allKeys, within}
+use lib.Dec.{leb}
+use borrow.Author.Tests.{le-leb}
+use Rattle.octets.specs.Lists.{rest, rising, risingFrom}
+use Rattle.octets.proofs.Tests.{and-left, and-right, and-both, every-left, every-right}
+use Rattle.octets.proofs.Sets.{Apart, in-or-not, distinct-split}
+use Rattle.octets.proofs.Rising.{rises-after}
 use Rattle.block.specs.declared.Entry.{Entry}
-use Rattle.block.specs.Node.{Node, Store}
-use Rattle.block.specs.declared.Asked.the-variants.{Child}
-use Rattle.block.specs.NodeRules.{lows, agrees}
-use Rattle.tree.specs.Part.{Part, nextLow, parts}
-use Rattle.tree.specs.Lookup.{down, lookup}
-use Rattle.tree.specs.Reach.{gather, reach}
+use Rattle.block.specs.Node.{Store}
+use Rattle.block.specs.NodeRules.{lows}
+use Rattle.tree.specs.Part.{Part, nextLow}
+use Rattle.tree.specs.Reach.{reach}
 use Rattle.tree.specs.Sound.{soundAt}
-use Rattle.tree.proofs.Laws.{and-left, and-right, and-both, every-mem}
-use Rattle.tree.proofs.Canon.{some≢none}
-use Rattle.tree.proofs.Sets.{Apart, in-or-not, distinct-split, every-left, every-right, every-join}
-use Rattle.tree.proofs.Frame.{gather-append}
-use Rattle.update.proofs.Change.{covers, reaches, Sound, Changed, changed-trans}
-use Rattle.update.proofs.Spread.{Steps, within-yes, within-from, within-to}
+use Rattle.tree.proofs.Gather.{gather-append}
+use Rattle.update.proofs.Change.{reaches, Sound, Changed, changed-trans}
 
 -- spare blocks s became s′: those taken
 abbrev pub Taken : List ℕ → List ℕ → ℕ → Type 0
 Taken s s′ z = List·Memᴰ z s × (List·Memᴰ z s′ → ⊥)
 
+-- no block was added
 abbrev pub Within : List ℕ → List ℕ → Type 0
 Within s′ s = (z : ℕ) → List·Memᴰ z s′ → List·Memᴰ z s
 
@@ -63,6 +58,7 @@ sound-one l m us c vs s =
       once = distinct-split (reaches l m (c ∷ [])) (reaches l m vs) (rw (gather-append (reach l m) (c ∷ []) vs) at (d .right)) .left;
     }
 
+-- the same of spare blocks
 pub apart-one : (l : ℕ) (m : Store) (s : List ℕ) (us : List Part) (c : Part) (vs : List Part) → Apart s (reaches l m (us ++ ((c ∷ []) ++ vs))) → Apart s (reaches l m (c ∷ []))
 apart-one l m s us c vs a z i j =
     a z i (rw (gather-append (reach l m) us ((c ∷ []) ++ vs), gather-append (reach l m) (c ∷ []) vs) (Memᴰ·append-right (reaches l m us) (Memᴰ·append-left (reaches l m vs) j)))
@@ -83,14 +79,11 @@ rises-from : (a b hi : ℕ) (vs : List Entry) → b < nextLow vs hi → risingFr
 rises-from a b hi [] h r = refl
 rises-from a b hi (v ∷ vs) h r = and-both (leb (suc b) (v .low)) _ (le-leb (suc b) (v .low) h) (and-right (leb a (v .low)) (risingFrom (suc (v .low)) (lows vs)) r)
 
-rises-after : (a : ℕ) (xs : List ℕ) (y : ℕ) (zs : List ℕ) → risingFrom a (xs ++ (y ∷ zs)) ≡ true → risingFrom (suc y) zs ≡ true
-rises-after a [] y zs r = and-right (leb a y) (risingFrom (suc y) zs) r
-rises-after a (x ∷ xs) y zs r = rises-after (suc x) xs y zs (and-right (leb a x) (risingFrom (suc x) (xs ++ (y ∷ zs))) r)
-
 -- first child: only the next low bounds the new one; any other: the entry's own low too
 pub lows-first : (hi : ℕ) (e e₁ e₂ : Entry) (vs : List Entry) → e₂ .low < nextLow vs hi → rising (rest (lows (e ∷ vs))) ≡ true → rising (rest (lows ((e₁ ∷ e₂ ∷ []) ++ vs))) ≡ true
 lows-first hi e e₁ e₂ vs h r = and-both (leb 0 (e₂ .low)) _ (le-leb 0 (e₂ .low) (omega arith)) (rises-from 0 (e₂ .low) hi vs h r)
 
+-- where it is not the first child
 pub lows-two : (hi : ℕ) (u : Entry) (us : List Entry) (e e₁ e₂ : Entry) (vs : List Entry) → e₁ .low ≡ e .low → e .low < e₂ .low → e₂ .low < nextLow vs hi
     → rising (rest (lows ((u ∷ us) ++ (e ∷ vs)))) ≡ true → rising (rest (lows ((u ∷ us) ++ ((e₁ ∷ e₂ ∷ []) ++ vs)))) ≡ true
 lows-two hi u us e e₁ e₂ vs same h g r =
@@ -98,5 +91,6 @@ lows-two hi u us e e₁ e₂ vs same h g r =
     subst⁻¹ (λ (xs : List ℕ). risingFrom 0 xs ≡ true) (lows-append us ((e₁ ∷ e₂ ∷ []) ++ vs) ∙ ap (λ (y : ℕ). lows us ++ (y ∷ e₂ .low ∷ lows vs)) same)
     (rises-two 0 (lows us) (e .low) (e₂ .low) (lows vs) h (rises-from (suc (e .low)) (e₂ .low) hi vs g (rises-after 0 (lows us) (e .low) (lows vs) r′)) r′)
 
+-- where one entry became one
 pub lows-same : (us : List Entry) (e e₁ : Entry) (vs : List Entry) → e₁ .low ≡ e .low → lows (us ++ ((e₁ ∷ []) ++ vs)) ≡ lows (us ++ (e ∷ vs))
 lows-same us e e₁ vs h = lows-append us (e₁ ∷ vs) ∙ ap (λ (y : ℕ). lows us ++ (y ∷ lows vs)) h ∙ sym (lows-append us (e ∷ vs))

@@ -1,40 +1,45 @@
 -- fill and take_top, whole, as functions of stores: for every sound part whose P isn't empty there is a store in which its top is gone, and nothing else changed.
 -- Assumes nothing.
-use mathlib.Core.Path.{_≡_, refl, ap, ap₂, sym, _∙_, subst, subst⁻¹}
+use mathlib.Core.Path.{_≡_, refl, ap, sym, _∙_, subst, subst⁻¹}
 use mathlib.Core.Logic.{_⊎_, inl, inr, ⊎-elim}
-use mathlib.Core.Bool.{Bool, true, false, not, cond, _&&_, _||_, true≢false, false≢true}
-use mathlib.Core.List.{List, [], _∷_, _++_, map, List·Memᴰ, List·Memᴰ·head, List·Memᴰ·tail, List·Memᴰ·not-nil, List·Memᴰ·cases-cons, Memᴰ·append-left, Memᴰ·append-right, List·Memᴰ·append-cases}
+use mathlib.Core.Bool.{Bool, true, false, cond}
+use mathlib.Core.List.{List, [], _∷_, _++_, List·Memᴰ, List·Memᴰ·head, List·Memᴰ·not-nil, List·Memᴰ·cases-cons, Memᴰ·append-right}
 use mathlib.Core.Option.{Option, none, some}
 use Prim.Native.Nat.{ℕ, zero, suc, _<_, _≤_, _+_}
 use native.Mathlib.Omega.{arith}
 use lib.ListN.{length}
-use lib.Dec.{eqb, ltb, leb}
-use borrow.Author.Tests.{eqb-true, eqb-false, eq-eqb, ne-eqb, ltb-true, lt-ltb, le-ltb, leb-true, leb-false, le-leb}
-use Rattle.tree.proofs.Laws.{and-left}
-use Rattle.octets.specs.Lists.{every, keep, has, isEmpty, rest, rising}
+use lib.Dec.{eqb}
+use borrow.Author.Tests.{eqb-true, le-ltb}
+use Rattle.octets.specs.Lists.{keep, has}
+use Rattle.octets.proofs.Tests.{and-left, keep-length, length-keep-less}
+use Rattle.octets.proofs.Order.{same-or-not, less-or-not}
+use Rattle.octets.proofs.Sets.{has-mem}
 use Rattle.spot.specs.declared.Spot.{Spot}
 use Rattle.spot.specs.Spots.{keys, find, put}
 use Rattle.spot.specs.Keys.{rankKey, allKeys, within}
+use Rattle.spot.specs.Sorted.{only, but, lower}
+use Rattle.spot.proofs.Canon.{some≢none, length-put}
+use Rattle.spot.proofs.Places.{within-from, within-to, within-yes}
+use Rattle.spot.proofs.Halves.{rank-inj}
+use Rattle.spot.proofs.Buffers.{mem-find, length-only}
 use Rattle.block.specs.declared.Entry.{Entry}
-use Rattle.block.specs.Node.{Node, Store}
-use Rattle.block.specs.declared.Asked.{Asked}
+use Rattle.block.specs.Node.{Store}
 use Rattle.block.specs.declared.Asked.the-variants.{Child}
 use Rattle.block.specs.NodeRules.{lows, zeroFirst}
-use Rattle.tree.specs.Part.{Part, nextLow, parts}
-use Rattle.tree.specs.Lookup.{down, lookup}
-use Rattle.tree.specs.Reach.{reach}
+use Rattle.tree.specs.Part.{Part, parts}
+use Rattle.tree.specs.Lookup.{lookup}
 use Rattle.tree.specs.Sound.{soundAt}
-use Rattle.tree.proofs.Canon.{same-or-not, less-or-not, some≢none}
-use Rattle.tree.proofs.Sets.{Apart, has-mem, in-or-not}
+use Rattle.tree.proofs.Entries.{Highest, highest}
+use Rattle.tree.proofs.Below.{sizes-none}
+use Rattle.tree.proofs.Ranges.{part-bounds}
+use Rattle.update.specs.Held.{Held}
 use Rattle.update.proofs.Change.{reaches, Sound, Changed}
-use Rattle.update.proofs.Spread.{Steps, start, childAt, parts-one, part-bounds, within-from, within-to, within-yes}
-use Rattle.tree.proofs.Buffers.{rank-inj, only, mem-find, keep-mem}
-use Rattle.update.proofs.Ready.{but, lower}
-use Rattle.update.proofs.Moves.{Held}
+use Rattle.update.proofs.Spread.{start, childAt, parts-one}
 use Rattle.update.proofs.Open.{under, Open}
 use Rattle.update.proofs.Fill.{under-child, open-ends, open-fill-I, open-fill-both, open-fill-child, open-fill-dead}
 use Rattle.update.proofs.Spare.{Taken, lows-same}
-use Rattle.update.proofs.Best.{tops-bound, sizes-none, tops-none, Top, top-of}
+use Rattle.update.proofs.Best.{tops-bound, tops-none}
+use Rattle.update.proofs.Node.{Top, top-of}
 use Rattle.update.proofs.Going.{Going, going-held, going-child, going-fresh, going-on}
 use Rattle.update.proofs.Loose.{part}
 
@@ -46,24 +51,11 @@ pub record Took (l : ℕ) (x : Store) (c : Part) (e : Entry) : Type 0 where
   pub block : entry .block ≡ e .block
   pub changed : Changed l (Taken [] []) x (c ∷ []) store (part (entry .block) (Child entry) (c .lo) (c .hi) ∷ []) (λ k. cond (eqb k (e .top)) none (lookup l x k c))
 
+-- the promise at every store
 abbrev pub TakeTop : ℕ → Type 0
 TakeTop l =
     (x : Store) (c : Part) (e : Entry) → c .asked ≡ Child e → c .block ≡ e .block → (e .size ≡ 0 → ⊥) → e .low ≤ c .lo → c .lo ≤ c .hi → c .hi ≤ allKeys
     → Sound l x (c ∷ []) → Took l x c e
-
--- the highest of the inserts, and the highest of the tops
-pub highest : (ss : List Spot) → (ss ≡ []) ⊎ ((s : Spot) × (List·Memᴰ (s .key) (keys ss)) × ((k : ℕ) → List·Memᴰ k (keys ss) → rankKey k ≤ rankKey (s .key)))
-highest [] = inl refl
-highest (s ∷ ss) = inr (go (highest ss))
-  where
-    go : (ss ≡ []) ⊎ ((t : Spot) × (List·Memᴰ (t .key) (keys ss)) × ((k : ℕ) → List·Memᴰ k (keys ss) → rankKey k ≤ rankKey (t .key)))
-        → (t : Spot) × (List·Memᴰ (t .key) (keys (s ∷ ss))) × ((k : ℕ) → List·Memᴰ k (keys (s ∷ ss)) → rankKey k ≤ rankKey (t .key))
-    go (inl e) = (s, List·Memᴰ·head refl, λ k i. ⊎-elim (λ (h : k ≡ s .key). let z : rankKey k ≡ rankKey (s .key) = ap rankKey h in omega arith) (λ j. absurd (List·Memᴰ·not-nil (subst (λ (xs : List Spot). List·Memᴰ k (keys xs)) e j))) (List·Memᴰ·cases-cons i))
-    go (inr t) =
-        ⊎-elim
-        (λ (g : rankKey (s .key) ≤ rankKey (t .0 .key)). (t .0, List·Memᴰ·tail (t .1), λ k i. ⊎-elim (λ (h : k ≡ s .key). let z : rankKey k ≡ rankKey (s .key) = ap rankKey h in omega arith) (λ j. t .2 k j) (List·Memᴰ·cases-cons i)))
-        (λ (g : rankKey (t .0 .key) < rankKey (s .key)). (s, List·Memᴰ·head refl, λ k i. ⊎-elim (λ (h : k ≡ s .key). let z : rankKey k ≡ rankKey (s .key) = ap rankKey h in omega arith) (λ j. let z = t .2 k j in omega arith) (List·Memᴰ·cases-cons i)))
-        (less-or-not (rankKey (s .key)) (rankKey (t .0 .key)))
 
 -- an entry with points whose top none exceeds, and what stands on both sides
 pub record Chosen (es : List Entry) : Type 0 where
@@ -96,40 +88,7 @@ choose (e ∷ es) = go (same-or-not (e .size) 0) (choose es)
     go (inr n) (inr c) =
         inr (⊎-elim (λ (g : rankKey (e .top) ≤ rankKey (c .entry .top)). later c (λ m. g)) (λ (g : rankKey (c .entry .top) < rankKey (e .top)). first n (λ d i m. let z = c .best d i m in omega arith)) (less-or-not (rankKey (e .top)) (rankKey (c .entry .top))))
 
--- lengths
-length-keep : (g : ℕ → Bool) (xs : List ℕ) → length (keep g xs) ≤ length xs
-length-keep g [] = omega arith
-length-keep g (x ∷ xs) = go (g x) (length-keep g xs)
-  where
-    go : (b : Bool) → length (keep g xs) ≤ length xs → length (cond b (x ∷ keep g xs) (keep g xs)) ≤ suc (length xs)
-    go true h = omega arith
-    go false h = omega arith
-
-length-keep-less : (g : ℕ → Bool) (xs : List ℕ) (t : ℕ) → List·Memᴰ t xs → g t ≡ false → length (keep g xs) < length xs
-length-keep-less g [] t i e = absurd (List·Memᴰ·not-nil i)
-length-keep-less g (x ∷ xs) t i e = go (g x) refl (List·Memᴰ·cases-cons i) (λ j. length-keep-less g xs t j e)
-  where
-    go : (b : Bool) → g x ≡ b → (t ≡ x) ⊎ List·Memᴰ t xs → (List·Memᴰ t xs → length (keep g xs) < length xs) → length (cond b (x ∷ keep g xs) (keep g xs)) < suc (length xs)
-    go true q (inl h) ih = absurd (true≢false (sym q ∙ sym (ap g h) ∙ e))
-    go true q (inr j) ih = let z = ih j in omega arith
-    go false q j ih = let z = length-keep g xs in omega arith
-
-pub length-only : (g : ℕ → Bool) (ss : List Spot) → length (only g ss) ≤ length ss
-length-only g [] = omega arith
-length-only g (s ∷ ss) = go (g (s .key)) (length-only g ss)
-  where
-    go : (b : Bool) → length (only g ss) ≤ length ss → length (cond b (s ∷ only g ss) (only g ss)) ≤ suc (length ss)
-    go true h = omega arith
-    go false h = omega arith
-
-length-put : (s : Spot) (xs : List Spot) → length (put s xs) ≡ suc (length xs)
-length-put s [] = refl
-length-put s (x ∷ xs) = go (leb (s .key) (x .key)) (length-put s xs)
-  where
-    go : (b : Bool) → length (put s xs) ≡ suc (length xs) → length (cond b (s ∷ x ∷ xs) (x ∷ put s xs)) ≡ suc (suc (length xs))
-    go true h = refl
-    go false h = ap suc h
-
+-- the blocks of some entries
 abbrev pub blocks : List Entry → List ℕ
 blocks [] = []
 blocks (e ∷ es) = e .block ∷ blocks es
@@ -151,6 +110,7 @@ pub record Loop (ni nd l lo hi : ℕ) (x : Store) (es₀ : List Entry) (y : Stor
 abbrev pub Full : List Entry → Held → Type 0
 Full es b = (32 ≤ length (b .points)) ⊎ ((length (b .points) < 32) × (b .inserts ≡ []) × (b .deletes ≡ []) × ((d : Entry) → List·Memᴰ d es → d .size ≡ 0))
 
+-- the store and the node in memory at the end
 pub record Filled (ni nd l lo hi : ℕ) (x : Store) (es₀ : List Entry) (f : ℕ → Option ℕ) : Type 0 where
   pub store : Store
   pub rank : ℕ
@@ -232,13 +192,13 @@ module _ (ni nd l lo hi : ℕ) (full : hi ≤ allKeys) (x : Store) (es₀ : List
         go : (q : Bool) → has t (b .deletes) ≡ q → Filled ni nd l lo hi x es₀ f
         go true d =
             let b′ : Held = record { points = b .points; inserts = b .inserts; deletes = keep (lower t) (b .deletes) } in
-            let z = length-keep-less (lower t) (b .deletes) t (has-mem t (b .deletes) d) (le-ltb (rankKey t) (rankKey t) (omega arith)) in
+            let z = length-keep-less (lower t) (b .deletes) (has-mem t (b .deletes) d) (le-ltb (rankKey t) (rankKey t) (omega arith)) in
             ih (took .store) (rankKey t) (us ++ ((took .entry ∷ []) ++ vs)) b′
             (next (rankKey t) b′ (p .fewP) (p .fewI) (omega (arith, z, p .fewD)) (open-fill-dead l (Taken [] []) y (took .store) lo hi full r us vs e (took .entry) b f t (took .low) o fresh (took .changed) (top .inside) highest-below wt (top .track) live under-t d))
             (omega (arith, z, enough))
         go false d =
             let b′ : Held = record { points = put s (b .points); inserts = b .inserts; deletes = keep (lower t) (b .deletes) } in
-            let z = length-keep (lower t) (b .deletes) in
+            let z = keep-length (lower t) (b .deletes) in
             let n = length-put s (b .points) in
             ih (took .store) (rankKey t) (us ++ ((took .entry ∷ []) ++ vs)) b′
             (next (rankKey t) b′ (omega (arith, n, less)) (p .fewI) (omega (arith, z, p .fewD)) (open-fill-child l (Taken [] []) y (took .store) lo hi full r us vs e (took .entry) b f t (took .low) o fresh (took .changed) (top .inside) highest-below wt s refl live under-t d))
@@ -249,7 +209,7 @@ module _ (ni nd l lo hi : ℕ) (full : hi ≤ allKeys) (x : Store) (es₀ : List
     unfolding Next
     round-both fuel less enough i at-t found-t under-t ih =
         let b′ : Held = record { points = put i (b .points); inserts = only (but t) (b .inserts); deletes = keep (lower t) (b .deletes) } in
-        let z = length-keep (lower t) (b .deletes) in
+        let z = keep-length (lower t) (b .deletes) in
         let n = length-put i (b .points) in
         let w = length-only (but t) (b .inserts) in
         ih (took .store) (rankKey t) (us ++ ((took .entry ∷ []) ++ vs)) b′
@@ -265,7 +225,7 @@ module _ (ni nd l lo hi : ℕ) (full : hi ≤ allKeys) (x : Store) (es₀ : List
       → ((k a : ℕ) → under l y lo hi es k ≡ some a → rankKey k ≤ rankKey (s .key)) → under l y lo hi es (s .key) ≡ none → Going-on fuel → Filled ni nd l lo hi x es₀ f
   round-I fuel y r es b p less enough s i g top best gone ih =
       let b′ : Held = record { points = put s (b .points); inserts = only (but (s .key)) (b .inserts); deletes = keep (lower (s .key)) (b .deletes) } in
-      let z = length-keep (lower (s .key)) (b .deletes) in
+      let z = keep-length (lower (s .key)) (b .deletes) in
       let n = length-put s (b .points) in
       let w = length-only (but (s .key)) (b .inserts) in
       ih y (rankKey (s .key)) es b′
@@ -289,7 +249,7 @@ module _ (ni nd l lo hi : ℕ) (full : hi ≤ allKeys) (x : Store) (es₀ : List
         entries = es;
         held = b′;
         loop = record {
-          going = going-held l lo hi x [] es₀ y [] r r es b b′ f f (p .going) (open-ends l y lo hi full r es b f (p .going .node) (sizes-none l y lo hi es (p .going .node .kids) z));
+          going = going-held l lo hi x [] es₀ y [] r r es b b′ f f (p .going) (open-ends l y lo hi full r es b f (p .going .node) (sizes-none l y lo hi es (p .going .node .kids .each) z));
           sameLows = p .sameLows;
           sameBlocks = p .sameBlocks;
           fewP = p .fewP;
@@ -306,14 +266,14 @@ module _ (ni nd l lo hi : ℕ) (full : hi ≤ allKeys) (x : Store) (es₀ : List
   fill (suc fuel) y r es b p h = go (less-or-not 32 (length (b .points))) (highest (b .inserts)) (choose es) (λ y′ r′ es′ b′ q g. fill fuel y′ r′ es′ b′ q g)
     where
       go : (32 ≤ length (b .points)) ⊎ (length (b .points) < 32)
-          → (b .inserts ≡ []) ⊎ ((s : Spot) × (List·Memᴰ (s .key) (keys (b .inserts))) × ((k : ℕ) → List·Memᴰ k (keys (b .inserts)) → rankKey k ≤ rankKey (s .key)))
+          → (b .inserts ≡ []) ⊎ ((t : ℕ) × Highest (b .inserts) t)
           → ((d : Entry) → List·Memᴰ d es → d .size ≡ 0) ⊎ Chosen es → Going-on fuel → Filled ni nd l lo hi x es₀ f
       go (inl e) i c ih = record { store = y; rank = r; entries = es; held = b; loop = p; full = inl e }
       go (inr less) (inl i) (inl z) ih = round-none y r es b p less i z
       go (inr less) (inr s) (inl z) ih =
-          let m = mem-find (s .0 .key) (b .inserts) (s .1) in
-          let none-below = sizes-none l y lo hi es (p .going .node .kids) z in
-          round-I fuel y r es b p less h (record { key = s .0 .key; track = m .0 }) (s .1) (m .1) (s .2) (λ k a e. absurd (some≢none (sym e ∙ none-below k))) (none-below (s .0 .key)) ih
+          let m = mem-find (s .0) (b .inserts) (s .1 .0) in
+          let none-below = sizes-none l y lo hi es (p .going .node .kids .each) z in
+          round-I fuel y r es b p less h (record { key = s .0; track = m .0 }) (s .1 .0) (m .1) (s .1 .1) (λ k a e. absurd (some≢none (sym e ∙ none-below k))) (none-below (s .0)) ih
       go (inr less) (inl i) (inr c) ih =
           let p′ : Loop ni nd l lo hi x es₀ y r (c .left ++ (c .entry ∷ c .right)) b f = subst (λ (q : List Entry). Loop ni nd l lo hi x es₀ y r q b f) (c .is) p in
           let best : (d : Entry) → List·Memᴰ d (c .left ++ (c .entry ∷ c .right)) → (d .size ≡ 0 → ⊥) → rankKey (d .top) ≤ rankKey (c .entry .top) = λ d j. c .best d (subst⁻¹ (λ (q : List Entry). List·Memᴰ d q) (c .is) j) in
@@ -321,17 +281,17 @@ module _ (ni nd l lo hi : ℕ) (full : hi ≤ allKeys) (x : Store) (es₀ : List
       go (inr less) (inr s) (inr c) ih =
           let p′ : Loop ni nd l lo hi x es₀ y r (c .left ++ (c .entry ∷ c .right)) b f = subst (λ (q : List Entry). Loop ni nd l lo hi x es₀ y r q b f) (c .is) p in
           let best : (d : Entry) → List·Memᴰ d (c .left ++ (c .entry ∷ c .right)) → (d .size ≡ 0 → ⊥) → rankKey (d .top) ≤ rankKey (c .entry .top) = λ d j. c .best d (subst⁻¹ (λ (q : List Entry). List·Memᴰ d q) (c .is) j) in
-          let m = mem-find (s .0 .key) (b .inserts) (s .1) in
+          let m = mem-find (s .0) (b .inserts) (s .1 .0) in
           let kids = p .going .node .kids in
           ⊎-elim
-          (λ (g : rankKey (s .0 .key) ≤ rankKey (c .entry .top)).
+          (λ (g : rankKey (s .0) ≤ rankKey (c .entry .top)).
           ⊎-elim
-          (λ (e : rankKey (s .0 .key) ≡ rankKey (c .entry .top)).
-          let w = within-to lo hi (s .0 .key) (p .going .node .ready .inI (s .0 .key) (s .1)) in
-          let same : s .0 .key ≡ c .entry .top = rank-inj (s .0 .key) (c .entry .top) (omega arith) (let v = within-to lo hi (c .entry .top) (wt y r (c .left) (c .right) (c .entry) b p′ (c .some-points) best) in omega arith) e in
-          round-both y r (c .left) (c .right) (c .entry) b p′ (c .some-points) best fuel less h (record { key = s .0 .key; track = m .0 }) same (sym (ap (λ (k : ℕ). find k (b .inserts)) same) ∙ m .1) (λ k j. let z = s .2 k j in omega arith) ih)
-          (λ (n : rankKey (s .0 .key) ≡ rankKey (c .entry .top) → ⊥). round-child y r (c .left) (c .right) (c .entry) b p′ (c .some-points) best fuel less h (λ k j. let z = s .2 k j in omega arith) ih)
-          (same-or-not (rankKey (s .0 .key)) (rankKey (c .entry .top))))
-          (λ (g : rankKey (c .entry .top) < rankKey (s .0 .key)).
-          round-I fuel y r es b p less h (record { key = s .0 .key; track = m .0 }) (s .1) (m .1) (s .2) (tops-bound l y lo hi es kids (rankKey (s .0 .key)) (λ d j n. let z = c .best d j n in omega arith)) (tops-none l y lo hi es kids (s .0 .key) (λ d j n. let z = c .best d j n in omega arith)) ih)
-          (less-or-not (rankKey (s .0 .key)) (rankKey (c .entry .top)))
+          (λ (e : rankKey (s .0) ≡ rankKey (c .entry .top)).
+          let w = within-to lo hi (s .0) (p .going .node .ready .inI (s .0) (s .1 .0)) in
+          let same : s .0 ≡ c .entry .top = rank-inj (s .0) (c .entry .top) (omega arith) (let v = within-to lo hi (c .entry .top) (wt y r (c .left) (c .right) (c .entry) b p′ (c .some-points) best) in omega arith) e in
+          round-both y r (c .left) (c .right) (c .entry) b p′ (c .some-points) best fuel less h (record { key = s .0; track = m .0 }) same (sym (ap (λ (k : ℕ). find k (b .inserts)) same) ∙ m .1) (λ k j. let z = s .1 .1 k j in omega arith) ih)
+          (λ (n : rankKey (s .0) ≡ rankKey (c .entry .top) → ⊥). round-child y r (c .left) (c .right) (c .entry) b p′ (c .some-points) best fuel less h (λ k j. let z = s .1 .1 k j in omega arith) ih)
+          (same-or-not (rankKey (s .0)) (rankKey (c .entry .top))))
+          (λ (g : rankKey (c .entry .top) < rankKey (s .0)).
+          round-I fuel y r es b p less h (record { key = s .0; track = m .0 }) (s .1 .0) (m .1) (s .1 .1) (tops-bound l y lo hi es kids (rankKey (s .0)) (λ d j n. let z = c .best d j n in omega arith)) (tops-none l y lo hi es kids (s .0) (λ d j n. let z = c .best d j n in omega arith)) ih)
+          (less-or-not (rankKey (s .0)) (rankKey (c .entry .top)))

@@ -1,81 +1,43 @@
 -- take_top for every level: the node is opened, its top taken out, filled, and stored.
 -- Assumes nothing.
-use mathlib.Core.Path.{_≡_, refl, ap, ap₂, sym, _∙_, subst, subst⁻¹}
+use mathlib.Core.Path.{_≡_, refl, ap, sym, _∙_, subst, subst⁻¹}
 use mathlib.Core.Logic.{_⊎_, inl, inr, ⊎-elim}
-use mathlib.Core.Bool.{Bool, true, false, not, cond, _&&_, _||_, true≢false, false≢true}
-use mathlib.Core.List.{List, [], _∷_, _++_, List·Memᴰ, List·Memᴰ·head, List·Memᴰ·tail, List·Memᴰ·not-nil, List·Memᴰ·cases-cons}
-use mathlib.Core.Option.{Option, none, some}
-use Prim.Native.Nat.{ℕ, zero, suc, _<_, _≤_, _+_}
+use mathlib.Core.Bool.{Bool, true, false, cond, _&&_, _||_, false≢true}
+use mathlib.Core.List.{List, [], _∷_, List·Memᴰ, List·Memᴰ·not-nil}
+use mathlib.Core.Option.{Option, none}
+use Prim.Native.Nat.{ℕ, zero, suc, _≤_, _+_}
 use native.Mathlib.Omega.{arith}
 use lib.ListN.{length}
-use lib.Dec.{eqb, ltb, leb}
-use borrow.Author.Tests.{eqb-true, eq-eqb, ne-eqb, ltb-true, leb-true, le-leb}
-use Rattle.tree.proofs.Below.{node-sound}
-use Rattle.tree.proofs.Laws.{every-mem, all-at, all-cons, all-nil, and-left, and-right, or-left}
-use Rattle.update.proofs.Spare.{Taken}
-use Rattle.octets.specs.Lists.{all, every, keep, has, isEmpty, rest, rising}
+use lib.Dec.{eqb, leb}
+use borrow.Author.Tests.{eqb-true, eq-eqb, ne-eqb, ltb-true, leb-true}
+use Rattle.octets.specs.Lists.{all, every, isEmpty}
+use Rattle.octets.proofs.Tests.{every-mem, all-at, all-cons, all-nil, and-left, or-left, empty-length, empty-list}
 use Rattle.spot.specs.declared.Spot.{Spot}
 use Rattle.spot.specs.Spots.{keys}
-use Rattle.spot.specs.Keys.{rankKey, allKeys, within}
+use Rattle.spot.specs.Keys.{rankKey, allKeys}
+use Rattle.spot.specs.Sorted.{only, but}
+use Rattle.spot.proofs.Buffers.{length-only}
 use Rattle.block.specs.declared.Entry.{Entry}
 use Rattle.block.specs.Node.{Node, Store}
 use Rattle.block.specs.Table.{blockOk}
-use Rattle.block.specs.declared.Asked.{Asked}
-use Rattle.block.specs.declared.Asked.the-variants.{Root, Child}
+use Rattle.block.specs.declared.Asked.the-variants.{Child}
 use Rattle.block.specs.NodeRules.{nodeOk, lows, lowsRise, agrees, filled, lowest, fewest, childCountOk, childBlocksOk, leafBuffersEmpty}
-use Rattle.tree.specs.Part.{Part, parts}
+use Rattle.tree.specs.Part.{Part}
 use Rattle.tree.specs.Lookup.{lookup}
-use Rattle.tree.specs.Reach.{reach}
 use Rattle.tree.specs.Sound.{soundAt, inRange}
-use Rattle.tree.proofs.Canon.{same-or-not, less-or-not}
-use Rattle.update.proofs.Change.{reaches, Sound, Changed}
-use Rattle.update.proofs.Spread.{within-to}
-use Rattle.tree.proofs.Buffers.{only}
-use Rattle.update.proofs.Ready.{but}
-use Rattle.update.proofs.Moves.{Held}
+use Rattle.tree.proofs.Below.{node-sound, sizes-filled, sizes-lowest}
+use Rattle.tree.proofs.Entries.{deepest, entry-for}
+use Rattle.tree.proofs.Empty.{none-length}
+use Rattle.update.specs.Held.{Held}
+use Rattle.update.proofs.Spare.{Taken}
+use Rattle.update.proofs.Change.{Sound, Changed}
 use Rattle.update.proofs.Loose.{part, Opened, opened}
-use Rattle.update.proofs.Open.{under, Open, heldOf, open-node, open-lowest}
+use Rattle.update.proofs.Open.{Open, heldOf, open-node, open-lowest}
 use Rattle.update.proofs.Fill.{open-take}
 use Rattle.update.proofs.Close.{Shape}
-use Rattle.update.proofs.Best.{Top, top-of}
-use Rattle.update.proofs.Going.{Going, going-start, going-done}
-use Rattle.tree.proofs.Entries.{agree-make, agree-empty}
-use Rattle.update.proofs.Sizes.{sizes-filled, sizes-lowest, length-but}
-use Rattle.update.proofs.TakeTop.{Took, TakeTop, highest, length-only, blocks, Loop, Full, Filled, fill}
-
--- the lowest of some spots
-deepest : (ss : List Spot) → (ss ≡ []) ⊎ ((q : ℕ) × List·Memᴰ q (keys ss) × ((k : ℕ) → List·Memᴰ k (keys ss) → rankKey q ≤ rankKey k))
-deepest [] = inl refl
-deepest (s ∷ ss) = inr (go (deepest ss))
-  where
-    go : (ss ≡ []) ⊎ ((q : ℕ) × List·Memᴰ q (keys ss) × ((k : ℕ) → List·Memᴰ k (keys ss) → rankKey q ≤ rankKey k))
-        → (q : ℕ) × List·Memᴰ q (keys (s ∷ ss)) × ((k : ℕ) → List·Memᴰ k (keys (s ∷ ss)) → rankKey q ≤ rankKey k)
-    go (inl e) = (s .key, List·Memᴰ·head refl, λ k i. ⊎-elim (λ (h : k ≡ s .key). let z : rankKey k ≡ rankKey (s .key) = ap rankKey h in omega arith) (λ j. absurd (List·Memᴰ·not-nil (subst (λ (xs : List Spot). List·Memᴰ k (keys xs)) e j))) (List·Memᴰ·cases-cons i))
-    go (inr t) =
-        ⊎-elim
-        (λ (g : rankKey (t .0) ≤ rankKey (s .key)). (t .0, List·Memᴰ·tail (t .1), λ k i. ⊎-elim (λ (h : k ≡ s .key). let z : rankKey k ≡ rankKey (s .key) = ap rankKey h in omega arith) (λ j. t .2 k j) (List·Memᴰ·cases-cons i)))
-        (λ (g : rankKey (s .key) < rankKey (t .0)). (s .key, List·Memᴰ·head refl, λ k i. ⊎-elim (λ (h : k ≡ s .key). let z : rankKey k ≡ rankKey (s .key) = ap rankKey h in omega arith) (λ j. let z = t .2 k j in omega arith) (List·Memᴰ·cases-cons i)))
-        (less-or-not (rankKey (t .0)) (rankKey (s .key)))
-
-empty-or-not : (ss : List Spot) → (ss ≡ []) ⊎ (isEmpty ss ≡ false)
-empty-or-not [] = inl refl
-empty-or-not (s ∷ ss) = inr refl
-
--- an entry for a node: in block b, from the entry e before
-pub entry-for : (b : ℕ) (e : Entry) (n : Node)
-    → (e′ : Entry) × (e′ .block ≡ b) × (e′ .low ≡ e .low) × (agrees (Child e′) n ≡ true)
-entry-for b e n = go (empty-or-not (n .points)) (highest (n .points)) (deepest (n .points))
-  where
-    go : (n .points ≡ []) ⊎ (isEmpty (n .points) ≡ false)
-        → (n .points ≡ []) ⊎ ((s : Spot) × List·Memᴰ (s .key) (keys (n .points)) × ((k : ℕ) → List·Memᴰ k (keys (n .points)) → rankKey k ≤ rankKey (s .key)))
-        → (n .points ≡ []) ⊎ ((q : ℕ) × List·Memᴰ q (keys (n .points)) × ((k : ℕ) → List·Memᴰ k (keys (n .points)) → rankKey q ≤ rankKey k))
-        → (e′ : Entry) × (e′ .block ≡ b) × (e′ .low ≡ e .low) × (agrees (Child e′) n ≡ true)
-    go (inl z) h d = let e′ : Entry = record { block = b; size = 0; low = e .low; top = e .top; bottom = e .bottom } in (e′, refl, refl, agree-empty e′ n refl z)
-    go (inr z) (inl h) d = absurd (true≢false (sym (ap isEmpty h) ∙ z))
-    go (inr z) (inr h) (inl d) = absurd (true≢false (sym (ap isEmpty d) ∙ z))
-    go (inr z) (inr h) (inr d) =
-        let e′ : Entry = record { block = b; size = length (n .points); low = e .low; top = h .0 .key; bottom = d .0 } in
-        (e′, refl, refl, agree-make e′ n refl (h .1) (h .2) (d .1) (d .2))
+use Rattle.update.proofs.Node.{Top, top-of}
+use Rattle.update.proofs.Going.{going-start, going-done}
+use Rattle.update.proofs.TakeTop.{Took, TakeTop, blocks, Loop, Full, Filled, fill}
 
 -- what hangs on the entries' blocks alone
 length-blocks : (es : List Entry) → length (blocks es) ≡ length es
@@ -89,14 +51,6 @@ empty-blocks (e ∷ es) = refl
 every-blocks : (room : ℕ) (es : List Entry) → every (λ e. blockOk room (e .block)) es ≡ every (blockOk room) (blocks es)
 every-blocks room [] = refl
 every-blocks room (e ∷ es) = ap (λ (b : Bool). blockOk room (e .block) && b) (every-blocks room es)
-
-none-left : {A : Type 0} (xs : List A) → length xs ≤ 0 → isEmpty xs ≡ true
-none-left [] h = refl
-none-left (x ∷ xs) h = let z : ⊥ = omega arith in absurd z
-
-empty-length : {A : Type 0} (xs : List A) → isEmpty xs ≡ true → length xs ≡ 0
-empty-length [] h = refl
-empty-length (x ∷ xs) h = absurd (false≢true h)
 
 -- the node after: the entries and buffers that fill left
 abbrev after : Node → List Entry → Held → Node
@@ -134,7 +88,7 @@ shape-of l c e e′ n es b asks ok inside same-lows same-blocks np ni nd ni₀ n
     leaf true h =
         let i = empty-length (n .inserts) (all-at _ h 0) in
         let d = empty-length (n .deletes) (all-at _ h 1) in
-        all-cons _ _ (none-left (b .inserts) (omega arith)) (all-cons _ _ (none-left (b .deletes) (omega arith)) all-nil)
+        all-cons _ _ (none-length (b .inserts) (omega arith)) (all-cons _ _ (none-length (b .deletes) (omega arith)) all-nil)
     leaf false h = refl
 
     sizes : Full es b → (filled (after n es b) || lowest (after n es b)) ≡ true
@@ -174,7 +128,7 @@ finish l x c e asks at-e low full s ni nd F =
     w z = cond (eqb z (c .block)) (after (x (c .block)) (F .entries) (F .held)) (F .store z)
 
     made : (d : Entry) × (d .block ≡ c .block) × (d .low ≡ e .low) × (agrees (Child d) (after (x (c .block)) (F .entries) (F .held)) ≡ true)
-    made = entry-for (c .block) e (after (x (c .block)) (F .entries) (F .held))
+    made = entry-for (c .block) (e .low) (after (x (c .block)) (F .entries) (F .held))
 
     e′ : Entry
     e′ = made .0
@@ -222,7 +176,7 @@ take-top (suc l) x c e asks at-e size low order full s = go (filled n) refl (tak
         let nd = leb-true (length (n .deletes)) 16 (all-at _ h 3) in
         ⊎-elim (λ (z : n .points ≡ []). absurd (List·Memᴰ·not-nil (subst (λ (xs : List Spot). List·Memᴰ (e .top) (keys xs)) z (t .point))))
         (λ q.
-        let p = start (rankKey (q .0)) np (open-node l x c order s (q .0) (q .1) (q .2)) in
+        let p = start (rankKey (q .0)) np (open-node l x c order s (q .0) (q .1 .0) (q .1 .1)) in
         finish l x c e asks at-e low full s ni nd
         (fill (length (n .inserts)) (length (n .deletes)) l (c .lo) (c .hi) full x (n .entries) (all-at _ (all-at _ (o .ok) 5) 0) f below (32 + length (n .deletes)) x (rankKey (q .0)) (n .entries) b p (omega arith)))
         (deepest (n .points))
@@ -240,12 +194,8 @@ take-top (suc l) x c e asks at-e size low order full s = go (filled n) refl (tak
           entries = n .entries;
           held = b;
           loop = p;
-          full = inr ((let z = length-only (but (e .top)) (n .points) in omega arith), no-items (n .inserts) (all-at _ h 1), no-items (n .deletes) (all-at _ h 2), λ g j. eqb-true (g .size) 0 (every-mem _ _ (all-at _ h 3) j));
+          full = inr ((let z = length-only (but (e .top)) (n .points) in omega arith), empty-list (n .inserts) (all-at _ h 1), empty-list (n .deletes) (all-at _ h 2), λ g j. eqb-true (g .size) 0 (every-mem _ _ (all-at _ h 3) j));
         })
-      where
-        no-items : {A : Type 0} (xs : List A) → isEmpty xs ≡ true → xs ≡ []
-        no-items [] g = refl
-        no-items (y ∷ xs) g = absurd (false≢true g)
 
     go : (q : Bool) → filled n ≡ q → TakeTop l → Took (suc l) x c e
     go true h below = by-filled below h

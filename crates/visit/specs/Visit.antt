@@ -16,7 +16,7 @@ use Rattle.block.specs.declared.Entry.{Entry}
 use Rattle.block.specs.declared.Asked.{Asked}
 use Rattle.block.specs.declared.Asked.the-variants.{Root, Child}
 use Rattle.block.specs.Node.{Node, Store, storeOf, entryAt, firstOpen}
-use Rattle.block.specs.NodeRules.{nodeOk}
+use Rattle.block.specs.NodeRules.{ValidBlock}
 use Rattle.tree.specs.Part.{Part, nextLow}
 use Rattle.tree.specs.Walk.{takes}
 use Rattle.tree.specs.Trace.{namedBy}
@@ -56,17 +56,10 @@ abbrev pub ceiling : Asked → ℕ
 ceiling Root = allKeys
 ceiling (Child e) = rankKey (e .top)
 
--- a block of the table in which a node stands that keeps the rules of some level
-pub record Valid (t : List ℕ) (b : ℕ) : Type 0 where
-  pub level : ℕ
-  pub asked : Asked
-  pub ok : nodeOk level asked (storeOf t b) ≡ true
-  pub inside : b * 2048 + 2048 ≤ length t
-
 -- the nodes above keep the rules
 pub record ValidPath (t : List ℕ) (p : Path) : Type 0 where
   pub few : p .n ≤ 7
-  pub valid : (b : ℕ) → List·Memᴰ b (above p) → Valid t b
+  pub valid : (b : ℕ) → List·Memᴰ b (above p) → ValidBlock t b
 
 -- and their P lies above this rank key, so that what they name under it is what waits in them
 pub record Ancestors (t : List ℕ) (p : Path) (top : ℕ) : Type 0 where

@@ -8,9 +8,10 @@ ghost use Rattle.octets.specs.Lists.{has, rising};
 ghost use Rattle.octets.specs.Bytes.{be};
 ghost use Rattle.spot.specs.Query.{meets};
 ghost use Rattle.block.specs.Node.{storeOf};
+ghost use Rattle.block.specs.NodeRules.{ValidBlock};
 ghost use Rattle.block.specs.declared.Asked.the-variants.{Child};
 ghost use Rattle.tree.specs.Walk.{admits, takesKey, finds};
-ghost use Rattle.visit.specs.Visit.{endOf, partOf, above, waiting, waitingAbove, Valid, ValidPath, Near, keysFrom, belowIn, anyFrom, taken, childSpan, entriesIn};
+ghost use Rattle.visit.specs.Visit.{endOf, partOf, above, waiting, waitingAbove, ValidPath, Near, keysFrom, belowIn, anyFrom, taken, childSpan, entriesIn};
 
 // A range of keys, from lo up to, and without, hi, or to the end.
 pub struct Span {
@@ -86,7 +87,7 @@ pub fn has_key(t: &[u8], at: usize, w: usize, n: usize, k: u64) -> bool
 
 // A change of k waits in the node at b.
 pub fn waits(t: &[u8], b: usize, k: u64) -> bool
-    requires { ⌜ Valid (now t) b ⌝ }
+    requires { ⌜ ValidBlock (now t) b ⌝ }
     ensures { λ r. ⌜ r ≡ has k (waiting (storeOf (now (t .entry)) b)) ⌝ }
 {
     let from = b * 2048;
@@ -128,7 +129,7 @@ pub fn meets_keys(t: &[u8], at: usize, w: usize, n: usize, lo: u64, hi: u64) -> 
 
 // A change of a key from lo to hi waits in the node at b.
 pub fn waits_between(t: &[u8], b: usize, lo: u64, hi: u64) -> bool
-    requires { ⌜ Valid (now t) b ⌝ }
+    requires { ⌜ ValidBlock (now t) b ⌝ }
     ensures { λ r. ⌜ r ≡ anyFrom lo hi (waiting (storeOf (now (t .entry)) b)) ⌝ }
 {
     let from = b * 2048;
@@ -204,7 +205,7 @@ pub fn count_run(t: &[u8], at: usize, n: usize, q: spot::Query, p: Path) -> usiz
 
 // How many spots the query finds in the node at b.
 pub fn count_own(t: &[u8], b: usize, q: spot::Query, p: Path) -> usize
-    requires { ⌜ Valid (now t) b × ValidPath (now t) p ⌝ }
+    requires { ⌜ ValidBlock (now t) b × ValidPath (now t) p ⌝ }
     ensures { λ r. ⌜ (r ≡ length (finds q (waitingAbove (now (t .entry)) p) (storeOf (now (t .entry)) b))) × (r ≤ 128) ⌝ }
 {
     let from = b * 2048;

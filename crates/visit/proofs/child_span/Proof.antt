@@ -1,7 +1,7 @@
 -- `visit::child_span` meets its contract: the span ends where the next entry begins, or where the parent's does.
 -- Assumes nothing.
 use borrow.Author.Needs.{needs}
-use mathlib.Core.Path.{_≡_, ap, _∙_}
+use mathlib.Core.Path.{ap, _∙_}
 use mathlib.Core.Bool.{false}
 use Prim.Native.Nat.{ℕ}
 use denote.Ref.{now}

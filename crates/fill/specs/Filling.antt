@@ -1,0 +1,77 @@
+-- What fill and take_top are handed and hand back. They answer `ok` only where all went well; then, where the part was sound, it is sound again and says what it
+-- should of every key. Whatever they answer, the journal can still tell what was.
+-- Assumes nothing.
+use mathlib.Core.Path.{_≡_}
+use Prim.Native.Nat.{ℕ, suc, _≤_, _<_}
+use mathlib.Core.Bool.{true, cond}
+use mathlib.Core.List.{List, [], _∷_, List·Memᴰ}
+use mathlib.Core.Option.{Option, none, some}
+use lib.ListN.{length}
+use lib.Dec.{eqb}
+use Rattle.spot.specs.Keys.{allKeys}
+use Rattle.block.specs.declared.Entry.{Entry}
+use Rattle.block.specs.declared.Asked.the-variants.{Child}
+use Rattle.block.specs.Table.{blocksOf}
+use Rattle.block.specs.Node.{Store, storeOf}
+use Rattle.block.specs.NodeRules.{zeroFirst, lows}
+use Rattle.tree.specs.Part.{Part}
+use Rattle.tree.specs.Lookup.{lookup}
+use Rattle.update.specs.Held.{Held}
+use Rattle.update.proofs.Change.{Sound, Changed}
+use Rattle.update.proofs.Spare.{Taken}
+use Rattle.update.proofs.Open.{Open}
+use Rattle.update.proofs.Loose.{part}
+use Rattle.update.proofs.TakeTop.{Loop, Full}
+use Rattle.node.specs.Memory.{entriesOf, EntriesFit, EntryFits}
+use Rattle.node.specs.declared.NodeValue.{NodeValue}
+use Rattle.edit.specs.Edits.{heldIn, Tidy}
+use Rattle.journal.specs.Journal.{Undoable}
+use Rattle.fill.specs.declared.Took.{Took}
+use Rattle.fill.specs.declared.Filled.{Filled}
+
+-- the entries lead to blocks of the table
+abbrev pub Inside : List ℕ → List Entry → Type 0
+Inside t es = (e : Entry) → List·Memᴰ e es → (1 ≤ e .block) × (e .block < blocksOf (length t))
+
+-- a node in memory that may be worked on over the table
+pub record Workable (t s map : List ℕ) (n : NodeValue) (level : ℕ) : Type 0 where
+  pub undoable : Undoable t s map
+  pub tidy : Tidy n
+  pub entries : EntriesFit (n .entries)
+  pub inside : Inside t (entriesOf (n .entries))
+  pub level : n .level ≡ level
+  pub deep : level ≤ 6
+  pub points : n .points .n ≤ 64
+  pub inserts : n .inserts .n ≤ 80
+  pub deletes : n .deletes .n ≤ 32
+
+-- the node after fill: P is filled, or nothing is left below
+pub record FilledBy (x y : Store) (level : ℕ) (n : NodeValue) (r : NodeValue) (lo hi : ℕ) (f : ℕ → Option ℕ) : Type 0 where
+  pub rank : ℕ
+  pub loop : Loop (n .inserts .n) (n .deletes .n) level lo hi x (entriesOf (n .entries)) y rank (entriesOf (r .entries)) (heldIn r) f
+  pub full : Full (entriesOf (r .entries)) (heldIn r)
+
+pub record FillPost (t t′ s′ map′ : List ℕ) (level : ℕ) (n : NodeValue) (r : Filled) : Type 0 where
+  pub works : Workable t′ s′ map′ (r .node) level
+  pub inserts : r .node .inserts .n ≤ n .inserts .n
+  pub deletes : r .node .deletes .n ≤ n .deletes .n
+  pub count : r .node .entries .n ≡ n .entries .n
+  pub done : r .ok ≡ true → (lo hi rank : ℕ) (f : ℕ → Option ℕ) → hi ≤ allKeys → zeroFirst (lows (entriesOf (n .entries))) ≡ true
+      → Open level (storeOf t) lo hi rank (entriesOf (n .entries)) (heldIn n) f
+      → FilledBy (storeOf t) (storeOf t′) level n (r .node) lo hi f
+
+-- the highest point of a part is taken out
+pub record TookOut (x y : Store) (level : ℕ) (e : Entry) (lo hi : ℕ) (r : Took) : Type 0 where
+  pub changed : Changed (suc level) (Taken [] []) x (part (e .block) (Child e) lo hi ∷ []) y (part (e .block) (Child (r .entry)) lo hi ∷ [])
+      (λ k. cond (eqb k (e .top)) none (lookup (suc level) x k (part (e .block) (Child e) lo hi)))
+  pub key : r .spot .key ≡ e .top
+  pub live : lookup (suc level) x (e .top) (part (e .block) (Child e) lo hi) ≡ some (r .spot .track)
+
+pub record TakePost (t t′ s′ map′ : List ℕ) (level : ℕ) (e : Entry) (r : Took) : Type 0 where
+  pub undoable : Undoable t′ s′ map′
+  pub sized : length t′ ≡ length t
+  pub block : r .entry .block ≡ e .block
+  pub low : r .entry .low ≡ e .low
+  pub fits : EntryFits e → EntryFits (r .entry)
+  pub done : r .ok ≡ true → (lo hi : ℕ) → lo ≤ hi → hi ≤ allKeys → e .low ≤ lo → Sound (suc level) (storeOf t) (part (e .block) (Child e) lo hi ∷ [])
+      → TookOut (storeOf t) (storeOf t′) level e lo hi r

@@ -1,0 +1,5 @@
+pub mod Puts
+pub mod Outputs
+pub mod Shifting
+pub mod Merges
+pub mod Joining

@@ -1,0 +1,128 @@
+-- The buffers of a node that keeps the rules, as runs of records in the table.
+-- Assumes nothing.
+use mathlib.Core.Path.{_≡_, refl, sym, ap, ap₂, subst, _∙_}
+use mathlib.Core.Bool.{Bool, true, _&&_, _||_, or-assoc}
+use mathlib.Core.List.{List, [], _∷_, _++_}
+use Prim.Native.Nat.{ℕ, _+_, _*_, _≤_}
+use native.Mathlib.Omega.{arith}
+use lib.Dec.{leb}
+use lib.ListN.{length}
+use Rattle.octets.specs.Lists.{has, records, rising}
+use Rattle.octets.specs.Bytes.{be}
+use Rattle.octets.proofs.Order.{stride}
+use Rattle.octets.proofs.Records.{records-cong}
+use Rattle.octets.proofs.Sets.{has-append}
+use Rattle.spot.specs.Spots.{keyAt, spotAt, keys}
+use Rattle.spot.proofs.Buffers.{keys-records}
+use Rattle.spot.proofs.Card.{keyAt-part, spotAt-part}
+use Rattle.block.specs.declared.Front.{Front}
+use Rattle.block.specs.Table.{block, blocksOf, version1}
+use Rattle.block.specs.Node.{storeOf, nodeOf, nodeFrom, pointsFrom, insertsFrom, deletesFrom}
+use Rattle.block.specs.Access.{frontOf, usedOf}
+use Rattle.block.proofs.Facts.{BlockFacts, block-facts}
+use Rattle.block.specs.NodeRules.{ValidBlock}
+use Rattle.visit.specs.Visit.{waiting, keysFrom, anyFrom}
+
+-- ---- records of a block are records of the table
+
+module _ (t : List ℕ) (b : ℕ) where
+  keys-run : (w n x : ℕ) → 8 ≤ w → x + w * n ≤ 2048 → keysFrom t w n (b * 2048 + x) ≡ keysFrom (block t b) w n x
+  keys-run w n x g h =
+      records-cong (keyAt t) (keyAt (block t b)) w n (b * 2048 + x) x
+      (λ i l.
+      let e : b * 2048 + x + w * i ≡ b * 2048 + (x + w * i) = omega arith in
+      ap (keyAt t) e ∙ sym (keyAt-part (b * 2048) 2048 t (x + w * i) (omega (arith, stride w l))))
+
+  spots-run : (n x : ℕ) → x + 12 * n ≤ 2048 → records (spotAt t) 12 n (b * 2048 + x) ≡ records (spotAt (block t b)) 12 n x
+  spots-run n x h =
+      records-cong (spotAt t) (spotAt (block t b)) 12 n (b * 2048 + x) x
+      (λ i l.
+      let e : b * 2048 + x + 12 * i ≡ b * 2048 + (x + 12 * i) = omega arith in
+      ap (spotAt t) e ∙ sym (spotAt-part (b * 2048) 2048 t (x + 12 * i) (omega (arith, stride 12 l))))
+
+-- ---- the buffers of a node, from the numbers at its front
+
+pub record Runs (t : List ℕ) (b : ℕ) (h : Front) : Type 0 where
+  pub used : usedOf h ≤ 1896
+  pub p-most : h .p ≤ 64
+  pub i-most : h .i ≤ 64
+  pub d-most : h .d ≤ 16
+  pub points : records (spotAt t) 12 (h .p) (b * 2048 + pointsFrom version1 (h .c)) ≡ storeOf t b .points
+  pub inserts : records (spotAt t) 12 (h .i) (b * 2048 + insertsFrom version1 (h .c) (h .p)) ≡ storeOf t b .inserts
+  pub deletes : keysFrom t 8 (h .d) (b * 2048 + deletesFrom version1 (h .c) (h .p) (h .i)) ≡ storeOf t b .deletes
+  pub points-rise : rising (keys (storeOf t b .points)) ≡ true
+  pub inserts-rise : rising (keys (storeOf t b .inserts)) ≡ true
+  pub deletes-rise : rising (storeOf t b .deletes) ≡ true
+
+module _ (t : List ℕ) (b : ℕ) (v : ValidBlock t b) where
+  facts : BlockFacts (blocksOf (length t)) (v .level) (v .asked) (block t b)
+  unfolding storeOf
+  facts = block-facts (blocksOf (length t)) (v .level) (v .asked) (block t b) (v .ok)
+
+  front-runs : Runs t b (frontOf (block t b))
+  unfolding storeOf nodeOf nodeFrom frontOf
+  front-runs =
+      record {
+        used = facts .used-most;
+        p-most = facts .p-most;
+        i-most = facts .i-most;
+        d-most = facts .d-most;
+        points = spots-run t b (be 1 (block t b) 4) (pointsFrom version1 (be 1 (block t b) 7)) (omega (arith, facts .points-end));
+        inserts = spots-run t b (be 1 (block t b) 5) (insertsFrom version1 (be 1 (block t b) 7) (be 1 (block t b) 4)) (omega (arith, facts .inserts-end));
+        deletes = keys-run t b 8 (be 1 (block t b) 6) (deletesFrom version1 (be 1 (block t b) 7) (be 1 (block t b) 4) (be 1 (block t b) 5)) (omega arith) (omega (arith, facts .used-most));
+        points-rise = facts .node .points-rise;
+        inserts-rise = facts .node .inserts-rise;
+        deletes-rise = facts .node .deletes-rise;
+      }
+
+  pub runs-of : {h : Front} → h ≡ frontOf (block t b) → Runs t b h
+  runs-of e = subst (λ (h : Front). Runs t b h) (sym e) front-runs
+
+-- ---- what a reader of a run asks
+
+abbrev pub Ready : List ℕ → ℕ → ℕ → ℕ → Type 0
+Ready t at w n = (8 ≤ w) × (w ≤ 12) × (n ≤ 64) × (at + w * n ≤ length t) × (rising (keysFrom t w n at) ≡ true)
+
+any-append : (lo hi : ℕ) (xs ys : List ℕ) → anyFrom lo hi (xs ++ ys) ≡ anyFrom lo hi xs || anyFrom lo hi ys
+any-append lo hi [] ys = refl
+any-append lo hi (x ∷ xs) ys =
+    ap (λ (b : Bool). leb lo x && leb x hi || b) (any-append lo hi xs ys) ∙ sym (or-assoc (leb lo x && leb x hi) (anyFrom lo hi xs) (anyFrom lo hi ys))
+
+module _ (t : List ℕ) (b : ℕ) (h : Front) (r : Runs t b h) (inside : b * 2048 + 2048 ≤ length t) where
+  points-keys : {x : ℕ} → x ≡ pointsFrom version1 (h .c) → keysFrom t 12 (h .p) (b * 2048 + x) ≡ keys (storeOf t b .points)
+  points-keys {x} e =
+      ap (λ (y : ℕ). keysFrom t 12 (h .p) (b * 2048 + y)) e ∙ sym (keys-records t 12 (h .p) (b * 2048 + pointsFrom version1 (h .c)))
+      ∙ ap keys (r .points)
+
+  inserts-keys : {x : ℕ} → x ≡ insertsFrom version1 (h .c) (h .p) → keysFrom t 12 (h .i) (b * 2048 + x) ≡ keys (storeOf t b .inserts)
+  inserts-keys {x} e =
+      ap (λ (y : ℕ). keysFrom t 12 (h .i) (b * 2048 + y)) e ∙ sym (keys-records t 12 (h .i) (b * 2048 + insertsFrom version1 (h .c) (h .p)))
+      ∙ ap keys (r .inserts)
+
+  deletes-keys : {x : ℕ} → x ≡ deletesFrom version1 (h .c) (h .p) (h .i) → keysFrom t 8 (h .d) (b * 2048 + x) ≡ storeOf t b .deletes
+  deletes-keys {x} e = ap (λ (y : ℕ). keysFrom t 8 (h .d) (b * 2048 + y)) e ∙ r .deletes
+
+  pub points-ready : {x : ℕ} → x ≡ pointsFrom version1 (h .c) → Ready t (b * 2048 + x) 12 (h .p)
+  points-ready {x} e =
+      (omega arith, omega arith, r .p-most, omega (arith, r .used), ap rising (points-keys e) ∙ r .points-rise)
+
+  pub inserts-ready : {x : ℕ} → x ≡ insertsFrom version1 (h .c) (h .p) → Ready t (b * 2048 + x) 12 (h .i)
+  inserts-ready {x} e =
+      (omega arith, omega arith, r .i-most, omega (arith, r .used), ap rising (inserts-keys e) ∙ r .inserts-rise)
+
+  pub deletes-ready : {x : ℕ} → x ≡ deletesFrom version1 (h .c) (h .p) (h .i) → Ready t (b * 2048 + x) 8 (h .d)
+  deletes-ready {x} e =
+      (omega arith, omega arith, omega (arith, r .d-most), omega (arith, r .used), ap rising (deletes-keys e) ∙ r .deletes-rise)
+
+  module _ {x y : ℕ} (e : x ≡ insertsFrom version1 (h .c) (h .p)) (g : y ≡ deletesFrom version1 (h .c) (h .p) (h .i)) where
+    pub waits-is : {u v : Bool} (k : ℕ) → u ≡ has k (keysFrom t 12 (h .i) (b * 2048 + x)) → v ≡ has k (keysFrom t 8 (h .d) (b * 2048 + y))
+        → u || v ≡ has k (waiting (storeOf t b))
+    waits-is k p q =
+        ap₂ (λ (u v : Bool). u || v) (p ∙ ap (has k) (inserts-keys e)) (q ∙ ap (has k) (deletes-keys g))
+        ∙ sym (has-append k (keys (storeOf t b .inserts)) (storeOf t b .deletes))
+
+    pub between-is : {u v : Bool} (lo hi : ℕ) → u ≡ anyFrom lo hi (keysFrom t 12 (h .i) (b * 2048 + x)) → v ≡ anyFrom lo hi (keysFrom t 8 (h .d) (b * 2048 + y))
+        → u || v ≡ anyFrom lo hi (waiting (storeOf t b))
+    between-is lo hi p q =
+        ap₂ (λ (u v : Bool). u || v) (p ∙ ap (anyFrom lo hi) (inserts-keys e)) (q ∙ ap (anyFrom lo hi) (deletes-keys g))
+        ∙ sym (any-append lo hi (keys (storeOf t b .inserts)) (storeOf t b .deletes))

@@ -1,0 +1,45 @@
+-- `visit::has_key` meets its contract: the first key that is not below decides.
+-- Assumes nothing.
+use borrow.Author.Needs.{needs}
+use native.Mathlib.Omega.{arith}
+use Prim.Native.Nat.{_+_, _*_, _≤_}
+use lib.ListN.{length}
+use denote.Ref.{now}
+use Rattle.visit.proofs.Search.{key-room, run-has-none, run-has}
+use Rattle.visit.proofs.has_key.Statement.{statement}
+use Rattle.visit.proofs.has_key.Tie as tie
+
+below-requires : tie.Need-below-requires
+below-requires c κs = search needs
+
+returns : tie.Need-returns
+returns c =
+    let s = c .before .before .before in
+    let a = s .args in
+    run-has-none (now (a .t)) (a .w) (a .n) (a .at) (s .pre .4) (a .k) (c .before .below .ensures .0) (omega arith)
+
+-- the key stands within the slice
+room : (c : tie.Else1) → let a = c .before .before .before .args in a .at + a .w * c .before .below .result + 8 ≤ length (now (a .t))
+room c =
+    let a = c .before .before .before .args in
+    key-room (a .w) (a .at) (length (now (a .t))) {i = c .before .below .result} {n = a .n} (omega arith) (omega arith) (omega arith)
+
+mul-read-key : tie.Need-mul-read-key
+mul-read-key c = omega (arith, room c)
+
+add-read-key : tie.Need-add-read-key
+add-read-key c = omega (arith, room c)
+
+read-key-requires : tie.Need-read-key-requires
+read-key-requires c κs = room c
+
+returns-2 : tie.Need-returns-2
+returns-2 c =
+    let s = c .before .before .before .before in
+    let a = s .args in
+    run-has (now (a .t)) (a .w) (a .n) (a .at) (s .pre .4) (a .k) (c .before .before .below .ensures .0) (omega arith) (c .read-key .ensures)
+
+pub has-key-spec : {M : Type 1} → statement M
+has-key-spec =
+    tie.close
+    (tie.spec below-requires returns mul-read-key add-read-key read-key-requires returns-2)
