@@ -19,13 +19,13 @@ use Rattle.journal.specs.Journal.{before, Undoable, Kept, Undone}
 
 -- ---- steps
 
-pub kept-refl : (t s map : List ℕ) → Kept t s map t s map
-kept-refl t s map =
+pub kept-refl : {t s map : List ℕ} → Kept t s map t s map
+kept-refl =
     record { past = λ b h. refl; marks = λ b e. e; table = refl; scratch = refl; mapped = refl; rest = refl }
 
 module _ {t s map t₁ s₁ map₁ : List ℕ} (k : Kept t s map t₁ s₁ map₁) where
   pub kept-trans : {t₂ s₂ map₂ : List ℕ} → Kept t₁ s₁ map₁ t₂ s₂ map₂ → Kept t s map t₂ s₂ map₂
-  kept-trans {t₂} {s₂} l =
+  kept-trans l =
       record {
         past = λ b h. l .past b (rw (k .table) h) ∙ k .past b h;
         marks = λ b e. l .marks b (k .marks b e);
@@ -122,9 +122,9 @@ module _ (t s map : List ℕ) (u : Undoable t s map) (b : ℕ) (h : b < blocksOf
           (block-put-other s b (block t b) room sized z d) refl
 
 -- a block that is kept is written
-pub kept-write : (t s map t′ : List ℕ) (b : ℕ) → bit map b ≡ true → ((z : ℕ) → (z ≡ b → ⊥) → block t′ z ≡ block t z) → length t′ ≡ length t
+pub kept-write : {t s map t′ : List ℕ} {b : ℕ} → bit map b ≡ true → ((z : ℕ) → (z ≡ b → ⊥) → block t′ z ≡ block t z) → length t′ ≡ length t
     → Kept t s map t′ s map
-kept-write t s map t′ b e else sized =
+kept-write {t} {s} {map} {t′} {b} e else sized =
     record {
       past = λ z l. ⊎-elim (λ (q : z ≡ b). rw q (before-marked t′ s map b e ∙ sym (before-marked t s map b e)))
           (λ (d : z ≡ b → ⊥). before-same t s map z t′ s map refl refl (else z d)) (same-or-not z b);
@@ -143,10 +143,10 @@ pub record Undoing (t₀ s map : List ℕ) (b : ℕ) (t : List ℕ) : Type 0 whe
   pub left : (z : ℕ) → b ≤ z → block t z ≡ block t₀ z
   pub sized : length t ≡ length t₀
 
-pub undoing-none : (t s map : List ℕ) → Undoing t s map 0 t
-undoing-none t s map = record { done = λ z h. absurd (omega arith); left = λ z h. refl; sized = refl }
+pub undoing-none : {t s map : List ℕ} → Undoing t s map 0 t
+undoing-none = record { done = λ z h. absurd (omega arith); left = λ z h. refl; sized = refl }
 
-module _ (t₀ s map : List ℕ) (b : ℕ) (t : List ℕ) (u : Undoing t₀ s map b t) where
+module _ {t₀ s map : List ℕ} {b : ℕ} {t : List ℕ} (u : Undoing t₀ s map b t) where
   -- one block more, which is right already or is put back
   next : (t′ : List ℕ) → block t′ b ≡ before t₀ s map b → ((z : ℕ) → (z ≡ b → ⊥) → block t′ z ≡ block t z) → length t′ ≡ length t
       → Undoing t₀ s map (b + 1) t′
@@ -166,8 +166,8 @@ module _ (t₀ s map : List ℕ) (b : ℕ) (t : List ℕ) (u : Undoing t₀ s ma
       next (putBlock t b (block s b)) (block-put-same t b (block s b) h w ∙ sym (before-marked t₀ s map b e))
       (block-put-other t b (block s b) h w) (put-length t b (block s b) h w)
 
-pub undoing-all : (t₀ s map t : List ℕ) → Undoing t₀ s map (blocksOf (length t₀)) t → Undone t₀ s map t
-undoing-all t₀ s map t u = record { blocks = u .done; sized = u .sized }
+pub undoing-all : {t₀ s map t : List ℕ} → Undoing t₀ s map (blocksOf (length t₀)) t → Undone t₀ s map t
+undoing-all u = record { blocks = u .done; sized = u .sized }
 
 -- ---- the table of the start
 
@@ -191,8 +191,8 @@ zeros-clear n b = bit-cong (replicate n 0) [] b (⊎-elim none some (less-or-not
     some h = getD-replicate n (b / 8) 0 0 h
 
 -- from a clean map, by steps, and undone: the table is what it was
-pub undone-is : (t₀ s₀ : List ℕ) (n : ℕ) (t s map t′ : List ℕ) → length t₀ ≡ blocksOf (length t₀) * 2048 → Kept t₀ s₀ (replicate n 0) t s map → Undone t s map t′ → t′ ≡ t₀
-undone-is t₀ s₀ n t s map t′ whole k u =
+pub undone-is : {t₀ s₀ : List ℕ} (n : ℕ) {t s map t′ : List ℕ} → length t₀ ≡ blocksOf (length t₀) * 2048 → Kept t₀ s₀ (replicate n 0) t s map → Undone t s map t′ → t′ ≡ t₀
+undone-is {t₀} {s₀} n {t′ = t′} whole k u =
     let sized : length t′ ≡ length t₀ = u .sized ∙ k .table in
     let all : take (blocksOf (length t₀) * 2048) t′ ≡ take (blocksOf (length t₀) * 2048) t₀ =
     same-blocks t′ t₀ (blocksOf (length t₀))

@@ -23,3 +23,11 @@ pub mod Traces
 pub mod Sources
 pub mod MapBits
 pub mod ReadWords
+pub mod BestFirstSums
+pub mod BestFirstSpots
+pub mod BestFirstTree
+pub mod BestFirstParts
+pub mod BestFirstSteps
+pub mod BestFirstEnd
+pub mod BestFirstTop
+pub mod BestFirst

@@ -209,7 +209,7 @@ module _ (t : List ℕ) (q : Query) where
   abbrev bs : List ℕ
   bs = blocksRead (walkTable t q)
 
-  -- a list of blocks that has what a walk that is whole reads, and holds where it reads nothing
+  -- what holds of no blocks, and of those of a walk that keeps the rules and reads none twice, holds of the blocks read
   by-trace : (P : List ℕ → Type 0) → P []
       → (headerOk (length t) (headOf t) ≡ true → let L = headOf t .levels in let W = whole (headOf t) in obeys L (storeOf t) q W ≡ true
       → distinct (visits L (storeOf t) q W) ≡ true

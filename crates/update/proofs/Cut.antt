@@ -12,7 +12,6 @@ use borrow.Author.Tests.{ltb-true, lt-ltb, leb-true, le-leb}
 use Rattle.octets.specs.Lists.{every, keep, has}
 use Rattle.octets.proofs.Tests.{all-at, all-cons, all-nil, and-left, and-right, and-both, every-mem, every-make, every-left, every-right, every-join}
 use Rattle.octets.proofs.Sets.{Split, has-not, distinct-split}
-use Rattle.spot.specs.declared.Spot.{Spot}
 use Rattle.spot.specs.Spots.{keys, find}
 use Rattle.spot.specs.Keys.{allKeys, within}
 use Rattle.spot.specs.Sorted.{only}
@@ -32,7 +31,7 @@ use Rattle.tree.proofs.Ranges.{Steps, steps-le, down-in}
 use Rattle.update.specs.Held.{Held}
 use Rattle.update.proofs.Change.{covers, reaches, Sound, Changed, down-append, covers-append}
 use Rattle.update.proofs.Spread.{childAt, parts-append, steps-split, covers-parts, off-left}
-use Rattle.update.proofs.Moves.{says, push-I, pushed-I, push-D, pushed-D, cut, cut-says}
+use Rattle.update.proofs.Moves.{Fit, says, push-I, pushed-I, push-D, pushed-D, cut, cut-says}
 use Rattle.update.proofs.Loose.{part}
 use Rattle.update.proofs.Open.{under, Open, after, open-child}
 use Rattle.update.proofs.Fill.{under-child}
@@ -48,58 +47,42 @@ module _ (l : ℕ) (New : ℕ → Type 0) (x y : Store) (lo hi : ℕ) (full : hi
   abbrev B₀ : ℕ → Option ℕ
   B₀ = under l x lo hi (us ++ (e ∷ vs))
 
+  -- a batch that says `word` of what is below was settled in the child, and says nothing outside its range
+  open-push : (b′ : Held) (word : ℕ → Option ℕ → Option ℕ) → ((k : ℕ) → within (c₀ .lo) (c₀ .hi) k ≡ false → (d : Option ℕ) → word k d ≡ d)
+      → Changed l New x (c₀ ∷ []) y (parts (c₀ .lo) (c₀ .hi) (e′ ∷ es)) (λ k. word k (lookup l x k c₀))
+      → ((B₁ : ℕ → Option ℕ) → ((k : ℕ) → B₁ k ≡ word k (B₀ k)) → Fit lo hi r b′ B₁ × ((k : ℕ) → says b′ k (B₁ k) ≡ says b k (B₀ k)))
+      → Open l y lo hi r (us ++ ((e′ ∷ es) ++ vs)) b′ f
+  open-push b′ word off c fit =
+      let q = fit (after l New x y lo hi r us vs e e′ es b f (λ k. word k (lookup l x k c₀)) low o fresh c) (λ k. is k (within (c₀ .lo) (c₀ .hi) k) refl) in
+      open-child l New x y lo hi r us vs e e′ es b f (λ k. word k (lookup l x k c₀)) low o fresh c st r b′ f (q .0) (λ k v. q .1 k ∙ o .found k v)
+    where
+      is : (k : ℕ) (q : Bool) → within (c₀ .lo) (c₀ .hi) k ≡ q → cond q (word k (lookup l x k c₀)) (B₀ k) ≡ word k (B₀ k)
+      is k true i = ap (word k) (sym (under-child l x lo hi us vs e (o .steps) k i))
+      is k false i = sym (off k i (B₀ k))
+
   -- inserts
   pub open-push-I : ((k : ℕ) → List·Memᴰ k (keys (only (λ j. not (stay j)) (b .inserts))) → within (c₀ .lo) (c₀ .hi) k ≡ true)
       → Changed l New x (c₀ ∷ []) y (parts (c₀ .lo) (c₀ .hi) (e′ ∷ es)) (λ k. orElse (find k (only (λ j. not (stay j)) (b .inserts))) (lookup l x k c₀))
       → Open l y lo hi r (us ++ ((e′ ∷ es) ++ vs)) (record { points = b .points; inserts = only stay (b .inserts); deletes = b .deletes }) f
   open-push-I w c =
-      open-child l New x y lo hi r us vs e e′ es b f g low o fresh c st r b′ f
-      (push-I lo hi full r B₀ (b .points) (b .inserts) (b .deletes) (o .ready) stay B₁ is)
-      (λ k v. pushed-I lo hi full r B₀ (b .points) (b .inserts) (b .deletes) (o .ready) stay B₁ is k ∙ o .found k v)
-    where
-      B : List Spot
-      B = only (λ j. not (stay j)) (b .inserts)
+      let I = only (λ j. not (stay j)) (b .inserts) in
+      open-push (record { points = b .points; inserts = only stay (b .inserts); deletes = b .deletes }) (λ k d. orElse (find k I) d)
+      (λ k i d. ap (λ (q : Option ℕ). orElse q d) (find-none k I (λ j. true≢false (sym (w k j) ∙ i))))
+      c
+      (λ B₁ is.
+      (push-I lo hi full r B₀ (b .points) (b .inserts) (b .deletes) (o .ready) stay B₁ is, pushed-I lo hi full r B₀ (b .points) (b .inserts) (b .deletes) (o .ready) stay B₁ is))
 
-      g : ℕ → Option ℕ
-      g k = orElse (find k (only (λ j. not (stay j)) (b .inserts))) (lookup l x k c₀)
-
-      b′ : Held
-      b′ = record { points = b .points; inserts = only stay (b .inserts); deletes = b .deletes }
-
-      B₁ : ℕ → Option ℕ
-      B₁ = after l New x y lo hi r us vs e e′ es b f g low o fresh c
-
-      is : (k : ℕ) → B₁ k ≡ orElse (find k (only (λ j. not (stay j)) (b .inserts))) (B₀ k)
-      is k = go (within (c₀ .lo) (c₀ .hi) k) refl
-        where
-          go : (q : Bool) → within (c₀ .lo) (c₀ .hi) k ≡ q → cond q (g k) (B₀ k) ≡ orElse (find k (only (λ j. not (stay j)) (b .inserts))) (B₀ k)
-          go true i = ap (orElse (find k (only (λ j. not (stay j)) (b .inserts)))) (sym (under-child l x lo hi us vs e (o .steps) k i))
-          go false i = ap (λ (q : Option ℕ). orElse q (B₀ k)) (sym (find-none k (only (λ j. not (stay j)) (b .inserts)) (λ j. true≢false (sym (w k j) ∙ i))))
-
-  -- the same of deletes
+  -- deletes
   pub open-push-D : ((k : ℕ) → List·Memᴰ k (keep (λ j. not (stay j)) (b .deletes)) → within (c₀ .lo) (c₀ .hi) k ≡ true)
       → Changed l New x (c₀ ∷ []) y (parts (c₀ .lo) (c₀ .hi) (e′ ∷ es)) (λ k. cond (has k (keep (λ j. not (stay j)) (b .deletes))) none (lookup l x k c₀))
       → Open l y lo hi r (us ++ ((e′ ∷ es) ++ vs)) (record { points = b .points; inserts = b .inserts; deletes = keep stay (b .deletes) }) f
   open-push-D w c =
-      open-child l New x y lo hi r us vs e e′ es b f g low o fresh c st r b′ f
-      (push-D lo hi full r B₀ (b .points) (b .inserts) (b .deletes) (o .ready) stay B₁ is)
-      (λ k v. pushed-D lo hi full r B₀ (b .points) (b .inserts) (b .deletes) (o .ready) stay B₁ is k ∙ o .found k v)
-    where
-      g : ℕ → Option ℕ
-      g k = cond (has k (keep (λ j. not (stay j)) (b .deletes))) none (lookup l x k c₀)
-
-      b′ : Held
-      b′ = record { points = b .points; inserts = b .inserts; deletes = keep stay (b .deletes) }
-
-      B₁ : ℕ → Option ℕ
-      B₁ = after l New x y lo hi r us vs e e′ es b f g low o fresh c
-
-      is : (k : ℕ) → B₁ k ≡ cond (has k (keep (λ j. not (stay j)) (b .deletes))) none (B₀ k)
-      is k = go (within (c₀ .lo) (c₀ .hi) k) refl
-        where
-          go : (q : Bool) → within (c₀ .lo) (c₀ .hi) k ≡ q → cond q (g k) (B₀ k) ≡ cond (has k (keep (λ j. not (stay j)) (b .deletes))) none (B₀ k)
-          go true i = ap (cond (has k (keep (λ j. not (stay j)) (b .deletes))) none) (sym (under-child l x lo hi us vs e (o .steps) k i))
-          go false i = ap (λ (q : Bool). cond q none (B₀ k)) (sym (has-not k (keep (λ j. not (stay j)) (b .deletes)) (λ j. true≢false (sym (w k j) ∙ i))))
+      let D = keep (λ j. not (stay j)) (b .deletes) in
+      open-push (record { points = b .points; inserts = b .inserts; deletes = keep stay (b .deletes) }) (λ k d. cond (has k D) none d)
+      (λ k i d. ap (λ (q : Bool). cond q none d) (has-not k D (λ j. true≢false (sym (w k j) ∙ i))))
+      c
+      (λ B₁ is.
+      (push-D lo hi full r B₀ (b .points) (b .inserts) (b .deletes) (o .ready) stay B₁ is, pushed-D lo hi full r B₀ (b .points) (b .inserts) (b .deletes) (o .ready) stay B₁ is))
 
 -- an entry may be read with another low, as long as it isn't above the range
 relow-node : (l : ℕ) (p : Part) (n : Node) (e e′ : Entry) → e′ .size ≡ e .size → e′ .top ≡ e .top → e′ .bottom ≡ e .bottom → e′ .low ≤ p .lo → inRange p n ≡ true

@@ -17,9 +17,7 @@ same-length : tie.Need-same-length
 same-length c = search needs
 
 returns : tie.Need-returns
-returns c =
-    let a = c .before .before .before .before .before .before .args in
-    (kept-refl (a .t .now) (a .s .now) (a .map .now), sym (c .before .test-bit .ensures) ∙ c .if1 .taken)
+returns c = (kept-refl, sym (c .before .test-bit .ensures) ∙ c .if1 .taken)
 
 copy-block-requires : tie.Need-copy-block-requires
 copy-block-requires c κs = search needs

@@ -17,9 +17,7 @@ abbrev μ-loop : tie.MeasureT-loop
 μ-loop t₀ s map n b₀ t b = n - b
 
 loop-holds : tie.Need-loop-holds Inv-loop μ-loop
-loop-holds c =
-    let a = c .before .before .before .args in
-    (omega arith, undoing-none (a .t .now) (a .s .now) (a .map .now))
+loop-holds c = (omega arith, undoing-none)
 
 test-bit-requires : tie.Need-test-bit-requires Inv-loop μ-loop
 test-bit-requires c κs =
@@ -51,8 +49,8 @@ loop-again c =
       ⊎-elim
           (λ w.
           subst (λ (x : List ℕ). Undoing t₀ s m (l .b + 1) x) (sym (w .5 ∙ w .2 .ensures))
-          (undoing-kept t₀ s m (l .b) (l .t) u (tested ∙ w .0 .taken) (omega (arith, u .sized)) (omega (arith, start .pre .room))))
-          (λ w. subst (λ (x : List ℕ). Undoing t₀ s m (l .b + 1) x) (sym (w .1)) (undoing-clear t₀ s m (l .b) (l .t) u (tested ∙ w .0 .left)))
+          (undoing-kept u (tested ∙ w .0 .taken) (omega (arith, u .sized)) (omega (arith, start .pre .room))))
+          (λ w. subst (λ (x : List ℕ). Undoing t₀ s m (l .b + 1) x) (sym (w .1)) (undoing-clear u (tested ∙ w .0 .left)))
           (c .if1 .came),
     )
 
@@ -67,7 +65,7 @@ returns c =
     let s = a .s .now in
     let m = a .map .now in
     let e : l .b ≡ length t₀ / 2048 = omega arith in
-    undoing-all t₀ s m (l .t) (subst (λ (n : ℕ). Undoing t₀ s m n (l .t)) e (l .inv .1))
+    undoing-all (subst (λ (n : ℕ). Undoing t₀ s m n (l .t)) e (l .inv .1))
 
 pub undo-spec : {M : Type 1} → statement M
 undo-spec =
