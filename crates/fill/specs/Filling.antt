@@ -28,6 +28,7 @@ use Rattle.edit.specs.Edits.{heldIn, Tidy}
 use Rattle.journal.specs.Journal.{Undoable}
 use Rattle.fill.specs.declared.Took.{Took}
 use Rattle.fill.specs.declared.Filled.{Filled}
+use Rattle.fill.specs.declared.Round.{Round}
 
 -- the entries lead to blocks of the table
 abbrev pub Inside : List ℕ → List Entry → Type 0
@@ -75,3 +76,14 @@ pub record TakePost (t t′ s′ map′ : List ℕ) (level : ℕ) (e : Entry) (r
   pub fits : EntryFits e → EntryFits (r .entry)
   pub done : r .ok ≡ true → (lo hi : ℕ) → lo ≤ hi → hi ≤ allKeys → e .low ≤ lo → Sound (suc level) (storeOf t) (part (e .block) (Child e) lo hi ∷ [])
       → TookOut (storeOf t) (storeOf t′) level e lo hi r
+
+-- one round: the loop of fill goes on from where it stood, or nothing is left
+pub record RoundPost (t t′ s′ map′ : List ℕ) (level : ℕ) (n : NodeValue) (r : Round) : Type 0 where
+  pub works : Workable t′ s′ map′ (r .node) level
+  pub inserts : r .node .inserts .n ≤ n .inserts .n
+  pub deletes : r .node .deletes .n ≤ n .deletes .n
+  pub count : r .node .entries .n ≡ n .entries .n
+  pub goesOn : r .ok ≡ true → (ni nd lo hi rank : ℕ) (x : Store) (es₀ : List Entry) (f : ℕ → Option ℕ) → hi ≤ allKeys → zeroFirst (lows es₀) ≡ true
+      → Loop ni nd level lo hi x es₀ (storeOf t) rank (entriesOf (n .entries)) (heldIn n) f
+      → (after : ℕ) × Loop ni nd level lo hi x es₀ (storeOf t′) after (entriesOf (r .node .entries)) (heldIn (r .node)) f
+      × (r .over ≡ true → Full (entriesOf (r .node .entries)) (heldIn (r .node)))
