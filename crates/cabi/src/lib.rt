@@ -41,7 +41,7 @@ pub extern "C" fn spot_report(
     output: &mut [u8],
     read_map: &mut [u8],
 ) -> u64
-    ensures { λ r. ⌜ Packed r (λ a. ReportPost x1 x2 y (now (table .entry)) (now (output .entry)) (now (read_map .entry)) a (now (output .exit)) (now (read_map .exit))) ⌝ }
+    ensures { λ r. ⌜ Packed r (λ a. ReportPost x1 x2 y (now (table .entry)) (now (output .entry)) (now («read_map» .entry)) a (now (output .exit)) (now («read_map» .exit))) ⌝ }
 {
     pack(table::report(table, x1, x2, y, output, read_map))
 }

@@ -3,22 +3,19 @@
 use mathlib.Core.Path.{_≡_}
 use mathlib.Core.Logic.{_⊎_}
 use Prim.Native.Nat.{ℕ, suc, _+_, _≤_, _<_}
-use mathlib.Core.Bool.{Bool, true, false, cond}
-use mathlib.Core.List.{List, [], _∷_, _++_, List·Memᴰ}
-use mathlib.Core.Option.{some}
+use mathlib.Core.Bool.{Bool, true}
+use mathlib.Core.List.{List, _∷_, _++_, List·Memᴰ}
 use lib.ListN.{length, take, drop}
-use lib.Dec.{ltb, leb}
 use Rattle.octets.specs.Lists.{keep}
 use Rattle.spot.specs.Keys.{rankKey}
-use Rattle.spot.specs.Spots.{keys, find, put}
-use Rattle.spot.specs.Sorted.{only, but, lower}
+use Rattle.spot.specs.Spots.{keys, put}
+use Rattle.spot.specs.Sorted.{only, but}
 use Rattle.spot.specs.declared.Spot.{Spot}
 use Rattle.block.specs.declared.Entry.{Entry}
 use Rattle.block.specs.declared.Asked.the-variants.{Child}
 use Rattle.block.specs.NodeRules.{agrees}
 use Rattle.buffer.specs.Buffer.{held, named, Ordered, OrderedKeys, Lowest}
 use Rattle.node.specs.Memory.{entriesOf, nodeIn, EntryFits}
-use Rattle.node.specs.declared.Entries.{Entries}
 use Rattle.node.specs.declared.NodeValue.{NodeValue}
 use Rattle.update.specs.Held.{Held}
 
@@ -50,9 +47,9 @@ pub data Spilled : Held → Held → Type 0 where
       → Spilled b c
 
 -- an entry for a node that stands in block b, with this low
-pub record EntryFor (b low : ℕ) (n : NodeValue) (e : Entry) : Type 0 where
+pub record EntryFor (b floor : ℕ) (n : NodeValue) (e : Entry) : Type 0 where
   pub block : e .block ≡ b
-  pub low : e .low ≡ low
+  pub low : e .low ≡ floor
   pub agree : (room : ℕ) → agrees (Child e) (nodeIn room n) ≡ true
   pub fits : b < 65536 → EntryFits e
   pub size : e .size ≡ n .points .n

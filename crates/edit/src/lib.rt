@@ -20,16 +20,29 @@ pub fn insert_one(n: node::NodeValue, s: spot::Spot, r: u64) -> node::NodeValue
     ensures { λ x. ⌜ Edited n x (insertOne r s (heldIn n)) (n .points .n + 1) (n .inserts .n + 1) (n .deletes .n) ⌝ }
 {
     let k = s.key;
-    let mut next = n;
-    next.points = buffer::without(n.points, k);
-    next.inserts = buffer::without(n.inserts, k);
-    next.deletes = buffer::without_key(n.deletes, k);
+    let points = buffer::without(n.points, k);
+    let inserts = buffer::without(n.inserts, k);
+    let deletes = buffer::without_key(n.deletes, k);
+    let level = n.level;
+    let entries = n.entries;
     if r <= spot::rank_key(k) {
-        next.points = buffer::put(next.points, s);
-    } else {
-        next.inserts = buffer::put(next.inserts, s);
+        let points = buffer::put(points, s);
+        return node::NodeValue {
+            level,
+            entries,
+            points,
+            inserts,
+            deletes,
+        };
     }
-    next
+    let inserts = buffer::put(inserts, s);
+    node::NodeValue {
+        level,
+        entries,
+        points,
+        inserts,
+        deletes,
+    }
 }
 
 // One key deleted: done where its rank key is at least r, else the deletion waits in D.
@@ -37,14 +50,28 @@ pub fn delete_one(n: node::NodeValue, k: u64, r: u64) -> node::NodeValue
     requires { ⌜ Tidy n × (n .deletes .n < 32) ⌝ }
     ensures { λ x. ⌜ Edited n x (deleteOne r k (heldIn n)) (n .points .n) (n .inserts .n) (n .deletes .n + 1) ⌝ }
 {
-    let mut next = n;
-    next.points = buffer::without(n.points, k);
-    next.inserts = buffer::without(n.inserts, k);
-    next.deletes = buffer::without_key(n.deletes, k);
+    let points = buffer::without(n.points, k);
+    let inserts = buffer::without(n.inserts, k);
+    let deletes = buffer::without_key(n.deletes, k);
+    let level = n.level;
+    let entries = n.entries;
     if spot::rank_key(k) < r {
-        next.deletes = buffer::put_key(next.deletes, k);
+        let deletes = buffer::put_key(deletes, k);
+        return node::NodeValue {
+            level,
+            entries,
+            points,
+            inserts,
+            deletes,
+        };
     }
-    next
+    node::NodeValue {
+        level,
+        entries,
+        points,
+        inserts,
+        deletes,
+    }
 }
 
 // A batch of inserts, the last first.
@@ -82,13 +109,23 @@ pub fn spill(n: node::NodeValue) -> node::NodeValue
     requires { ⌜ Tidy n × (n .points .n + n .inserts .n ≤ 144) × Apart (keys (held (n .points))) (keys (held (n .inserts))) ⌝ }
     ensures { λ x. ⌜ SpillPost n x ⌝ }
 {
-    let mut next = n;
-    while 64 < next.points.n {
-        let low = buffer::lowest(next.points);
-        next.points = buffer::without(next.points, low.key);
-        next.inserts = buffer::put(next.inserts, low);
+    let level = n.level;
+    let entries = n.entries;
+    let deletes = n.deletes;
+    let mut points = n.points;
+    let mut inserts = n.inserts;
+    while 64 < points.n {
+        let low = buffer::lowest(points);
+        points = buffer::without(points, low.key);
+        inserts = buffer::put(inserts, low);
     }
-    next
+    node::NodeValue {
+        level,
+        entries,
+        points,
+        inserts,
+        deletes,
+    }
 }
 
 // The rank key from which on a change belongs to P: P's lowest, or 0 where nothing lies below.
@@ -96,10 +133,12 @@ pub fn threshold(n: node::NodeValue) -> u64
     requires { ⌜ Tidy n ⌝ }
     ensures { λ r. ⌜ Threshold n r ⌝ }
 {
-    if (n.level == 0) | (n.points.n < 32) {
+    let size = n.points.n;
+    if (n.level == 0) | (size < 32) {
         return 0;
     }
-    spot::rank_key(buffer::lowest(n.points).key)
+    let low = buffer::lowest(n.points);
+    spot::rank_key(low.key)
 }
 
 // The keys of the node below the separating key, with the first k entries; and the others.
@@ -107,12 +146,17 @@ pub fn left_half(n: node::NodeValue, k: usize, sep: u64) -> node::NodeValue
     requires { ⌜ Tidy n × (k ≤ n .entries .n) × (n .entries .n ≤ 8) ⌝ }
     ensures { λ x. ⌜ Half n x (λ j. ltb j sep) (take k (entriesOf (n .entries))) ⌝ }
 {
+    let level = n.level;
+    let entries = node::entries_before(n.entries, k);
+    let points = buffer::below_key(n.points, sep);
+    let inserts = buffer::below_key(n.inserts, sep);
+    let deletes = buffer::keys_below(n.deletes, sep);
     node::NodeValue {
-        level: n.level,
-        entries: node::entries_before(n.entries, k),
-        points: buffer::below_key(n.points, sep),
-        inserts: buffer::below_key(n.inserts, sep),
-        deletes: buffer::keys_below(n.deletes, sep),
+        level,
+        entries,
+        points,
+        inserts,
+        deletes,
     }
 }
 
@@ -120,15 +164,20 @@ pub fn right_half(n: node::NodeValue, k: usize, sep: u64) -> node::NodeValue
     requires { ⌜ Tidy n × (k < n .entries .n) × (n .entries .n ≤ 8) ⌝ }
     ensures { λ x. ⌜ Half n x (λ j. leb sep j) (firstOpen (drop k (entriesOf (n .entries)))) ⌝ }
 {
+    let level = n.level;
     let rest = node::entries_from(n.entries, k);
     let mut first = node::entry(rest, 0);
     first.low = 0;
+    let entries = node::replace(rest, 0, first);
+    let points = buffer::from_key(n.points, sep);
+    let inserts = buffer::from_key(n.inserts, sep);
+    let deletes = buffer::keys_from(n.deletes, sep);
     node::NodeValue {
-        level: n.level,
-        entries: node::replace(rest, 0, first),
-        points: buffer::from_key(n.points, sep),
-        inserts: buffer::from_key(n.inserts, sep),
-        deletes: buffer::keys_from(n.deletes, sep),
+        level,
+        entries,
+        points,
+        inserts,
+        deletes,
     }
 }
 
@@ -137,22 +186,27 @@ pub fn entry_for(b: usize, low: u64, n: node::NodeValue) -> block::Entry
     requires { ⌜ Tidy n ⌝ }
     ensures { λ e. ⌜ EntryFor b low n e ⌝ }
 {
+    let block = b;
     let size = n.points.n;
     if size == 0 {
         return block::Entry {
-            block: b,
-            size: 0,
+            block,
+            size,
             low,
             top: 0,
             bottom: 0,
         };
     }
+    let high = buffer::highest(n.points);
+    let deep = buffer::lowest(n.points);
+    let top = high.key;
+    let bottom = deep.key;
     block::Entry {
-        block: b,
+        block,
         size,
         low,
-        top: buffer::highest(n.points).key,
-        bottom: buffer::lowest(n.points).key,
+        top,
+        bottom,
     }
 }
 
@@ -182,11 +236,18 @@ pub fn raise_insert(n: node::NodeValue, s: spot::Spot) -> node::NodeValue
     requires { ⌜ Tidy n × (n .points .n < 80) × (has (s .key) (keys (held (n .points))) ≡ false) ⌝ }
     ensures { λ x. ⌜ Edited n x (record { points = put s (held (n .points)); inserts = only (but (s .key)) (held (n .inserts)); deletes = keep (lower (s .key)) (named (n .deletes)) }) (n .points .n + 1) (n .inserts .n) (n .deletes .n) ⌝ }
 {
-    let mut next = n;
-    next.points = buffer::put(n.points, s);
-    next.inserts = buffer::without(n.inserts, s.key);
-    next.deletes = buffer::keys_under(n.deletes, s.key);
-    next
+    let points = buffer::put(n.points, s);
+    let inserts = buffer::without(n.inserts, s.key);
+    let deletes = buffer::keys_under(n.deletes, s.key);
+    let level = n.level;
+    let entries = n.entries;
+    node::NodeValue {
+        level,
+        entries,
+        points,
+        inserts,
+        deletes,
+    }
 }
 
 // A spot of a child put into P.
@@ -194,10 +255,19 @@ pub fn raise_child(n: node::NodeValue, s: spot::Spot) -> node::NodeValue
     requires { ⌜ Tidy n × (n .points .n < 80) × (has (s .key) (keys (held (n .points))) ≡ false) ⌝ }
     ensures { λ x. ⌜ Edited n x (record { points = put s (held (n .points)); inserts = held (n .inserts); deletes = keep (lower (s .key)) (named (n .deletes)) }) (n .points .n + 1) (n .inserts .n) (n .deletes .n) ⌝ }
 {
-    let mut next = n;
-    next.points = buffer::put(n.points, s);
-    next.deletes = buffer::keys_under(n.deletes, s.key);
-    next
+    let k = s.key;
+    let points = buffer::put(n.points, s);
+    let inserts = n.inserts;
+    let deletes = buffer::keys_under(n.deletes, k);
+    let level = n.level;
+    let entries = n.entries;
+    node::NodeValue {
+        level,
+        entries,
+        points,
+        inserts,
+        deletes,
+    }
 }
 
 // A spot of a child that a waiting delete names: both go.
@@ -205,7 +275,16 @@ pub fn drop_child(n: node::NodeValue, k: u64) -> node::NodeValue
     requires { ⌜ Tidy n ⌝ }
     ensures { λ x. ⌜ Edited n x (record { points = held (n .points); inserts = held (n .inserts); deletes = keep (lower k) (named (n .deletes)) }) (n .points .n) (n .inserts .n) (n .deletes .n) ⌝ }
 {
-    let mut next = n;
-    next.deletes = buffer::keys_under(n.deletes, k);
-    next
+    let points = n.points;
+    let inserts = n.inserts;
+    let deletes = buffer::keys_under(n.deletes, k);
+    let level = n.level;
+    let entries = n.entries;
+    node::NodeValue {
+        level,
+        entries,
+        points,
+        inserts,
+        deletes,
+    }
 }

@@ -21,7 +21,7 @@ use Rattle.update.proofs.Change.{Sound, Changed}
 use Rattle.update.proofs.Spare.{Taken}
 use Rattle.update.proofs.Open.{Open}
 use Rattle.update.proofs.Loose.{part}
-use Rattle.update.proofs.TakeTop.{Loop, Full}
+use Rattle.update.proofs.Rounds.{Loop, Full}
 use Rattle.node.specs.Memory.{entriesOf, EntriesFit, EntryFits}
 use Rattle.node.specs.declared.NodeValue.{NodeValue}
 use Rattle.edit.specs.Edits.{heldIn, Tidy}

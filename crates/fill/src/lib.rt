@@ -134,7 +134,15 @@ fn from_inserts(n: node::NodeValue, high: spot::Spot) -> Round {
 }
 
 // From I, where a child's top is an older copy of the same key, which goes.
-fn from_both(t: &mut [u8], s: &mut [u8], map: &mut [u8], n: node::NodeValue, level: usize, c: usize, high: spot::Spot) -> Round {
+fn from_both(
+    t: &mut [u8],
+    s: &mut [u8],
+    map: &mut [u8],
+    n: node::NodeValue,
+    level: usize,
+    c: usize,
+    high: spot::Spot,
+) -> Round {
     if level == 0 {
         return failed(n);
     }
@@ -149,7 +157,14 @@ fn from_both(t: &mut [u8], s: &mut [u8], map: &mut [u8], n: node::NodeValue, lev
 }
 
 // From the child with the highest top: into P, or dropped with the delete that names it.
-fn from_child(t: &mut [u8], s: &mut [u8], map: &mut [u8], n: node::NodeValue, level: usize, c: usize) -> Round {
+fn from_child(
+    t: &mut [u8],
+    s: &mut [u8],
+    map: &mut [u8],
+    n: node::NodeValue,
+    level: usize,
+    c: usize,
+) -> Round {
     if level == 0 {
         return failed(n);
     }

@@ -5,6 +5,7 @@ ghost use Prim.Native.Nat.{_+_, _*_, _≤_, _<_};
 ghost use lib.ListN.{length};
 ghost use Rattle.octets.specs.Bitmap.{bit};
 ghost use Rattle.block.specs.Table.{block, blocksOf, putBlock};
+ghost use Rattle.node.specs.Memory.{Storable, Stored};
 ghost use Rattle.journal.specs.Journal.{Undoable, Kept, Undone};
 
 // Block b becomes the block b of `from`.
@@ -28,6 +29,15 @@ pub fn save(t: &[u8], s: &mut [u8], map: &mut [u8], b: usize)
     }
     copy_block(s, t, b);
     octets::set_bit(map, b);
+}
+
+// Stores a node in block b, which is kept first.
+pub fn write_node(t: &mut [u8], s: &mut [u8], map: &mut [u8], b: usize, n: node::NodeValue)
+    requires { ⌜ Undoable (now t) (now s) (now map) × (b < blocksOf (length (now t))) × Storable n ⌝ }
+    ensures { λ _. ⌜ Kept (now (t .entry)) (now (s .entry)) (now (map .entry)) (now (t .exit)) (now (s .exit)) (now (map .exit)) × Stored (now (t .entry)) (now (t .exit)) b n ⌝ }
+{
+    save(t, s, map, b);
+    node::put_node(t, b, n);
 }
 
 // Puts back every block that was kept.

@@ -44,7 +44,7 @@ pub record EntriesFit (es : Entries) : Type 0 where
 
 -- the sizes with which a node may be stored
 pub record Storable (n : NodeValue) : Type 0 where
-  pub level : n .level ≤ 6
+  pub level : n .level < 256
   pub entries : EntriesFit (n .entries)
   pub first : zeroFirst (lows (entriesOf (n .entries))) ≡ true
   pub points : n .points .n ≤ 64

@@ -3,3 +3,10 @@ pub mod Outputs
 pub mod Shifting
 pub mod Merges
 pub mod Joining
+pub mod Threads
+pub mod Children
+pub mod Counting
+pub mod Roots
+pub mod Whole
+pub mod Pouring
+pub mod Gathered

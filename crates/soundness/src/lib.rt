@@ -109,7 +109,14 @@ fn tree_ok(t: &[u8]) -> bool
     let mut seen = [0u8; 512];
     let root = block::root_of(t);
     let level = block::levels_of(t) - 1;
-    if !sound_walk(t, &mut seen, root, level, block::Asked::Root, visit::root_span()) {
+    if !sound_walk(
+        t,
+        &mut seen,
+        root,
+        level,
+        block::Asked::Root,
+        visit::root_span(),
+    ) {
         return false;
     }
     octets::set_bit(&mut seen, 0);

@@ -5,3 +5,4 @@ pub mod Sorted
 pub mod Histories
 pub mod Demand
 pub mod Worked
+pub mod Answering

@@ -65,7 +65,7 @@ pub fn report(
     output: &mut [u8],
     read_map: &mut [u8],
 ) -> block::Answer
-    ensures { λ r. ⌜ ReportPost x1 x2 y (now (table .entry)) (now (output .entry)) (now (read_map .entry)) r (now (output .exit)) (now (read_map .exit)) ⌝ }
+    ensures { λ r. ⌜ ReportPost x1 x2 y (now (table .entry)) (now (output .entry)) (now («read_map» .entry)) r (now (output .exit)) (now («read_map» .exit)) ⌝ }
 {
     if !block::sized(table.len()) {
         return refuse(1);

@@ -17,3 +17,4 @@ pub mod Taken
 pub mod Settle
 pub mod Halves
 pub mod Again
+pub mod Rounds

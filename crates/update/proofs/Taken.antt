@@ -4,7 +4,7 @@ use mathlib.Core.Path.{_≡_, refl, ap, sym, _∙_, subst, subst⁻¹}
 use mathlib.Core.Logic.{_⊎_, inl, inr, ⊎-elim}
 use mathlib.Core.Bool.{Bool, true, false, cond, _&&_, _||_, false≢true}
 use mathlib.Core.List.{List, [], _∷_, List·Memᴰ, List·Memᴰ·not-nil}
-use mathlib.Core.Option.{Option, none}
+use mathlib.Core.Option.{Option, none, some}
 use Prim.Native.Nat.{ℕ, zero, suc, _≤_, _+_}
 use native.Mathlib.Omega.{arith}
 use lib.ListN.{length}
@@ -13,10 +13,12 @@ use borrow.Author.Tests.{eqb-true, eq-eqb, ne-eqb, ltb-true, leb-true}
 use Rattle.octets.specs.Lists.{all, every, isEmpty}
 use Rattle.octets.proofs.Tests.{every-mem, all-at, all-cons, all-nil, and-left, or-left, empty-length, empty-list}
 use Rattle.spot.specs.declared.Spot.{Spot}
-use Rattle.spot.specs.Spots.{keys}
+use Rattle.spot.specs.Spots.{keys, find}
 use Rattle.spot.specs.Keys.{rankKey, allKeys}
 use Rattle.spot.specs.Sorted.{only, but}
 use Rattle.spot.proofs.Buffers.{length-only}
+use Rattle.spot.proofs.Places.{within-to}
+use Rattle.spot.proofs.Halves.{rank-inj}
 use Rattle.block.specs.declared.Entry.{Entry}
 use Rattle.block.specs.Node.{Node, Store}
 use Rattle.block.specs.Table.{blockOk}
@@ -26,18 +28,19 @@ use Rattle.tree.specs.Part.{Part}
 use Rattle.tree.specs.Lookup.{lookup}
 use Rattle.tree.specs.Sound.{soundAt, inRange}
 use Rattle.tree.proofs.Below.{node-sound, sizes-filled, sizes-lowest}
-use Rattle.tree.proofs.Entries.{deepest, entry-for}
-use Rattle.tree.proofs.Empty.{none-length}
+use Rattle.tree.proofs.Entries.{Highest, deepest, entry-for, agree-size, agree-top}
+use Rattle.tree.proofs.Empty.{none-length, held-some, none-held, empty-keys}
 use Rattle.update.specs.Held.{Held}
 use Rattle.update.proofs.Spare.{Taken}
 use Rattle.update.proofs.Change.{Sound, Changed}
-use Rattle.update.proofs.Loose.{part, Opened, opened}
+use Rattle.update.proofs.Loose.{part, opened, lookup-step}
 use Rattle.update.proofs.Open.{Open, heldOf, open-node, open-lowest}
 use Rattle.update.proofs.Fill.{open-take}
 use Rattle.update.proofs.Close.{Shape}
-use Rattle.update.proofs.Node.{Top, top-of}
+use Rattle.update.proofs.Node.{Top, top-of, point-live}
 use Rattle.update.proofs.Going.{going-start, going-done}
-use Rattle.update.proofs.TakeTop.{Took, TakeTop, blocks, Loop, Full, Filled, fill}
+use Rattle.update.proofs.Rounds.{blocks, Loop, Full}
+use Rattle.update.proofs.TakeTop.{Took, TakeTop, Filled, fill}
 
 -- what hangs on the entries' blocks alone
 length-blocks : (es : List Entry) → length (blocks es) ≡ length es
@@ -53,7 +56,7 @@ every-blocks room [] = refl
 every-blocks room (e ∷ es) = ap (λ (b : Bool). blockOk room (e .block) && b) (every-blocks room es)
 
 -- the node after: the entries and buffers that fill left
-abbrev after : Node → List Entry → Held → Node
+abbrev pub after : Node → List Entry → Held → Node
 after n es b = record { level = n .level; entries = es; points = b .points; inserts = b .inserts; deletes = b .deletes; laid = n .laid; room = n .room }
 
 shape-of : (l : ℕ) (c : Part) (e e′ : Entry) (n : Node) (es : List Entry) (b : Held) → c .asked ≡ Child e → nodeOk l (c .asked) n ≡ true → inRange c n ≡ true
@@ -95,34 +98,98 @@ shape-of l c e e′ n es b asks ok inside same-lows same-blocks np ni nd ni₀ n
     sizes (inl h) = sizes-filled (after n es b) h np (omega arith) (omega arith)
     sizes (inr h) = sizes-lowest (after n es b) (h .0) (h .1) (h .2) (h .3)
 
--- once it is filled: stored
-finish : (l : ℕ) (x : Store) (c : Part) (e : Entry) → c .asked ≡ Child e → c .block ≡ e .block → e .low ≤ c .lo → c .hi ≤ allKeys → Sound (suc l) x (c ∷ [])
+-- STORED, once it is filled: w is the store y of the loop's end with the node in its block, and e′ the entry made of it
+pub take-finish : (ni nd l : ℕ) (x y w : Store) (c : Part) (e e′ : Entry) → c .asked ≡ Child e → e′ .low ≡ e .low → e .low ≤ c .lo → Sound (suc l) x (c ∷ [])
+    → ni ≤ length (x (c .block) .inserts) → nd ≤ length (x (c .block) .deletes) → length (x (c .block) .inserts) ≤ 64 → length (x (c .block) .deletes) ≤ 16
+    → (r : ℕ) (es : List Entry) (b : Held) (f : ℕ → Option ℕ) → Loop ni nd l (c .lo) (c .hi) x (x (c .block) .entries) y r es b f → Full es b
+    → agrees (Child e′) (after (x (c .block)) es b) ≡ true
+    → w (c .block) ≡ after (x (c .block)) es b → ((z : ℕ) → (z ≡ c .block → ⊥) → w z ≡ y z)
+    → Changed (suc l) (Taken [] []) x (c ∷ []) w (part (c .block) (Child e′) (c .lo) (c .hi) ∷ []) f
+take-finish ni nd l x y w c e e′ asks same low s ni₁ nd₁ ni₀ nd₀ r es b f p full agree at-block else =
+    let o = opened l x c s in
+    going-done l x y w c (Child e′) [] [] r (after (x (c .block)) es b) f s (λ z i. absurd (List·Memᴰ·not-nil i)) (p .going)
+    (shape-of l c e e′ (x (c .block)) es b asks (o .ok) (o .inside) (p .sameLows) (p .sameBlocks) (p .fewP) (omega (arith, p .fewI, ni₁)) (omega (arith, p .fewD, nd₁)) ni₀ nd₀ full (omega arith) agree)
+    at-block else
+
+-- OPENED: the node without its top
+module _ (l : ℕ) (x : Store) (c : Part) (e : Entry) (asks : c .asked ≡ Child e) (full : c .hi ≤ allKeys) (s : Sound (suc l) x (c ∷ [])) where
+  sc : soundAt (suc l) x c ≡ true
+  sc = and-left (soundAt (suc l) x c) true (s .each)
+
+  -- the highest point is the top that the entry names
+  pub top-is : (t : ℕ) → Highest (x (c .block) .points) t → (e .size ≡ 0 → ⊥) × (t ≡ e .top)
+  top-is t h = (
+    some-points,
+    rank-inj t (e .top) (let v = within-to (c .lo) (c .hi) t (point-live (suc l) x c sc t (h .0) .1) in omega arith) (let v = within-to (c .lo) (c .hi) (e .top) (point-live (suc l) x c sc (e .top) (top .0) .1) in omega arith) (let u = h .1 (e .top) (top .0) in let v = top .1 t (h .0) in omega arith),
+  )
+    where
+      g : agrees (Child e) (x (c .block)) ≡ true
+      g = rw asks at (node-sound (suc l) x c sc .entry)
+
+      held : isEmpty (x (c .block) .points) ≡ false
+      held = sym (empty-keys (x (c .block) .points)) ∙ held-some (keys (x (c .block) .points)) (h .0)
+
+      some-points : e .size ≡ 0 → ⊥
+      some-points z = none-held (keys (x (c .block) .points)) (empty-keys (x (c .block) .points) ∙ none-length (x (c .block) .points) (let y = agree-size e (x (c .block)) g in omega arith)) (h .0)
+
+      top : Highest (x (c .block) .points) (e .top)
+      top = agree-top e (x (c .block)) g held
+
+  -- it is found
+  pub top-found : (a : ℕ) → find (e .top) (x (c .block) .points) ≡ some a → lookup (suc l) x (e .top) c ≡ some a
+  top-found a h = lookup-step l x (e .top) c ∙ rw h
+
+  pub take-open : c .lo ≤ c .hi → (e .size ≡ 0 → ⊥)
+      → (r : ℕ) × Open l x (c .lo) (c .hi) r (x (c .block) .entries) (record { points = only (but (e .top)) (x (c .block) .points); inserts = x (c .block) .inserts; deletes = x (c .block) .deletes }) (λ k. cond (eqb k (e .top)) none (lookup (suc l) x k c))
+  take-open order size = go (filled (x (c .block))) refl
+    where
+      t : Top (suc l) x c (e .top)
+      t = top-of (suc l) x c e asks sc size
+
+      taken : (r : ℕ) → Open l x (c .lo) (c .hi) r (x (c .block) .entries) (heldOf (x (c .block))) (λ k. lookup (suc l) x k c)
+          → (r : ℕ) × Open l x (c .lo) (c .hi) r (x (c .block) .entries) (record { points = only (but (e .top)) (x (c .block) .points); inserts = x (c .block) .inserts; deletes = x (c .block) .deletes }) (λ k. cond (eqb k (e .top)) none (lookup (suc l) x k c))
+      taken r q = (r, open-take l x (c .lo) (c .hi) full r (x (c .block) .entries) (heldOf (x (c .block))) (λ k. lookup (suc l) x k c) q (e .top) (t .point))
+
+      go : (q : Bool) → filled (x (c .block)) ≡ q
+          → (r : ℕ) × Open l x (c .lo) (c .hi) r (x (c .block) .entries) (record { points = only (but (e .top)) (x (c .block) .points); inserts = x (c .block) .inserts; deletes = x (c .block) .deletes }) (λ k. cond (eqb k (e .top)) none (lookup (suc l) x k c))
+      go true h =
+          ⊎-elim (λ (z : x (c .block) .points ≡ []). absurd (List·Memᴰ·not-nil (subst (λ (xs : List Spot). List·Memᴰ (e .top) (keys xs)) z (t .point))))
+          (λ q. taken (rankKey (q .0)) (open-node l x c order s (q .0) (q .1 .0) (q .1 .1)))
+          (deepest (x (c .block) .points))
+      go false h = taken 0 (open-lowest l x c order s (or-left (filled (x (c .block))) (lowest (x (c .block))) (node-sound (suc l) x c sc .sizes) h))
+
+-- the sizes of a node that keeps the rules
+pub sizes-few : (n : Node) → (filled n || lowest n) ≡ true → (length (n .points) ≤ 64) × (length (n .inserts) ≤ 64) × (length (n .deletes) ≤ 16)
+unfolding filled lowest
+sizes-few n h = go (filled n) refl
+  where
+    go : (q : Bool) → filled n ≡ q → (length (n .points) ≤ 64) × (length (n .inserts) ≤ 64) × (length (n .deletes) ≤ 16)
+    go true g = (leb-true (length (n .points)) 64 (all-at _ g 1), leb-true (length (n .inserts)) 64 (all-at _ g 2), leb-true (length (n .deletes)) 16 (all-at _ g 3))
+    go false g =
+        let o = or-left (filled n) (lowest n) h g in
+        let p = ltb-true (length (n .points)) 32 (all-at _ o 0) in
+        let i = empty-length (n .inserts) (all-at _ o 1) in
+        let d = empty-length (n .deletes) (all-at _ o 2) in
+        (omega arith, omega arith, omega arith)
+
+-- what fill leaves is stored
+finish : (l : ℕ) (x : Store) (c : Part) (e : Entry) → c .asked ≡ Child e → c .block ≡ e .block → e .low ≤ c .lo → Sound (suc l) x (c ∷ [])
     → length (x (c .block) .inserts) ≤ 64 → length (x (c .block) .deletes) ≤ 16
     → Filled (length (x (c .block) .inserts)) (length (x (c .block) .deletes)) l (c .lo) (c .hi) x (x (c .block) .entries) (λ k. cond (eqb k (e .top)) none (lookup (suc l) x k c))
     → Took (suc l) x c e
-finish l x c e asks at-e low full s ni nd F =
+finish l x c e asks at-e low s ni nd F =
     record {
       store = w;
       entry = e′;
       low = made .2;
       block = made .1 ∙ at-e;
       changed = subst⁻¹ (λ (b : ℕ). Changed (suc l) (Taken [] []) x (c ∷ []) w (part b (Child e′) (c .lo) (c .hi) ∷ []) f) (made .1)
-          (going-done l x (F .store) w c (Child e′) [] [] (F .rank) n′ f s (λ z i. absurd (List·Memᴰ·not-nil i)) (F .loop .going)
-          (shape-of l c e e′ n (F .entries) (F .held) asks (o .ok) (o .inside) (F .loop .sameLows) (F .loop .sameBlocks) (F .loop .fewP) (F .loop .fewI) (F .loop .fewD) ni nd (F .full) (let z = made .2 in omega arith) (made .3))
+          (take-finish (length (x (c .block) .inserts)) (length (x (c .block) .deletes)) l x (F .store) w c e e′ asks (made .2) low s (omega arith) (omega arith) ni nd (F .rank) (F .entries) (F .held) f (F .loop) (F .full) (made .3)
           (rw (eq-eqb (c .block) (c .block) refl)) (λ z h. rw (ne-eqb z (c .block) h)));
     }
   where
-    n : Node
-    n = x (c .block)
-
-    n′ : Node
-    n′ = after (x (c .block)) (F .entries) (F .held)
-
     f : ℕ → Option ℕ
     f k = cond (eqb k (e .top)) none (lookup (suc l) x k c)
-
-    o : Opened l x c
-    o = opened l x c s
 
     w : Store
     w z = cond (eqb z (c .block)) (after (x (c .block)) (F .entries) (F .held)) (F .store z)
@@ -135,21 +202,15 @@ finish l x c e asks at-e low full s ni nd F =
 
 -- TAKE TOP, at every level
 pub take-top : (l : ℕ) → TakeTop l
-unfolding soundAt filled lowest nodeOk lowsRise
+unfolding soundAt nodeOk lowsRise
 take-top zero x c e asks at-e size low order full s = absurd (false≢true (and-left (soundAt 0 x c) true (s .each)))
-take-top (suc l) x c e asks at-e size low order full s = go (filled n) refl (take-top l)
+take-top (suc l) x c e asks at-e size low order full s = finish l x c e asks at-e low s (few .1) (few .2) (go (take-top l) (take-open l x c e asks full s order size))
   where
     n : Node
     n = x (c .block)
 
-    sc : soundAt (suc l) x c ≡ true
-    sc = and-left (soundAt (suc l) x c) true (s .each)
-
-    o : Opened l x c
-    o = opened l x c s
-
-    t : Top (suc l) x c (e .top)
-    t = top-of (suc l) x c e asks sc size
+    few : (length (n .points) ≤ 64) × (length (n .inserts) ≤ 64) × (length (n .deletes) ≤ 16)
+    few = sizes-few n (node-sound (suc l) x c (and-left (soundAt (suc l) x c) true (s .each)) .sizes)
 
     f : ℕ → Option ℕ
     f k = cond (eqb k (e .top)) none (lookup (suc l) x k c)
@@ -157,46 +218,15 @@ take-top (suc l) x c e asks at-e size low order full s = go (filled n) refl (tak
     b : Held
     b = record { points = only (but (e .top)) (x (c .block) .points); inserts = x (c .block) .inserts; deletes = x (c .block) .deletes }
 
-    start : (r : ℕ) → length (n .points) ≤ 64 → Open l x (c .lo) (c .hi) r (n .entries) (heldOf n) (λ k. lookup (suc l) x k c)
-        → Loop (length (n .inserts)) (length (n .deletes)) l (c .lo) (c .hi) x (n .entries) x r (n .entries) b f
-    start r np q =
-        record {
-          going = going-start l (c .lo) (c .hi) x [] r (n .entries) b f (open-take l x (c .lo) (c .hi) full r (n .entries) (heldOf n) (λ k. lookup (suc l) x k c) q (e .top) (t .point)) (λ z i. absurd (List·Memᴰ·not-nil i));
+    go : TakeTop l → (r : ℕ) × Open l x (c .lo) (c .hi) r (n .entries) b f → Filled (length (n .inserts)) (length (n .deletes)) l (c .lo) (c .hi) x (n .entries) f
+    go below q =
+        fill (length (n .inserts)) (length (n .deletes)) l (c .lo) (c .hi) full x (n .entries) (all-at _ (all-at _ (opened l x c s .ok) 5) 0) f below (32 + length (n .deletes)) x (q .0) (n .entries) b
+        (record {
+          going = going-start l (c .lo) (c .hi) x [] (q .0) (n .entries) b f (q .1) (λ z i. absurd (List·Memᴰ·not-nil i));
           sameLows = refl;
           sameBlocks = refl;
-          fewP = let z = length-only (but (e .top)) (n .points) in omega arith;
+          fewP = let z = length-only (but (e .top)) (n .points) in omega (arith, z, few .0);
           fewI = omega arith;
           fewD = omega arith;
-        }
-
-    by-filled : TakeTop l → filled n ≡ true → Took (suc l) x c e
-    by-filled below h =
-        let np = leb-true (length (n .points)) 64 (all-at _ h 1) in
-        let ni = leb-true (length (n .inserts)) 64 (all-at _ h 2) in
-        let nd = leb-true (length (n .deletes)) 16 (all-at _ h 3) in
-        ⊎-elim (λ (z : n .points ≡ []). absurd (List·Memᴰ·not-nil (subst (λ (xs : List Spot). List·Memᴰ (e .top) (keys xs)) z (t .point))))
-        (λ q.
-        let p = start (rankKey (q .0)) np (open-node l x c order s (q .0) (q .1 .0) (q .1 .1)) in
-        finish l x c e asks at-e low full s ni nd
-        (fill (length (n .inserts)) (length (n .deletes)) l (c .lo) (c .hi) full x (n .entries) (all-at _ (all-at _ (o .ok) 5) 0) f below (32 + length (n .deletes)) x (rankKey (q .0)) (n .entries) b p (omega arith)))
-        (deepest (n .points))
-
-    by-lowest : lowest n ≡ true → Took (suc l) x c e
-    by-lowest h =
-        let np = ltb-true (length (n .points)) 32 (all-at _ h 0) in
-        let i = empty-length (n .inserts) (all-at _ h 1) in
-        let d = empty-length (n .deletes) (all-at _ h 2) in
-        let p = start 0 (omega arith) (open-lowest l x c order s h) in
-        finish l x c e asks at-e low full s (omega arith) (omega arith)
-        (record {
-          store = x;
-          rank = 0;
-          entries = n .entries;
-          held = b;
-          loop = p;
-          full = inr ((let z = length-only (but (e .top)) (n .points) in omega arith), empty-list (n .inserts) (all-at _ h 1), empty-list (n .deletes) (all-at _ h 2), λ g j. eqb-true (g .size) 0 (every-mem _ _ (all-at _ h 3) j));
         })
-
-    go : (q : Bool) → filled n ≡ q → TakeTop l → Took (suc l) x c e
-    go true h below = by-filled below h
-    go false h below = by-lowest (or-left (filled n) (lowest n) (node-sound (suc l) x c sc .sizes) h)
+        (omega arith)

@@ -7,9 +7,9 @@ fn text(words: &[u8]) {
 fn show(name: &[u8], a: block::Answer) {
     text(name);
     text(b": ");
-    io::number::print_decimal(1, a.number as u64);
+    io::print_decimal(1, a.number as u64);
     text(b" ");
-    io::number::print_decimal(1, a.detail as u64);
+    io::print_decimal(1, a.detail as u64);
     text(b"\n");
 }
 
@@ -17,7 +17,7 @@ fn show(name: &[u8], a: block::Answer) {
 fn show_marks(map: &[u8]) {
     if map.len() == 512 {
         text(b"  marked: ");
-        io::number::print_decimal(1, octets::ones(map) as u64);
+        io::print_decimal(1, octets::ones(map) as u64);
         text(b"\n");
     }
 }
@@ -26,7 +26,10 @@ fn lengths(table: &mut [u8]) {
     if 18432 <= table.len() {
         show(b"format, 0 bytes", table::format(&mut table[0..0]));
         show(b"format, 8 blocks", table::format(&mut table[0..16384]));
-        show(b"format, 9 blocks less a byte", table::format(&mut table[0..18431]));
+        show(
+            b"format, 9 blocks less a byte",
+            table::format(&mut table[0..18431]),
+        );
         show(b"check, 8 blocks", table::check(&table[0..16384]));
         show(b"count, 8 blocks", table::count(&table[0..16384]));
         show(b"check, 9 blocks of zeros", table::check(&table[0..18432]));
@@ -40,15 +43,40 @@ fn lengths(table: &mut [u8]) {
 fn reports(table: &[u8]) {
     let mut map = [0u8; 512];
     let mut output = [0u8; 24];
-    show(b"report, everything", table::report(table, -2147483648, 2147483647, -2147483648, &mut output, &mut map));
+    show(
+        b"report, everything",
+        table::report(
+            table,
+            -2147483648,
+            2147483647,
+            -2147483648,
+            &mut output,
+            &mut map,
+        ),
+    );
     show_marks(&map);
-    show(b"report, the last rank", table::report(table, 0, 0, 2147483647, &mut output, &mut map));
+    show(
+        b"report, the last rank",
+        table::report(table, 0, 0, 2147483647, &mut output, &mut map),
+    );
     show_marks(&map);
-    show(b"report, x1 above x2", table::report(table, 240, 0, 7, &mut output, &mut map));
+    show(
+        b"report, x1 above x2",
+        table::report(table, 240, 0, 7, &mut output, &mut map),
+    );
     show_marks(&map);
-    show(b"report, no output", table::report(table, 0, 1, 0, &mut output[0..0], &mut map));
-    show(b"report, a map of 511 bytes", table::report(table, 0, 1, 0, &mut output, &mut map[0..511]));
-    show(b"report, no map", table::report(table, 0, 1, 0, &mut output, &mut map[0..0]));
+    show(
+        b"report, no output",
+        table::report(table, 0, 1, 0, &mut output[0..0], &mut map),
+    );
+    show(
+        b"report, a map of 511 bytes",
+        table::report(table, 0, 1, 0, &mut output, &mut map[0..511]),
+    );
+    show(
+        b"report, no map",
+        table::report(table, 0, 1, 0, &mut output, &mut map[0..0]),
+    );
 }
 
 // A table whose map of blocks in use marks a block that is not reached; one whose root has a version that is not known.

@@ -1,0 +1,37 @@
+-- `cabi::spot_report` meets its contract, by that of `table::report`.
+-- Assumes nothing.
+use mir.Syntax.{w32}
+use mir.ValLaws.{toZ-ofZ}
+use borrow.Author.Needs.{needs}
+use native.Mathlib.Omega.{arith}
+use Rattle.cabi.proofs.spot_report.Statement.{statement}
+use Rattle.cabi.proofs.spot_report.Tie as tie
+use Rattle.cabi.proofs.spot_report.Reads as reads
+use Rattle.cabi.proofs.spot_report.Lts as lts
+use Rattle.cabi.proofs.pack.Reads as pack-reads
+use Rattle.table.proofs.report.Reads as report-reads
+
+report-requires : tie.Need-report-requires
+report-requires c κs = search needs
+
+pack-requires : tie.Need-pack-requires
+pack-requires c κs = search needs
+
+same-length : tie.Need-same-length
+same-length c = search needs
+
+same-length-2 : tie.Need-same-length-2
+same-length-2 c = search needs
+
+returns : tie.Need-returns
+returns c =
+    record {
+      answer = c .before .before .before .before .before .report .result;
+      is = c .pack .ensures;
+      keeps =
+          rw (toZ-ofZ w32 (c .before .before .before .before .before .before .before .before .before .before .before .args .x1) (c .before .before .before .before .before .before .before .before .before .before .before .fits .x1), toZ-ofZ w32 (c .before .before .before .before .before .before .before .before .before .before .before .args .x2) (c .before .before .before .before .before .before .before .before .before .before .before .fits .x2), toZ-ofZ w32 (c .before .before .before .before .before .before .before .before .before .before .before .args .y) (c .before .before .before .before .before .before .before .before .before .before .before .fits .y)) at (c .before .before .before .before .before .report .ensures);
+    }
+
+pub spot-report-spec : {M : Type 1} → statement M
+spot-report-spec =
+    tie.close (tie.spec report-requires pack-requires same-length same-length-2 returns)

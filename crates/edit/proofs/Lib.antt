@@ -1,0 +1,4 @@
+pub mod Buffered
+pub mod Parts
+pub mod Picked
+pub mod Lowered

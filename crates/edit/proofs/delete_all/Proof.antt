@@ -1,0 +1,105 @@
+-- `edit::delete_all` meets its contract. The loop's invariant: the keys from index i on are deleted.
+-- Assumes nothing.
+use mathlib.Core.Path.{_≡_, refl, ap, _∙_}
+use Prim.Native.Nat.{ℕ, _+_, _-_, _≤_}
+use native.Mathlib.Omega.{arith}
+use borrow.Author.Needs.{needs}
+use lib.ListN.{length, drop}
+use Rattle.update.specs.Held.{deleteAll}
+use Rattle.buffer.specs.Buffer.{named}
+use Rattle.edit.specs.Edits.{heldIn, Edited}
+use Rattle.edit.proofs.Buffered.{deletes-none, deletes-more}
+use Rattle.edit.proofs.delete_all.Statement.{statement}
+use Rattle.edit.proofs.delete_all.Tie as tie
+
+abbrev Inv-loop : tie.InvT-loop
+Inv-loop r batch next₀ i₀ next i =
+    (i ≤ batch .n) × Edited next₀ next (deleteAll r (drop i (named batch)) (heldIn next₀)) (next₀ .points .n) (next₀ .inserts .n) (next₀ .deletes .n + (batch .n - i))
+
+abbrev μ-loop : tie.MeasureT-loop
+μ-loop r batch next₀ i₀ next i = i
+
+long : (c : tie.Start Inv-loop μ-loop) → length (c .args .t2 .keys) ≡ 32
+long c = search needs
+
+loop-holds : tie.Need-loop-holds Inv-loop μ-loop
+loop-holds c =
+    let a = c .args in (
+      omega arith,
+      record {
+        holds = deletes-none (a .r) (a .t2 .keys) (a .t2 .n) (omega (arith, long c)) (heldIn (a .n));
+        tidy = c .pre .0;
+        entries = refl;
+        level = refl;
+        points = omega arith;
+        inserts = omega arith;
+        deletes = omega arith;
+      },
+    )
+
+sub-i : tie.Need-sub-i Inv-loop μ-loop
+sub-i c = omega arith
+
+mul-k : tie.Need-mul-k Inv-loop μ-loop
+mul-k c = omega arith
+
+element-copy-out-k : tie.Need-element-copy-out-k Inv-loop μ-loop
+element-copy-out-k c = omega arith
+
+delete-one-requires : tie.Need-delete-one-requires Inv-loop μ-loop
+delete-one-requires c κs =
+    let l = c .before .before .loop in
+    (l .inv .1 .tidy, omega (arith, l .inv .1 .deletes))
+
+loop-less : tie.Need-loop-less Inv-loop μ-loop
+loop-less c = omega arith
+
+loop-again : tie.Need-loop-again Inv-loop μ-loop
+loop-again c =
+    let s = c .before .before .before .before in
+    let l = c .before .before .before .loop in
+    let a = s .args in
+    let b = l .inv .1 in
+    let x = c .delete-one .ensures in (
+      omega arith,
+      record {
+        holds = deletes-more (a .r) (a .t2 .keys) (a .t2 .n) (omega (arith, long s)) (heldIn (a .n)) (l .i) (omega arith) (l .inv .0) (b .holds) (x .holds);
+        tidy = x .tidy;
+        entries = x .entries ∙ b .entries;
+        level = x .level ∙ b .level;
+        points = omega (arith, x .points, b .points);
+        inserts = omega (arith, x .inserts, b .inserts);
+        deletes = omega (arith, x .deletes, b .deletes);
+      },
+    )
+
+returns : tie.Need-returns Inv-loop μ-loop
+returns c =
+    let l = c .before .loop in
+    let a = c .before .before .args in
+    let b = l .inv .1 in
+    let e : l .i ≡ 0 = omega arith in
+    record {
+      holds = b .holds ∙ ap (λ (i : ℕ). deleteAll (a .r) (drop i (named (a .t2))) (heldIn (a .n))) e;
+      tidy = b .tidy;
+      entries = b .entries;
+      level = b .level;
+      points = b .points;
+      inserts = b .inserts;
+      deletes = omega (arith, b .deletes);
+    }
+
+pub delete-all-spec : {M : Type 1} → statement M
+delete-all-spec =
+    tie.close
+    (tie.spec
+    Inv-loop
+    μ-loop
+    loop-holds
+    sub-i
+    mul-k
+    element-copy-out-k
+    delete-one-requires
+    loop-less
+    loop-again
+    returns)

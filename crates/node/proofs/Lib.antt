@@ -1,0 +1,9 @@
+pub mod Listed
+pub mod Put
+pub mod Fits
+pub mod Back
+pub mod Whole
+pub mod Storing
+pub mod Loading
+pub mod Loads
+pub mod Laws

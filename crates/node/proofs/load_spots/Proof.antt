@@ -1,0 +1,78 @@
+-- `node::load_spots` meets its contract: each spot read is put behind those before it.
+-- Assumes nothing.
+use mathlib.Core.Path.{_≡_, refl}
+use Prim.Native.Nat.{_-_, _≤_}
+use native.Mathlib.Omega.{arith}
+use borrow.Author.Needs.{needs}
+use lib.ListN.{length, take, length-set}
+use denote.Ref.{now}
+use Rattle.octets.specs.Lists.{records}
+use Rattle.spot.specs.Spots.{spotAt}
+use Rattle.buffer.proofs.Lists.{length-image}
+use Rattle.node.proofs.Loading.{record-loaded}
+use Rattle.node.proofs.load_spots.Statement.{statement}
+use Rattle.node.proofs.load_spots.Tie as tie
+
+abbrev Inv-loop : tie.InvT-loop
+Inv-loop s at n out₀ i₀ out i = (i ≤ n) × (length (out .spots) ≡ 80) × (take i (out .spots) ≡ records (spotAt s) 12 i at)
+
+abbrev μ-loop : tie.MeasureT-loop
+μ-loop s at n out₀ i₀ out i = n - i
+
+empty-requires : tie.Need-empty-requires Inv-loop μ-loop
+empty-requires c κs = omega arith
+
+loop-holds : tie.Need-loop-holds Inv-loop μ-loop
+loop-holds c = (search needs, search (needs, length-image), refl)
+
+mul-read-spot : tie.Need-mul-read-spot Inv-loop μ-loop
+mul-read-spot c = omega arith
+
+add-read-spot : tie.Need-add-read-spot Inv-loop μ-loop
+add-read-spot c = omega arith
+
+read-spot-requires : tie.Need-read-spot-requires Inv-loop μ-loop
+read-spot-requires c κs = omega arith
+
+mul-x : tie.Need-mul-x Inv-loop μ-loop
+mul-x c = omega arith
+
+element-set-from-x : tie.Need-element-set-from-x Inv-loop μ-loop
+element-set-from-x c = omega arith
+
+add-i : tie.Need-add-i Inv-loop μ-loop
+add-i c = omega arith
+
+loop-less : tie.Need-loop-less Inv-loop μ-loop
+loop-less c = omega arith
+
+loop-again : tie.Need-loop-again Inv-loop μ-loop
+loop-again c =
+    let l = c .before .before .loop in
+    let a = c .before .before .before .before .before .args in
+    (omega arith, simp length-set (l .inv .1), record-loaded (spotAt (now (a .s))) 12 (l .out .spots) (a .at) (l .i) (omega arith) (l .inv .2) (c .read-spot .ensures))
+
+returns : tie.Need-returns Inv-loop μ-loop
+returns c =
+    let l = c .before .loop in
+    let a = c .before .before .before .before .args in
+    let e : l .i ≡ a .n = omega arith in
+    (search needs, rw e at (l .inv .2))
+
+pub load-spots-spec : {M : Type 1} → statement M
+load-spots-spec =
+    tie.close
+    (tie.spec
+    Inv-loop
+    μ-loop
+    empty-requires
+    loop-holds
+    mul-read-spot
+    add-read-spot
+    read-spot-requires
+    mul-x
+    element-set-from-x
+    add-i
+    loop-less
+    loop-again
+    returns)

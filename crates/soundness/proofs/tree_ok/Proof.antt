@@ -1,0 +1,101 @@
+-- `soundness::tree_ok` meets its contract: the map in block 0 is compared with the map of the blocks reached.
+-- Assumes nothing.
+use mathlib.Core.Path.{refl}
+use native.Mathlib.Omega.{arith}
+use denote.Ref.{now}
+use borrow.Author.Tests.{not-true, not-false}
+use borrow.Author.Needs.{needs}
+use Rattle.tree.proofs.Sources.{header-few}
+use Rattle.query.proofs.Roots.{header-long, root-low, levels-some, levels-few}
+use Rattle.soundness.proofs.Whole.{tree-no, tree-yes}
+use Rattle.soundness.proofs.tree_ok.Statement.{statement}
+use Rattle.soundness.proofs.tree_ok.Tie as tie
+
+root-of-requires : tie.Need-root-of-requires
+root-of-requires c κs = header-long (now (c .before .args .t)) (c .before .pre)
+
+levels-of-requires : tie.Need-levels-of-requires
+levels-of-requires c κs = header-long (now (c .before .before .args .t)) (c .before .before .pre)
+
+sub-level : tie.Need-sub-level
+sub-level c =
+    let s = c .before .before .before in
+    levels-some (now (s .args .t)) (s .pre) (c .before .root-of .ensures .0) (c .levels-of .ensures .0)
+
+slice-aggregate-sound-walk : tie.Need-slice-aggregate-sound-walk
+slice-aggregate-sound-walk c = search needs
+
+root-span-requires : tie.Need-root-span-requires
+root-span-requires c κs = search needs
+
+sound-walk-requires : tie.Need-sound-walk-requires
+sound-walk-requires c κs =
+    let s = c .before .before .before .before .before in
+    let t = now (s .args .t) in
+    record {
+      inside = root-low t (s .pre) (c .before .before .before .root-of .ensures .0) (c .before .before .levels-of .ensures .0);
+      blocks = header-few t (s .pre);
+      mapped = refl;
+      deep = levels-few t (s .pre) (c .before .before .before .root-of .ensures .0) (c .before .before .levels-of .ensures .0);
+    }
+
+returns : tie.Need-returns
+returns c =
+    let s = c .before .before .before .before .before .before .before .before in
+    tree-no (now (s .args .t)) (s .pre) (λ i. omega (arith, c .before .before .before .before .before .before .before .shared-slice-known .given i)) (c .before .before .before .root-span .result) refl (c .before .before .before .before .before .before .root-of .ensures .0) (c .before .before .before .before .before .levels-of .ensures .0) (c .before .before .before .root-span .ensures .0)
+    (c .before .before .before .root-span .ensures .1)
+    (c .before .before .sound-walk .ensures)
+    (not-true _ (c .if1 .taken))
+
+slice-aggregate-set-bit : tie.Need-slice-aggregate-set-bit
+slice-aggregate-set-bit c = search needs
+
+set-bit-requires : tie.Need-set-bit-requires
+set-bit-requires c κs = search needs
+
+sub-same-map : tie.Need-sub-same-map
+sub-same-map c = search needs
+
+part-same-map-start : tie.Need-part-same-map-start
+part-same-map-start c = search needs
+
+part-same-map-end : tie.Need-part-same-map-end
+part-same-map-end c =
+    let s = c .before .before .before .before .before .before .before .before .before .before .before in
+    omega (arith, header-long (now (s .args .t)) (s .pre))
+
+slice-aggregate-same-map : tie.Need-slice-aggregate-same-map
+slice-aggregate-same-map c = search needs
+
+same-map-requires : tie.Need-same-map-requires
+same-map-requires c κs = search needs
+
+returns-2 : tie.Need-returns-2
+returns-2 c =
+    let s = c .before .before .before .before .before .before .before .before .before .before .before .before .before .before in
+    tree-yes (now (s .args .t)) (s .pre) (λ i. omega (arith, c .before .before .before .before .before .before .before .before .before .before .before .before .before .shared-slice-known .given i)) (c .before .before .before .before .before .before .before .before .before .root-span .result) refl (c .before .before .before .before .before .before .before .before .before .before .before .before .root-of .ensures .0) (c .before .before .before .before .before .before .before .before .before .before .before .levels-of .ensures .0) (c .before .before .before .before .before .before .before .before .before .root-span .ensures .0)
+    (c .before .before .before .before .before .before .before .before .before .root-span .ensures .1)
+    (c .before .before .before .before .before .before .before .before .sound-walk .ensures)
+    (not-false _ (c .before .before .before .before .before .before .if1 .left))
+    (c .before .before .before .before .set-bit .ensures)
+    (c .same-map .ensures)
+
+pub tree-ok-spec : {M : Type 1} → statement M
+tree-ok-spec =
+    tie.close
+    (tie.spec
+    root-of-requires
+    levels-of-requires
+    sub-level
+    slice-aggregate-sound-walk
+    root-span-requires
+    sound-walk-requires
+    returns
+    slice-aggregate-set-bit
+    set-bit-requires
+    sub-same-map
+    part-same-map-start
+    part-same-map-end
+    slice-aggregate-same-map
+    same-map-requires
+    returns-2)

@@ -1,0 +1,193 @@
+-- The posts of the reading calls, one law for each way that a call ends.
+-- Assumes nothing.
+use mathlib.Core.Path.{_≡_, refl, ap, ap₂, sym, subst, _∙_}
+use mathlib.Core.Bool.{Bool, true, false, cond, not, true≢false, false≢true}
+use mathlib.Core.List.{List, [], _++_, append-nil}
+use Prim.Native.Nat.{ℕ, zero, suc, _*_, _/_, _≤_, _<_}
+use native.Mathlib.Omega.{arith}
+use lib.ListN.{length, take, drop}
+use lib.Seq.{take-all, drop-length}
+use lib.IntN.{ℤ}
+use borrow.Author.Tests.{eq-eqb, lt-ltb, le-ltb}
+use Rattle.spot.specs.Spots.{spotsBytes}
+use Rattle.spot.specs.Query.{query, everything}
+use Rattle.spot.specs.declared.Spot.{Spot}
+use Rattle.spot.specs.declared.Query.{Query}
+use Rattle.block.specs.declared.Answer.{Answer}
+use Rattle.block.specs.Answers.{answer}
+use Rattle.block.specs.Table.{tableSized}
+use Rattle.block.specs.Fresh.{formatted}
+use Rattle.tree.specs.Walk.{Walk, broken, walked, isBroken, spots, blocksRead, walkTable}
+use Rattle.tree.specs.ReadMap.{readMap}
+use Rattle.tree.specs.Sound.{sound}
+use Rattle.table.specs.Calls.{Call, format, report, count, check, Lengths}
+use Rattle.table.specs.Answers.{lengths, lent, lengthNumber, unlessRefused, spotsAnswer, outputLeft, mapLeft}
+use Rattle.table.specs.Queries.{walkAnswer, QueryPost, ReportPost, countAnswer, CountPost, CheckPost}
+use Rattle.table.specs.Updates.{FormatPost}
+
+-- refused by the lengths: 1, then 2; else the call's own answer
+pub short-table : (l : Lengths) (c : Call) (a : Answer) → tableSized (l .table) ≡ false → unlessRefused (lengthNumber l c) a ≡ answer 1 0
+unfolding lengthNumber unlessRefused
+short-table l c a e = rw e
+
+pub short-lent : (l : Lengths) (c : Call) (a : Answer) → tableSized (l .table) ≡ true → lent l c ≡ false → unlessRefused (lengthNumber l c) a ≡ answer 2 0
+unfolding lengthNumber unlessRefused
+short-lent l c a e f = rw (e, f)
+
+pub long-enough : (l : Lengths) (c : Call) (a : Answer) → tableSized (l .table) ≡ true → lent l c ≡ true → unlessRefused (lengthNumber l c) a ≡ a
+unfolding lengthNumber unlessRefused
+long-enough l c a e f = rw (e, f)
+
+-- Format
+pub formats : (t t′ : List ℕ) (r : Answer) → r ≡ cond (tableSized (length t)) (answer 0 0) (answer 1 0) → t′ ≡ cond (tableSized (length t)) (formatted (length t)) t
+    → FormatPost t r t′
+formats t t′ r a w = record { answered = a ∙ go (tableSized (length t)) refl; written = w }
+  where
+    go : (b : Bool) → tableSized (length t) ≡ b → cond b (answer 0 0) (answer 1 0) ≡ unlessRefused (lengthNumber (lengths t [] [] []) format) (answer 0 0)
+    go true e = sym (long-enough (lengths t [] [] []) format (answer 0 0) e refl)
+    go false e = sym (short-table (lengths t [] [] []) format (answer 0 0) e)
+
+-- Count
+pub count-short : (t : List ℕ) (r : Answer) → tableSized (length t) ≡ false → r ≡ answer 1 0 → CountPost t r
+count-short t r e a = record { answered = a ∙ sym (short-table (lengths t [] [] []) count _ e) }
+
+broken-count : (w : Walk) → isBroken w ≡ true → answer 3 0 ≡ countAnswer w
+unfolding countAnswer
+broken-count broken h = refl
+broken-count (walked found blocks) h = absurd (false≢true h)
+
+whole-count : (w : Walk) → isBroken w ≡ false → answer 0 (length (spots w)) ≡ countAnswer w
+unfolding countAnswer
+whole-count broken h = absurd (true≢false h)
+whole-count (walked found blocks) h = refl
+
+pub count-broken : (t : List ℕ) (r : Answer) → tableSized (length t) ≡ true → isBroken (walkTable t everything) ≡ true → r ≡ answer 3 0 → CountPost t r
+count-broken t r e b a = record { answered = a ∙ broken-count (walkTable t everything) b ∙ sym (long-enough (lengths t [] [] []) count _ e refl) }
+
+pub count-whole : (t : List ℕ) (r : Answer) → tableSized (length t) ≡ true → isBroken (walkTable t everything) ≡ false → r ≡ answer 0 (length (spots (walkTable t everything)))
+    → CountPost t r
+count-whole t r e b a = record { answered = a ∙ whole-count (walkTable t everything) b ∙ sym (long-enough (lengths t [] [] []) count _ e refl) }
+
+-- Check
+pub check-short : (t : List ℕ) (r : Answer) → tableSized (length t) ≡ false → r ≡ answer 1 0 → CheckPost t r
+check-short t r e a = record { answered = a ∙ sym (short-table (lengths t [] [] []) check _ e) }
+
+pub check-says : (t : List ℕ) (r : Answer) (b : Bool) → tableSized (length t) ≡ true → sound t ≡ b → r ≡ answer 0 (cond b 1 0) → CheckPost t r
+check-says t r b e s a = record { answered = a ∙ ap (λ (x : Bool). answer 0 (cond x 1 0)) (sym s) ∙ sym (long-enough (lengths t [] [] []) check _ e refl) }
+
+-- a call that hands out spots, refused: what it was lent is as it was
+module _ (c : Call) (w : Walk) (t out map : List ℕ) where
+  left-out : (n : ℕ) → 0 < n → out ≡ outputLeft n (spots w) out
+  unfolding outputLeft
+  left-out zero h = let z : ⊥ = omega arith in absurd z
+  left-out (suc n) h = refl
+
+  left-map : (n : ℕ) → 0 < n → map ≡ mapLeft n (blocksRead w) map
+  unfolding mapLeft
+  left-map zero h = let z : ⊥ = omega arith in absurd z
+  left-map (suc n) h = refl
+
+  pub refused-by : (r : Answer) (n d : ℕ) → 0 < n → r ≡ answer n d
+      → answer n d ≡ unlessRefused (lengthNumber (lengths t out map []) c) (walkAnswer (length out) w)
+      → QueryPost c w t out map r out map
+  refused-by r n d h a e =
+      record {
+        answered = a ∙ e;
+        output = left-out n h ∙ ap (λ (x : Answer). outputLeft (x .number) (spots w) out) (sym a);
+        marks = left-map n h ∙ ap (λ (x : Answer). mapLeft (x .number) (blocksRead w) map) (sym a);
+      }
+
+  pub query-short : (r : Answer) → tableSized (length t) ≡ false → r ≡ answer 1 0 → QueryPost c w t out map r out map
+  query-short r e a = refused-by r 1 0 (omega arith) a (sym (short-table (lengths t out map []) c _ e))
+
+  pub query-lent : (r : Answer) → tableSized (length t) ≡ true → lent (lengths t out map []) c ≡ false → r ≡ answer 2 0 → QueryPost c w t out map r out map
+  query-lent r e f a = refused-by r 2 0 (omega arith) a (sym (short-lent (lengths t out map []) c _ e f))
+
+  module _ (e : tableSized (length t) ≡ true) (f : lent (lengths t out map []) c ≡ true) where
+    broken-answer : (v : Walk) → isBroken v ≡ true → answer 3 0 ≡ walkAnswer (length out) v
+    unfolding walkAnswer
+    broken-answer broken h = refl
+    broken-answer (walked found blocks) h = absurd (false≢true h)
+
+    whole-answer : (v : Walk) → isBroken v ≡ false → spotsAnswer (length out) (length (spots v)) ≡ walkAnswer (length out) v
+    unfolding walkAnswer
+    whole-answer broken h = absurd (true≢false h)
+    whole-answer (walked found blocks) h = refl
+
+    pub query-broken : (r : Answer) → isBroken w ≡ true → r ≡ answer 3 0 → QueryPost c w t out map r out map
+    query-broken r b a = refused-by r 3 0 (omega arith) a (broken-answer w b ∙ sym (long-enough (lengths t out map []) c _ e f))
+
+    pub query-many : (r : Answer) → isBroken w ≡ false → length out / 12 < length (spots w) → r ≡ answer 5 (length (spots w)) → QueryPost c w t out map r out map
+    unfolding spotsAnswer
+    query-many r b h a =
+        refused-by r 5 (length (spots w)) (omega arith) a
+        (rw (lt-ltb (length out / 12) (length (spots w)) h) at (whole-answer w b) ∙ sym (long-enough (lengths t out map []) c _ e f))
+
+    -- accepted: the spots, and the map of the blocks read
+    pub query-given : (r : Answer) (out′ map′ : List ℕ) → isBroken w ≡ false → length (spots w) ≤ length out / 12 → r ≡ answer 0 (length (spots w))
+        → out′ ≡ spotsBytes (spots w) ++ drop (12 * length (spots w)) out
+        → map′ ≡ readMap (blocksRead w)
+        → QueryPost c w t out map r out′ map′
+    unfolding spotsAnswer outputLeft mapLeft
+    query-given r out′ map′ b h a o m =
+        record {
+          answered = a ∙ rw (le-ltb (length out / 12) (length (spots w)) h) at (whole-answer w b) ∙ sym (long-enough (lengths t out map []) c _ e f);
+          output = o ∙ ap (λ (x : Answer). outputLeft (x .number) (spots w) out) (sym a);
+          marks = m ∙ ap (λ (x : Answer). mapLeft (x .number) (blocksRead w) map) (sym a);
+        }
+
+broken-by : (ok : Bool) (w : Walk) → ok ≡ not (isBroken w) → ok ≡ false → isBroken w ≡ true
+broken-by ok broken e h = refl
+broken-by ok (walked found blocks) e h = absurd (true≢false (sym e ∙ h))
+
+whole-by : (ok : Bool) (w : Walk) → ok ≡ not (isBroken w) → ok ≡ true → isBroken w ≡ false
+whole-by ok broken e h = absurd (false≢true (sym e ∙ h))
+whole-by ok (walked found blocks) e h = refl
+
+-- a walk that is told not to be whole is broken, and one told to be whole is not
+pub told-broken : (ok : Bool) (t : List ℕ) (q : Query) → ok ≡ not (isBroken (walkTable t q)) → ok ≡ false → isBroken (walkTable t q) ≡ true
+told-broken ok t q e h = broken-by ok (walkTable t q) e h
+
+pub told-whole : (ok : Bool) (t : List ℕ) (q : Query) → ok ≡ not (isBroken (walkTable t q)) → ok ≡ true → isBroken (walkTable t q) ≡ false
+told-whole ok t q e h = whole-by ok (walkTable t q) e h
+
+-- Report, whose query the code has made
+module _ (x1 x2 y : ℤ) (q : Query) (same : q ≡ query x1 x2 y) (t out map : List ℕ) where
+  made : (r : Answer) (out′ map′ : List ℕ) → QueryPost (report x1 x2 y) (walkTable t q) t out map r out′ map′ → ReportPost x1 x2 y t out map r out′ map′
+  made r out′ map′ p = subst (λ (p : Query). QueryPost (report x1 x2 y) (walkTable t p) t out map r out′ map′) same p
+
+  pub report-broken : (r : Answer) (ok : Bool) → tableSized (length t) ≡ true → length map ≡ 512 → ok ≡ not (isBroken (walkTable t q)) → ok ≡ false → r ≡ answer 3 0
+      → ReportPost x1 x2 y t out map r out map
+  report-broken r ok e f k h a = made r out map (query-broken (report x1 x2 y) (walkTable t q) t out map e (eq-eqb (length map) 512 f) r (told-broken ok t q k h) a)
+
+  pub report-many : (r : Answer) (ok : Bool) (n : ℕ) → tableSized (length t) ≡ true → length map ≡ 512 → ok ≡ not (isBroken (walkTable t q)) → ok ≡ true
+      → n ≡ length (spots (walkTable t q)) → length out / 12 < n → r ≡ answer 5 n
+      → ReportPost x1 x2 y t out map r out map
+  report-many r ok n e f k h z l a =
+      made r out map
+      (query-many (report x1 x2 y) (walkTable t q) t out map e (eq-eqb (length map) 512 f) r (told-whole ok t q k h) (subst (λ (i : ℕ). length out / 12 < i) z l)
+      (a ∙ ap (answer 5) z))
+
+  pub report-given : (r : Answer) (ok : Bool) (n : ℕ) (out′ map′ : List ℕ) → tableSized (length t) ≡ true → length map ≡ 512 → ok ≡ not (isBroken (walkTable t q)) → ok ≡ true
+      → n ≡ length (spots (walkTable t q)) → n ≤ length out / 12 → r ≡ answer 0 n
+      → out′ ≡ spotsBytes (spots (walkTable t q)) ++ drop (12 * length (spots (walkTable t q))) out
+      → map′ ≡ readMap (blocksRead (walkTable t q))
+      → ReportPost x1 x2 y t out map r out′ map′
+  report-given r ok n out′ map′ e f k h z l a o m =
+      made r out′ map′
+      (query-given (report x1 x2 y) (walkTable t q) t out map e (eq-eqb (length map) 512 f) r out′ map′ (told-whole ok t q k h) (subst (λ (i : ℕ). i ≤ length out / 12) z l)
+      (a ∙ ap (answer 0) z)
+      o
+      m)
+
+-- a query made of numbers as the machine holds them
+pub query-same : (x1 x2 y a b d : ℤ) (q : Query) → a ≡ x1 → b ≡ x2 → d ≡ y → q ≡ query a b d → q ≡ query x1 x2 y
+query-same x1 x2 y a b d q e f g h = rw (e, f, g) at h
+
+-- the output and the map that an accepted Report leaves
+pub output-is : (ss : List Spot) (out out′ : List ℕ) (n : ℕ) → n ≡ length ss → out′ ≡ spotsBytes ss ++ drop (12 * n) out → out′ ≡ spotsBytes ss ++ drop (12 * length ss) out
+output-is ss out out′ n e h = h ∙ ap (λ (i : ℕ). spotsBytes ss ++ drop (12 * i) out) e
+
+pub map-is : (from to to′ due : List ℕ) → length from ≡ 512 → length to ≡ 512 → from ≡ due → to′ ≡ take 512 from ++ drop 512 to → to′ ≡ due
+map-is from to to′ due f t e h =
+    h ∙ ap₂ (λ (a b : List ℕ). a ++ b) (take-all 512 from (omega arith)) (ap (λ (n : ℕ). drop n to) (sym t) ∙ drop-length to) ∙ append-nil from ∙ e
