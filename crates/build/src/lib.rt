@@ -1,13 +1,17 @@
 // Lays a sorted list of spots out as a sound table: the path that always succeeds.
 ghost use mathlib.Core.Path.{_≡_};
 ghost use mathlib.Core.Bool.{true};
-ghost use Prim.Native.Nat.{suc, _+_, _-_, _*_, _^_, _≤_, _<_};
+ghost use mathlib.Core.List.{_∷_, [], _++_};
+ghost use Prim.Native.Nat.{_+_, _*_, _^_, _≤_, _<_};
 ghost use lib.ListN.{length};
 ghost use Rattle.spot.specs.Keys.{rankKey, within};
 ghost use Rattle.block.specs.Table.{tableSized, blocksOf, capacity};
+ghost use Rattle.block.specs.Header.{headerOf};
+ghost use Rattle.block.specs.Node.{firstOpen};
 ghost use Rattle.buffer.specs.Buffer.{held, Ordered};
-ghost use Rattle.rebuild.specs.Build.{nodes, shapeOf, shape, band, BuildPost, Rebuilt};
-ghost use Rattle.build.specs.Building.{spotsOf, limitOf, Segment, Cut, Buildable, HeaderFits, HeaderWritten, ShapeIs};
+ghost use Rattle.node.specs.Memory.{entriesOf, EntryFits};
+ghost use Rattle.rebuild.specs.Build.{nodes, shapeOf, band, firstKey, BuildPost, Rebuilt};
+ghost use Rattle.build.specs.Building.{spotsOf, limitOf, Segment, Cut, Buildable, HeaderFits, HeaderWritten, ShapeIs, NumbersAre, HeadSays, Marked, EntryFor, Own, OwnPut};
 
 // A limit of rank keys: all up to `last`, or none.
 pub struct Limit {
@@ -100,45 +104,91 @@ pub fn nodes_of(fan: usize, next: usize, height: usize) -> usize
     1 + fan * nodes_of(next, 6, height - 1)
 }
 
+// The shapes used, in rising order. The last three digits are the fan-out of the root, that of its children, and the levels below the root; the digits
+// before them are the number of leaves.
+const SHAPES: [usize; 31] = [
+    1000,
+    2261,
+    3361,
+    4461,
+    6661,
+    8861,
+    10252,
+    12262,
+    15352,
+    18362,
+    24462,
+    30562,
+    36662,
+    48862,
+    60253,
+    72263,
+    90353,
+    108363,
+    144463,
+    180563,
+    216663,
+    288863,
+    360254,
+    432264,
+    540354,
+    648364,
+    864464,
+    1080564,
+    1296664,
+    1728864,
+    2160255,
+];
+
 // The shape for n spots: the first with room for them at 32 a leaf.
 pub fn shape_of(n: usize) -> Fans
     requires { ⌜ n ≤ 65520 ⌝ }
     ensures { λ r. ⌜ ShapeIs n r ⌝ }
 {
-    let fans = [
-        0,
-        2,
-        3,
-        4,
-        6,
-        8,
-        2,
-        2,
-        3,
-        3,
-        4,
-        5,
-        6,
-        8,
-        2,
-        2,
-        3,
-        3,
-        4,
-        5,
-        6,
-        8,
-        2,
-        2,
-        3,
-        3,
-        4,
-        5,
-        6,
-        8,
-        2,
-    ];
-    // TO BE WRITTEN
+    let mut i = 0;
+    while 32 * (SHAPES[i] / 1000) < n {
+        i += 1;
+    }
+    let r = SHAPES[i];
+    Fans {
+        fan: r / 100 % 10,
+        next: r / 10 % 10,
+        height: r % 10,
+    }
+}
+
+// The numbers of block 0, and zeros in the rest of it.
+fn write_numbers(s: &mut [u8], bytes: u64, levels: usize, bound: u64)
+    requires { ⌜ (length (now s) ≡ 2048) × (bytes < 4294967296) × (levels < 256) × (bound < 4294967296) ⌝ }
+    ensures { λ _. ⌜ NumbersAre (now (s .exit)) bytes levels bound ⌝ }
+{
+    octets::zero(s, 2048);
+    octets::write32(s, 0, bytes);
+    octets::write8(s, 4, 1);
+    octets::write8(s, 5, levels);
+    octets::write16(s, 6, 1);
+    octets::write32(s, 8, bound);
+}
+
+// Marks the blocks up to `last` in a map.
+fn mark_to(map: &mut [u8], last: usize)
+    requires { ⌜ (last < 8 * length (now map)) × (length (now map) ≤ 512) ⌝ }
+    ensures { λ _. ⌜ Marked (now (map .entry)) (now (map .exit)) last ⌝ }
+{
+    let mut i = 0;
+    while i <= last {
+        octets::set_bit(map, i);
+        i += 1;
+    }
+}
+
+// The bytes of block 0.
+fn write_head(s: &mut [u8], bytes: u64, levels: usize, bound: u64, last: usize)
+    requires { ⌜ (length (now s) ≡ 2048) × (bytes < 4294967296) × (levels < 256) × (bound < 4294967296) × (last < 4096) ⌝ }
+    ensures { λ _. ⌜ HeadSays (headerOf (now (s .exit))) bytes levels bound last ⌝ }
+{
+    write_numbers(s, bytes, levels, bound);
+    mark_to(&mut s[12..524], last);
 }
 
 // Block 0: root block 1, blocks 0 to `last` in use.
@@ -146,7 +196,143 @@ pub fn write_header(t: &mut [u8], levels: usize, bound: usize, last: usize)
     requires { ⌜ HeaderFits (now t) levels bound last ⌝ }
     ensures { λ _. ⌜ HeaderWritten (now (t .entry)) (now (t .exit)) levels bound last ⌝ }
 {
-    // TO BE WRITTEN
+    let bytes = t.len() as u64;
+    write_head(&mut t[0..2048], bytes, levels, bound as u64, last);
+}
+
+// ---- the entries of a node
+
+fn no_entries() -> node::Entries
+    ensures { λ r. ⌜ (r .n ≡ 0) × (entriesOf r ≡ []) ⌝ }
+{
+    let none = block::Entry {
+        block: 0,
+        size: 0,
+        low: 0,
+        top: 0,
+        bottom: 0,
+    };
+    node::Entries {
+        n: 0,
+        list: [none; 8],
+    }
+}
+
+// One entry more, at the end.
+fn add_entry(es: node::Entries, e: block::Entry) -> node::Entries
+    requires { ⌜ es .n < 8 ⌝ }
+    ensures { λ r. ⌜ (r .n ≡ es .n + 1) × (entriesOf r ≡ entriesOf es ++ (e ∷ [])) ⌝ }
+{
+    let n = es.n;
+    let mut next = es;
+    next.list[n] = e;
+    next.n = n + 1;
+    next
+}
+
+// The first entry's range has no lower end of its own.
+fn open_first(es: node::Entries) -> node::Entries
+    requires { ⌜ es .n ≤ 8 ⌝ }
+    ensures { λ r. ⌜ (r .n ≡ es .n) × (entriesOf r ≡ firstOpen (entriesOf es)) ⌝ }
+{
+    let mut next = es;
+    let e = next.list[0];
+    next.list[0] = block::Entry {
+        block: e.block,
+        size: e.size,
+        low: 0,
+        top: e.top,
+        bottom: e.bottom,
+    };
+    next
+}
+
+// ---- a node and its entry
+
+// The lowest key of a segment, 0 where it is empty.
+fn first_key(list: &[u8], from: usize, n: usize) -> u64
+    requires { ⌜ Segment (now list) from n ⌝ }
+    ensures { λ r. ⌜ r ≡ firstKey (spotsOf (now (list .entry)) from n) ⌝ }
+{
+    if n == 0 {
+        return 0;
+    }
+    spot::read_key(list, 12 * from)
+}
+
+// The entry of a node in block b with these points: the highest and the lowest in rank order, 0 where there are none.
+fn entry_for(b: usize, low: u64, points: buffer::SpotBuffer) -> block::Entry
+    requires { ⌜ Ordered points × (points .n ≤ 64) × (b < 65536) ⌝ }
+    ensures { λ r. ⌜ EntryFor b low (held points) r ⌝ }
+{
+    let size = points.n;
+    if size == 0 {
+        return block::Entry {
+            block: b,
+            size: 0,
+            low,
+            top: 0,
+            bottom: 0,
+        };
+    }
+    let high = buffer::highest(points);
+    let least = buffer::lowest(points);
+    block::Entry {
+        block: b,
+        size,
+        low,
+        top: high.key,
+        bottom: least.key,
+    }
+}
+
+// Stores the node of a segment in block b: its points are those of the band. Returns its entry.
+fn put_own(
+    t: &mut [u8],
+    list: &[u8],
+    from: usize,
+    n: usize,
+    cut: u64,
+    limit: Limit,
+    level: usize,
+    es: node::Entries,
+    b: usize,
+) -> block::Entry
+    requires { ⌜ Own (now t) (now list) from n cut (limitOf limit) level es b ⌝ }
+    ensures { λ r. ⌜ OwnPut (now (t .entry)) (now (t .exit)) b level (entriesOf es) (band cut (limitOf limit) (spotsOf (now (list .entry)) from n)) (firstKey (spotsOf (now (list .entry)) from n)) r ⌝ }
+{
+    let points = take_band(list, from, n, cut, limit);
+    let entries = open_first(es);
+    let inserts = buffer::empty();
+    let deletes = buffer::empty_keys();
+    let own = node::NodeValue {
+        level,
+        entries,
+        points,
+        inserts,
+        deletes,
+    };
+    node::put_node(t, b, own);
+    let low = first_key(list, from, n);
+    entry_for(b, low, points)
+}
+
+// ---- the tree
+
+// The limit that admits what lies under a cut.
+fn limit_at(cut: u64) -> Limit
+    ensures { λ r. ⌜ limitOf r ≡ cut ⌝ }
+{
+    if cut == 0 {
+        return Limit {
+            some: false,
+            last: 0,
+        };
+    }
+    Limit {
+        some: true,
+        last: cut - 1,
+    }
 }
 
 // Builds the tree of a segment of the list from block b on: the spots under the limit. The node takes those from a cut on; the children share the segment
@@ -161,9 +347,34 @@ pub fn build(
     b: usize,
 ) -> block::Entry
     requires { ⌜ Buildable (now t) (now list) from n (fans .fan) (fans .next) (fans .height) b ⌝ }
-    ensures { λ r. ⌜ BuildPost (blocksOf (length (now (t .entry)))) (shapeOf (fans .fan) (fans .next) (fans .height)) b (spotsOf (now (list .entry)) from n) (limitOf limit) (now (t .entry)) (now (t .exit)) r ⌝ }
+    ensures { λ r. ⌜ BuildPost (blocksOf (length (now (t .entry)))) (shapeOf (fans .fan) (fans .next) (fans .height)) b (spotsOf (now (list .entry)) from n) (limitOf limit) (now (t .entry)) (now (t .exit)) r × EntryFits r ⌝ }
 {
-    // TO BE WRITTEN: cut (0 at a leaf), loop over the children, points by take_band, node::put_node, entry of the node
+    let mut es = no_entries();
+    let height = fans.height;
+    if height == 0 {
+        return put_own(t, list, from, n, 0, limit, 0, es, b);
+    }
+    let fan = fans.fan;
+    let cut = choose_cut(list, from, n, limit);
+    let under = limit_at(cut);
+    let below = Fans {
+        fan: fans.next,
+        next: 6,
+        height: height - 1,
+    };
+    let width = nodes_of(fans.next, 6, height - 1);
+    let mut left = n;
+    let mut j = 0;
+    while j < fan {
+        let share = left / (fan - j);
+        let start = from + (n - left);
+        let at = b + 1 + j * width;
+        let e = build(t, list, start, share, under, below, at);
+        es = add_entry(es, e);
+        left -= share;
+        j += 1;
+    }
+    put_own(t, list, from, n, cut, limit, height, es, b)
 }
 
 // The table built whole from the n spots at the front of the list.
@@ -171,5 +382,12 @@ pub fn build_table(t: &mut [u8], list: &[u8], n: usize)
     requires { ⌜ (tableSized (length (now t)) ≡ true) × (n ≤ capacity (length (now t))) × Segment (now list) 0 n ⌝ }
     ensures { λ _. ⌜ Rebuilt (now (t .exit)) (spotsOf (now (list .entry)) 0 n) × (length (now (t .exit)) ≡ length (now (t .entry))) ⌝ }
 {
-    // TO BE WRITTEN
+    let fans = shape_of(n);
+    let all = Limit {
+        some: true,
+        last: 18446744073709551615,
+    };
+    let _root = build(t, list, 0, n, all, fans, 1);
+    let last = nodes_of(fans.fan, fans.next, fans.height);
+    write_header(t, fans.height + 1, n, last);
 }

@@ -1,4 +1,4 @@
-// The scope paper's cases for the reading calls on freshly formatted tables. Each answer is printed as its number and its detail.
+// The scope paper's cases for the reading calls on freshly formatted tables, and damaged ones. Each answer is printed as its number and its detail.
 
 fn text(words: &[u8]) {
     io::write_all(1, words);
@@ -22,86 +22,94 @@ fn show_marks(map: &[u8]) {
     }
 }
 
-fn lengths(table: &mut [u8]) {
-    if 18432 <= table.len() {
-        show(b"format, 0 bytes", table::format(&mut table[0..0]));
-        show(b"format, 8 blocks", table::format(&mut table[0..16384]));
-        show(
-            b"format, 9 blocks less a byte",
-            table::format(&mut table[0..18431]),
-        );
-        show(b"check, 8 blocks", table::check(&table[0..16384]));
-        show(b"count, 8 blocks", table::count(&table[0..16384]));
-        show(b"check, 9 blocks of zeros", table::check(&table[0..18432]));
-        show(b"count, 9 blocks of zeros", table::count(&table[0..18432]));
-        show(b"format, 9 blocks", table::format(&mut table[0..18432]));
-        show(b"check, 9 blocks", table::check(&table[0..18432]));
-        show(b"count, 9 blocks", table::count(&table[0..18432]));
-    }
+fn look(table: &[u8]) {
+    show(b"  check", table::check(table));
+    show(b"  count", table::count(table));
+}
+
+fn ask(name: &[u8], table: &[u8], x1: i32, x2: i32, y: i32) {
+    let mut map = [0u8; 512];
+    let mut output = [0u8; 24];
+    show(name, table::report(table, x1, x2, y, &mut output, &mut map));
+    show_marks(&map);
 }
 
 fn reports(table: &[u8]) {
-    let mut map = [0u8; 512];
-    let mut output = [0u8; 24];
-    show(
-        b"report, everything",
-        table::report(
-            table,
-            -2147483648,
-            2147483647,
-            -2147483648,
-            &mut output,
-            &mut map,
-        ),
-    );
-    show_marks(&map);
-    show(
-        b"report, the last rank",
-        table::report(table, 0, 0, 2147483647, &mut output, &mut map),
-    );
-    show_marks(&map);
-    show(
-        b"report, x1 above x2",
-        table::report(table, 240, 0, 7, &mut output, &mut map),
-    );
-    show_marks(&map);
-    show(
-        b"report, no output",
-        table::report(table, 0, 1, 0, &mut output[0..0], &mut map),
-    );
-    show(
-        b"report, a map of 511 bytes",
-        table::report(table, 0, 1, 0, &mut output, &mut map[0..511]),
-    );
-    show(
-        b"report, no map",
-        table::report(table, 0, 1, 0, &mut output, &mut map[0..0]),
-    );
+    ask(b"  report, everything", table, -2147483648, 2147483647, -2147483648);
+    ask(b"  report, the last rank", table, 0, 0, 2147483647);
+    ask(b"  report, x1 above x2", table, 240, 0, 7);
 }
 
-// A table whose map of blocks in use marks a block that is not reached; one whose root has a version that is not known.
-fn damaged(table: &mut [u8]) {
-    if 18432 <= table.len() {
-        table[12] = 7;
-        show(b"check, a block too many in use", table::check(table));
-        show(b"count, a block too many in use", table::count(table));
-        table[12] = 3;
-        table[2050] = 2;
-        show(b"check, version 2", table::check(table));
-        show(b"count, version 2", table::count(table));
-        reports(table);
-        table[2050] = 1;
-        table[4] = 2;
-        show(b"count, version 2 in block 0", table::count(table));
-    }
+fn short_maps(table: &[u8]) {
+    let mut output = [0u8; 1];
+    let mut map = [0u8; 511];
+    show(b"  report, a map of 511 bytes", table::report(table, 0, 1, 0, &mut output, &mut map));
+    let mut long = [0u8; 513];
+    show(b"  report, a map of 513 bytes", table::report(table, 0, 1, 0, &mut output, &mut long));
+    let mut right = [0u8; 512];
+    show(b"  report, room for no spot", table::report(table, 0, 1, 0, &mut output, &mut right));
+}
+
+fn eight_blocks() {
+    let mut table = [165u8; 16384];
+    show(b"format, 8 blocks", table::format(&mut table));
+    look(&table);
+    reports(&table);
+}
+
+fn a_byte_short() {
+    let mut table = [165u8; 18431];
+    show(b"format, 9 blocks less a byte", table::format(&mut table));
+    look(&table);
+}
+
+fn nine_blocks() {
+    let mut table = [165u8; 18432];
+    text(b"9 blocks that hold anything\n");
+    look(&table);
+    reports(&table);
+    show(b"format, 9 blocks", table::format(&mut table));
+    look(&table);
+    reports(&table);
+    short_maps(&table);
+}
+
+// A block in use that is not reached: sound no more, and no reading call sees it.
+fn block_too_many() {
+    let mut table = [0u8; 18432];
+    table::format(&mut table);
+    table[12] = 7;
+    text(b"a block too many in use\n");
+    look(&table);
+    reports(&table);
+}
+
+fn root_of_version_2() {
+    let mut table = [0u8; 18432];
+    table::format(&mut table);
+    table[2050] = 2;
+    text(b"a root of version 2\n");
+    look(&table);
+    reports(&table);
+}
+
+fn header_of_version_2() {
+    let mut table = [0u8; 18432];
+    table::format(&mut table);
+    table[4] = 2;
+    text(b"block 0 of version 2\n");
+    look(&table);
+    reports(&table);
 }
 
 fn main() {
-    let mut table = [0u8; 18432];
-    lengths(&mut table);
-    reports(&table);
-    damaged(&mut table);
+    eight_blocks();
+    a_byte_short();
+    nine_blocks();
+    block_too_many();
+    root_of_version_2();
+    header_of_version_2();
     let mut larger = [165u8; 65536];
     show(b"format, 32 blocks", table::format(&mut larger));
-    show(b"check, 32 blocks", table::check(&larger));
+    look(&larger);
 }

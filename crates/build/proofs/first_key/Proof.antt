@@ -1,0 +1,22 @@
+-- `build::first_key` meets its contract.
+-- Assumes nothing.
+use Rattle.build.proofs.Own.{first-none, first-some}
+use mathlib.Core.Path.{_∙_}
+use borrow.Author.Needs.{needs}
+use Rattle.build.proofs.first_key.Statement.{statement}
+use Rattle.build.proofs.first_key.Tie as tie
+
+returns : tie.Need-returns
+returns c = first-none _ _ _ (c .if1 .taken)
+
+mul-read-key : tie.Need-mul-read-key
+mul-read-key c = search needs
+
+read-key-requires : tie.Need-read-key-requires
+read-key-requires c κs = search needs
+
+returns-2 : tie.Need-returns-2
+returns-2 c = c .read-key .ensures ∙ first-some _ _ _ (c .before .if1 .left)
+
+pub first-key-spec : {M : Type 1} → statement M
+first-key-spec = tie.close (tie.spec returns mul-read-key read-key-requires returns-2)

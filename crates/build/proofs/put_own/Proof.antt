@@ -1,0 +1,54 @@
+-- `build::put_own` meets its contract: what is stored is a node as a rebuild leaves it.
+-- Assumes nothing.
+use Rattle.rebuild.specs.Build.{band}
+use Rattle.build.specs.Building.{spotsOf, limitOf}
+use Rattle.build.proofs.Own.{own-storable, own-put}
+use borrow.Author.Needs.{needs}
+use Rattle.build.proofs.put_own.Statement.{statement}
+use Rattle.build.proofs.put_own.Tie as tie
+
+take-band-requires : tie.Need-take-band-requires
+take-band-requires c κs = search needs
+
+open-first-requires : tie.Need-open-first-requires
+open-first-requires c κs = search needs
+
+empty-requires : tie.Need-empty-requires
+empty-requires c κs = search needs
+
+empty-keys-requires : tie.Need-empty-keys-requires
+empty-keys-requires c κs = search needs
+
+put-node-requires : tie.Need-put-node-requires
+put-node-requires c κs =
+    let a = c .before .before .before .before .before .before .before .args in
+    let p = c .before .before .before .before .before .before .before .pre in
+    (p .inside, own-storable (a .level) (a .es) (c .before .before .before .open-first .result) (c .before .before .before .before .take-band .result) (c .before .before .empty .result) (c .before .empty-keys .result) (c .before .before .before .open-first .ensures .0) (c .before .before .before .open-first .ensures .1) (c .before .before .empty .ensures .0) (c .before .empty-keys .ensures .0) (p .shallow) (p .entries) (c .before .before .before .before .take-band .ensures .2))
+
+first-key-requires : tie.Need-first-key-requires
+first-key-requires c κs = search needs
+
+entry-for-requires : tie.Need-entry-for-requires
+entry-for-requires c κs = search needs
+
+same-length : tie.Need-same-length
+same-length c = search needs
+
+returns : tie.Need-returns
+returns c =
+    let a = c .before .before .before .before .before .before .before .before .before .before .before .before .args in
+    own-put (a .level) (a .es) (c .before .before .before .before .before .before .before .before .open-first .result) (c .before .before .before .before .before .before .before .before .before .take-band .result) (c .before .before .before .before .before .before .before .empty .result) (c .before .before .before .before .before .before .empty-keys .result) (c .before .before .before .before .before .before .before .before .open-first .ensures .0) (c .before .before .before .before .before .before .before .before .open-first .ensures .1) (c .before .before .before .before .before .before .before .empty .ensures .0) (c .before .before .before .before .before .before .empty-keys .ensures .0) {ps = band (a .cut) (limitOf (a .limit)) (spotsOf (a .list .now) (a .from) (a .n))} (c .before .before .before .before .put-node .ensures) (c .before .before .before .before .before .before .before .before .before .take-band .ensures .1) (c .before .first-key .ensures) (c .entry-for .ensures)
+
+pub put-own-spec : {M : Type 1} → statement M
+put-own-spec =
+    tie.close
+    (tie.spec
+    take-band-requires
+    open-first-requires
+    empty-requires
+    empty-keys-requires
+    put-node-requires
+    first-key-requires
+    entry-for-requires
+    same-length
+    returns)

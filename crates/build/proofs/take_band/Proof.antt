@@ -1,0 +1,76 @@
+-- `build::take_band` meets its contract. The loop's invariant: what is taken and what is left of the band make the whole band.
+-- Assumes nothing.
+use Rattle.build.proofs.Bands.{Taken, taken-none, taken-room, taken-in, taken-out, taken-all}
+use Rattle.build.specs.Building.{limitOf}
+use Prim.Native.Nat.{_-_}
+use mathlib.Core.Logic.{⊎-elim}
+use borrow.Author.Needs.{needs}
+use native.Mathlib.Omega.{arith}
+use Rattle.build.proofs.take_band.Statement.{statement}
+use Rattle.build.proofs.take_band.Tie as tie
+
+abbrev Inv-loop : tie.InvT-loop
+Inv-loop list from n cut limit out₀ i₀ out i = Taken list from n cut (limitOf limit) out i
+
+abbrev μ-loop : tie.MeasureT-loop
+μ-loop list from n cut limit out₀ i₀ out i = n - i
+
+empty-requires : tie.Need-empty-requires Inv-loop μ-loop
+empty-requires c κs = search needs
+
+loop-holds : tie.Need-loop-holds Inv-loop μ-loop
+loop-holds c = taken-none _ _ _ _ _ (c .empty .ensures .0) (c .empty .ensures .1)
+
+add-read-spot : tie.Need-add-read-spot Inv-loop μ-loop
+add-read-spot c = omega arith
+
+mul-read-spot : tie.Need-mul-read-spot Inv-loop μ-loop
+mul-read-spot c = omega arith
+
+read-spot-requires : tie.Need-read-spot-requires Inv-loop μ-loop
+read-spot-requires c κs = omega arith
+
+in-band-requires : tie.Need-in-band-requires Inv-loop μ-loop
+in-band-requires c κs = omega arith
+
+push-requires : tie.Need-push-requires Inv-loop μ-loop
+push-requires c κs =
+    let a = c .before .before .before .before .before .before .before .args in
+    let m = taken-room (a .list .now) (a .from) (a .n) (a .cut) (limitOf (a .limit)) (c .before .before .before .before .loop .inv) (c .before .before .before .loop-test .taken) (c .before .before .read-spot .ensures) (c .before .in-band .ensures) (c .if1 .taken) (c .before .before .before .before .before .before .before .pre .1) in
+    omega arith
+
+add-i : tie.Need-add-i Inv-loop μ-loop
+add-i c = omega arith
+
+loop-less : tie.Need-loop-less Inv-loop μ-loop
+loop-less c = omega arith
+
+loop-again : tie.Need-loop-again Inv-loop μ-loop
+loop-again c =
+    let a = c .before .before .before .before .before .before .before .args in
+    let r = c .before .before .before .before .loop .inv in
+    let l = c .before .before .before .loop-test .taken in
+    ⊎-elim (λ w. taken-in (a .list .now) (a .from) (a .n) (a .cut) (limitOf (a .limit)) r l (c .before .before .read-spot .ensures) (c .before .in-band .ensures) (w .0 .taken) (w .1 .ensures .0) (w .1 .ensures .1) (w .2))
+    (λ w. taken-out (a .list .now) (a .from) (a .n) (a .cut) (limitOf (a .limit)) r l (c .before .before .read-spot .ensures) (c .before .in-band .ensures) (w .0 .left) (w .1))
+    (c .if1 .came)
+
+returns : tie.Need-returns Inv-loop μ-loop
+returns c = taken-all _ _ _ _ _ (c .before .before .before .before .pre .0 .rises) (c .before .before .before .before .pre .1) (c .before .loop .inv) (c .loop-test .left)
+
+pub take-band-spec : {M : Type 1} → statement M
+take-band-spec =
+    tie.close
+    (tie.spec
+    Inv-loop
+    μ-loop
+    empty-requires
+    loop-holds
+    add-read-spot
+    mul-read-spot
+    read-spot-requires
+    in-band-requires
+    push-requires
+    add-i
+    loop-less
+    loop-again
+    returns)

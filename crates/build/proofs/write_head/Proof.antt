@@ -1,0 +1,41 @@
+-- `build::write_head` meets its contract: the numbers, and the map put into its part of the block.
+-- Assumes nothing.
+use Rattle.build.proofs.Head.{head-says}
+use mathlib.Core.Path.{refl, _∙_}
+use borrow.Author.Needs.{needs}
+use Rattle.build.proofs.write_head.Statement.{statement}
+use Rattle.build.proofs.write_head.Tie as tie
+
+write-numbers-requires : tie.Need-write-numbers-requires
+write-numbers-requires c κs = search needs
+
+sub-mark-to : tie.Need-sub-mark-to
+sub-mark-to c = search needs
+
+part-mark-to-start : tie.Need-part-mark-to-start
+part-mark-to-start c = search needs
+
+part-mark-to-end : tie.Need-part-mark-to-end
+part-mark-to-end c = search needs
+
+mark-to-requires : tie.Need-mark-to-requires
+mark-to-requires c κs = search needs
+
+same-length : tie.Need-same-length
+same-length c = search needs
+
+returns : tie.Need-returns
+returns c =
+    head-says _ _ _ _ (c .before .before .before .before .before .before .write-numbers .last .0) _ (c .before .before .mark-to .last .0) (c .before .before .before .before .before .before .write-numbers .kept .0 ∙ c .before .before .before .before .before .before .before .before .before .pre .0) (c .before .before .before .before .before .before .write-numbers .ensures) (c .before .before .mark-to .ensures) refl
+
+pub write-head-spec : {M : Type 1} → statement M
+write-head-spec =
+    tie.close
+    (tie.spec
+    write-numbers-requires
+    sub-mark-to
+    part-mark-to-start
+    part-mark-to-end
+    mark-to-requires
+    same-length
+    returns)
