@@ -229,7 +229,7 @@ fn zeros(s: &[u8], at: usize) -> bool
 }
 
 // The keys of the n records of w bytes from at on rise, and the first is at least floor.
-fn rises(s: &[u8], at: usize, w: usize, n: usize, floor: u64) -> bool
+pub fn rises(s: &[u8], at: usize, w: usize, n: usize, floor: u64) -> bool
     requires { ⌜ (8 ≤ w) × (at + w * n ≤ length (now s)) ⌝ }
     ensures { λ r. ⌜ r ≡ risingFrom floor (keysAt (now (s .entry)) w n at) ⌝ }
 {
