@@ -2,46 +2,49 @@
 -- should of every key. Whatever they answer, the journal can still tell what was.
 -- Assumes nothing.
 use mathlib.Core.Path.{_≡_}
-use Prim.Native.Nat.{ℕ, suc, _≤_, _<_}
-use mathlib.Core.Bool.{true, cond}
-use mathlib.Core.List.{List, [], _∷_, List·Memᴰ}
+use Prim.Native.Nat.{ℕ, suc, _+_, _≤_, _<_}
+use mathlib.Core.Bool.{Bool, true, false, cond}
+use mathlib.Core.List.{List, [], _∷_, _++_, List·Memᴰ}
 use mathlib.Core.Option.{Option, none, some}
-use lib.ListN.{length}
+use lib.ListN.{length, take, drop}
 use lib.Dec.{eqb}
-use Rattle.spot.specs.Keys.{allKeys}
+use Rattle.octets.specs.Lists.{has, keep}
+use Rattle.spot.specs.Keys.{rankKey, allKeys}
+use Rattle.spot.specs.Spots.{keys, put}
+use Rattle.spot.specs.Sorted.{only, but, lower}
+use Rattle.spot.specs.declared.Spot.{Spot}
 use Rattle.block.specs.declared.Entry.{Entry}
 use Rattle.block.specs.declared.Asked.the-variants.{Child}
 use Rattle.block.specs.Table.{blocksOf}
 use Rattle.block.specs.Node.{Store, storeOf}
 use Rattle.block.specs.NodeRules.{zeroFirst, lows}
-use Rattle.tree.specs.Part.{Part}
+use Rattle.buffer.specs.Buffer.{held, named, Highest}
 use Rattle.tree.specs.Lookup.{lookup}
-use Rattle.update.specs.Held.{Held}
 use Rattle.update.proofs.Change.{Sound, Changed}
 use Rattle.update.proofs.Spare.{Taken}
 use Rattle.update.proofs.Open.{Open}
 use Rattle.update.proofs.Loose.{part}
 use Rattle.update.proofs.Rounds.{Loop, Full}
-use Rattle.node.specs.Memory.{entriesOf, EntriesFit, EntryFits}
+use Rattle.node.specs.Memory.{entriesOf, EntriesFit, EntryFits, EntryAt}
 use Rattle.node.specs.declared.NodeValue.{NodeValue}
-use Rattle.edit.specs.Edits.{heldIn, Tidy}
+use Rattle.edit.specs.Edits.{heldIn, Tidy, BestChild}
 use Rattle.journal.specs.Journal.{Undoable}
 use Rattle.fill.specs.declared.Took.{Took}
 use Rattle.fill.specs.declared.Filled.{Filled}
-use Rattle.fill.specs.declared.Round.{Round}
+use Rattle.fill.specs.declared.Turned.{Turned}
 
 -- the entries lead to blocks of the table
 abbrev pub Inside : List ℕ → List Entry → Type 0
 Inside t es = (e : Entry) → List·Memᴰ e es → (1 ≤ e .block) × (e .block < blocksOf (length t))
 
 -- a node in memory that may be worked on over the table
-pub record Workable (t s map : List ℕ) (n : NodeValue) (level : ℕ) : Type 0 where
+pub record Workable (t s map : List ℕ) (n : NodeValue) (depth : ℕ) : Type 0 where
   pub undoable : Undoable t s map
   pub tidy : Tidy n
   pub entries : EntriesFit (n .entries)
   pub inside : Inside t (entriesOf (n .entries))
-  pub level : n .level ≡ level
-  pub deep : level ≤ 6
+  pub level : n .level ≡ depth
+  pub deep : depth ≤ 6
   pub points : n .points .n ≤ 64
   pub inserts : n .inserts .n ≤ 80
   pub deletes : n .deletes .n ≤ 32
@@ -57,6 +60,7 @@ pub record FillPost (t t′ s′ map′ : List ℕ) (level : ℕ) (n : NodeValue
   pub inserts : r .node .inserts .n ≤ n .inserts .n
   pub deletes : r .node .deletes .n ≤ n .deletes .n
   pub count : r .node .entries .n ≡ n .entries .n
+  pub sameLows : lows (entriesOf (r .node .entries)) ≡ lows (entriesOf (n .entries))
   pub done : r .ok ≡ true → (lo hi rank : ℕ) (f : ℕ → Option ℕ) → hi ≤ allKeys → zeroFirst (lows (entriesOf (n .entries))) ≡ true
       → Open level (storeOf t) lo hi rank (entriesOf (n .entries)) (heldIn n) f
       → FilledBy (storeOf t) (storeOf t′) level n (r .node) lo hi f
@@ -77,13 +81,63 @@ pub record TakePost (t t′ s′ map′ : List ℕ) (level : ℕ) (e : Entry) (r
   pub done : r .ok ≡ true → (lo hi : ℕ) → lo ≤ hi → hi ≤ allKeys → e .low ≤ lo → Sound (suc level) (storeOf t) (part (e .block) (Child e) lo hi ∷ [])
       → TookOut (storeOf t) (storeOf t′) level e lo hi r
 
--- one round: the loop of fill goes on from where it stood, or nothing is left
-pub record RoundPost (t t′ s′ map′ : List ℕ) (level : ℕ) (n : NodeValue) (r : Round) : Type 0 where
+-- the loop of fill goes on from where it stood with n over the store y: with r over the store z, and at the end where `over`
+abbrev pub GoesOn : Store → Store → ℕ → NodeValue → NodeValue → Bool → Type 0
+GoesOn y z level n r over =
+    (ni nd lo hi rank : ℕ) (x : Store) (es₀ : List Entry) (f : ℕ → Option ℕ) → hi ≤ allKeys → zeroFirst (lows es₀) ≡ true
+    → Loop ni nd level lo hi x es₀ y rank (entriesOf (n .entries)) (heldIn n) f
+    → (after : ℕ) × Loop ni nd level lo hi x es₀ z after (entriesOf (r .entries)) (heldIn r) f × (over ≡ true → Full (entriesOf (r .entries)) (heldIn r))
+
+-- one round
+pub record RoundPost (t t′ s′ map′ : List ℕ) (level : ℕ) (n : NodeValue) (r : Turned) : Type 0 where
   pub works : Workable t′ s′ map′ (r .node) level
   pub inserts : r .node .inserts .n ≤ n .inserts .n
   pub deletes : r .node .deletes .n ≤ n .deletes .n
   pub count : r .node .entries .n ≡ n .entries .n
-  pub goesOn : r .ok ≡ true → (ni nd lo hi rank : ℕ) (x : Store) (es₀ : List Entry) (f : ℕ → Option ℕ) → hi ≤ allKeys → zeroFirst (lows es₀) ≡ true
-      → Loop ni nd level lo hi x es₀ (storeOf t) rank (entriesOf (n .entries)) (heldIn n) f
-      → (after : ℕ) × Loop ni nd level lo hi x es₀ (storeOf t′) after (entriesOf (r .node .entries)) (heldIn (r .node)) f
-      × (r .over ≡ true → Full (entriesOf (r .node .entries)) (heldIn (r .node)))
+  pub sameLows : lows (entriesOf (r .node .entries)) ≡ lows (entriesOf (n .entries))
+  pub goesOn : r .ok ≡ true → GoesOn (storeOf t) (storeOf t′) level n (r .node) (r .over)
+
+-- a child's entry is replaced; nothing else of the node changes
+pub record Replaced (n : NodeValue) (c : ℕ) (e : Entry) (r : NodeValue) : Type 0 where
+  pub count : r .entries .n ≡ n .entries .n
+  pub entries : entriesOf (r .entries) ≡ take c (entriesOf (n .entries)) ++ (e ∷ drop (suc c) (entriesOf (n .entries)))
+  pub level : r .level ≡ n .level
+  pub points : r .points ≡ n .points
+  pub inserts : r .inserts ≡ n .inserts
+  pub deletes : r .deletes ≡ n .deletes
+
+-- the end of a round: the buffers change, or it fails and nothing does
+pub record Lifted (n : NodeValue) (r : Turned) : Type 0 where
+  pub over : r .over ≡ false
+  pub tidy : Tidy (r .node)
+  pub entries : r .node .entries ≡ n .entries
+  pub level : r .node .level ≡ n .level
+  pub points : r .node .points .n ≤ n .points .n + 1
+  pub inserts : r .node .inserts .n ≤ n .inserts .n
+  pub deletes : r .node .deletes .n ≤ n .deletes .n
+
+-- a spot of I goes to P
+pub record InsertUp (n : NodeValue) (s : Spot) (r : Turned) : Type 0 where
+  pub lifted : Lifted n r
+  pub raised : r .ok ≡ true → heldIn (r .node) ≡ record { points = put s (held (n .points)); inserts = only (but (s .key)) (held (n .inserts)); deletes = keep (lower (s .key)) (named (n .deletes)) }
+
+-- a child's spot goes to P, or with the delete that names it
+pub record ChildUp (n : NodeValue) (s : Spot) (r : Turned) : Type 0 where
+  pub lifted : Lifted n r
+  pub raised : r .ok ≡ true → has (s .key) (named (n .deletes)) ≡ false
+      → heldIn (r .node) ≡ record { points = put s (held (n .points)); inserts = held (n .inserts); deletes = keep (lower (s .key)) (named (n .deletes)) }
+  pub dropped : r .ok ≡ true → has (s .key) (named (n .deletes)) ≡ true
+      → heldIn (r .node) ≡ record { points = held (n .points); inserts = held (n .inserts); deletes = keep (lower (s .key)) (named (n .deletes)) }
+
+-- the child with the highest top is the c-th, and I has nothing as high
+pub record ChildHighest (n : NodeValue) (c : ℕ) : Type 0 where
+  pub inside : c < n .entries .n
+  pub best : BestChild (entriesOf (n .entries)) c
+  pub above : (e : Entry) → EntryAt (entriesOf (n .entries)) c e → (k : ℕ) → List·Memᴰ k (keys (held (n .inserts))) → rankKey k < rankKey (e .top)
+
+-- it has the same key as the highest of I
+pub record BothHighest (n : NodeValue) (c : ℕ) (s : Spot) : Type 0 where
+  pub inside : c < n .entries .n
+  pub best : BestChild (entriesOf (n .entries)) c
+  pub highest : Highest (held (n .inserts)) s
+  pub same : (e : Entry) → EntryAt (entriesOf (n .entries)) c e → s .key ≡ e .top

@@ -50,3 +50,25 @@ pub extern "C" fn perf_node_ok(
     };
     block::node_ok(s, blocks, level, block::Asked::Child(e))
 }
+
+// Validates the root in block 1, loads it, inserts a spot, and stores it again.
+#[no_mangle]
+pub extern "C" fn perf_change(t: &mut [u8], level: usize, key: u64, track: u32) -> bool {
+    if t.len() < 4096 {
+        return false;
+    }
+    if !block::block_ok(t, 1, level, block::Asked::Root) {
+        return false;
+    }
+    let n = node::load(t, 1);
+    let r = edit::threshold(n);
+    let m = edit::insert_one(n, spot::Spot { key, track }, r);
+    if 64 < m.points.n {
+        return false;
+    }
+    if 64 < m.inserts.n {
+        return false;
+    }
+    node::put_node(t, 1, m);
+    true
+}

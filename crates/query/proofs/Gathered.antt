@@ -99,11 +99,12 @@ module _ (t : List ℕ) (q : Query) (h : isBroken (walkTable t q) ≡ false) whe
       count-is : r ≡ length (spots (walkTable t q))
       count-is = c .count ∙ ap length gained
 
-      pub root-collected : (r ≡ length (spots (walkTable t q))) × (out' ≡ spotsBytes (spots (walkTable t q)) ++ drop (12 * r) out)
+      pub root-collected : (r ≡ length (spots (walkTable t q))) × (out' ≡ spotsBytes (spots (walkTable t q)) ++ drop (12 * r) out) × (spotsIn out' r ≡ spots (walkTable t q))
       root-collected = (
         count-is,
         sym (take-append-drop (12 * r) out')
             ∙ ap (λ (x : List ℕ). x ++ drop (12 * r) out')
             (sym (spotsBytes-records out' bytes r 0 (omega (arith, count-is, c .sized))) ∙ ap spotsBytes (c .spots ∙ gained))
             ∙ ap (λ (x : List ℕ). spotsBytes (spots (walkTable t q)) ++ x) (c .rest),
+        c .spots ∙ gained,
       )

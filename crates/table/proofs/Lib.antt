@@ -6,3 +6,4 @@ pub mod Histories
 pub mod Demand
 pub mod Worked
 pub mod Answering
+pub mod Anew

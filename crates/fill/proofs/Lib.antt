@@ -1,0 +1,4 @@
+pub mod Works
+pub mod Onward
+pub mod Turns
+pub mod Whole
