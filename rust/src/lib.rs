@@ -22,6 +22,7 @@ extern "C" {
         read_map: *mut u8,
         read_map_len: usize,
     ) -> u64;
+    fn spot_rebuild(table: *mut u8, len: usize, work: *mut u8, work_len: usize) -> u64;
 }
 
 /// What a call answers: 0 with its detail, or one of the numbers of refusal.
@@ -77,6 +78,11 @@ pub fn report(table: &[u8], x1: i32, x2: i32, y: i32, output: &mut [u8], read_ma
     Answer::unpack(unsafe {
         spot_report(table.as_ptr(), table.len(), x1, x2, y, output.as_mut_ptr(), output.len(), read_map.as_mut_ptr(), read_map.len())
     })
+}
+
+/// Lays the live spots out anew, with a work area of at least the table's length.
+pub fn rebuild(table: &mut [u8], work: &mut [u8]) -> Answer {
+    Answer::unpack(unsafe { spot_rebuild(table.as_mut_ptr(), table.len(), work.as_mut_ptr(), work.len()) })
 }
 
 /// The spots of an accepted output.

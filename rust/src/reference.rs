@@ -298,3 +298,99 @@ pub fn read_by_report(table: &[u8], x1: i32, x2: i32, y: i32) -> BTreeSet<usize>
     go(table, root, None, None, (x1, x2, y), &mut out);
     out
 }
+
+/// The live spots of a table, or why it is not sound: the rules of "When a table is sound", one after the other.
+pub fn sound(table: &[u8]) -> Result<BTreeMap<Key, u32>, String> {
+    struct Walk<'a> {
+        table: &'a [u8],
+        reached: BTreeSet<usize>,
+    }
+    // the live spots below, and every identity named there
+    type Found = (BTreeMap<Key, u32>, BTreeSet<Key>);
+    impl Walk<'_> {
+        fn node(&mut self, b: usize, level: usize, lo: Option<Key>, hi: Option<Key>, asked: Option<&Entry>) -> Result<Found, String> {
+            if b == 0 || b >= self.table.len() / 2048 || !self.reached.insert(b) {
+                return Err(format!("block {b} is reached twice or is none"));
+            }
+            let s = block(self.table, b);
+            if 8 + 28 * s[7] as usize + 12 * (s[4] as usize + s[5] as usize) + 8 * s[6] as usize > 2048 {
+                return Err(format!("block {b} uses more than it has"));
+            }
+            let n = Node::read(s);
+            let mut again = vec![0u8; 2048];
+            n.write(&mut again);
+            if again != block(self.table, b) || n.level as usize != level {
+                return Err(format!("block {b} is not laid out as a node of level {level}"));
+            }
+            let c = n.entries.len();
+            if (level == 0 && c != 0) || (level > 0 && !((if asked.is_some() { 4 } else { 2 })..=8).contains(&c)) {
+                return Err(format!("block {b} has {c} children"));
+            }
+            let mut all: BTreeSet<Key> = BTreeSet::new();
+            let names = n.points.keys().chain(n.inserts.keys()).chain(n.deletes.iter());
+            for k in names {
+                if !all.insert(*k) || lo.map_or(false, |l| *k < l) || hi.map_or(false, |h| *k >= h) {
+                    return Err(format!("block {b} names {k:?} twice or outside its range"));
+                }
+            }
+            if let Some(e) = asked {
+                let own = n.entry(b, e.low);
+                if (own.size, own.top, own.bottom) != (e.size, e.top, e.bottom) {
+                    return Err(format!("block {b} and its entry differ"));
+                }
+            }
+            let (mut live, mut under) = (BTreeMap::new(), BTreeSet::new());
+            let mut from = lo;
+            for (j, e) in n.entries.iter().enumerate() {
+                let to = n.entries.get(j + 1).map_or(hi, |f| f.low);
+                if j > 0 && (e.low < from || lo.map_or(false, |l| e.low.unwrap() < l) || hi.map_or(false, |h| e.low.unwrap() >= h)) {
+                    return Err(format!("the ranges of block {b}"));
+                }
+                let begin = if j == 0 { lo } else { e.low };
+                if j + 1 < c && j > 0 && to <= begin {
+                    return Err(format!("the ranges of block {b} do not rise"));
+                }
+                let (l, u) = self.node(e.block, level - 1, begin, to, Some(e))?;
+                live.extend(l);
+                under.extend(u);
+                from = to;
+            }
+            let lowest = n.points.keys().map(|k| by_rank(*k)).min();
+            let others = n.inserts.keys().chain(n.deletes.iter()).chain(under.iter());
+            if others.into_iter().any(|k| lowest.map_or(false, |l| by_rank(*k) >= l)) {
+                return Err(format!("P of block {b} does not lie above the rest"));
+            }
+            let (p, i, d) = (n.points.len(), n.inserts.len(), n.deletes.len());
+            let filled = (32..=64).contains(&p) && i <= 64 && d <= 16;
+            let lowest = p < 32 && i == 0 && d == 0 && under.is_empty();
+            if !(filled || lowest) || (level == 0 && i + d > 0) {
+                return Err(format!("the sizes of block {b}"));
+            }
+            for k in &n.deletes {
+                live.remove(k);
+            }
+            live.extend(n.inserts.iter().map(|(k, t)| (*k, *t)));
+            live.extend(n.points.iter().map(|(k, t)| (*k, *t)));
+            all.extend(under);
+            Ok((live, all))
+        }
+    }
+    let blocks = table.len() / 2048;
+    let h = &table[..2048];
+    let word = |i: usize| u32::from_be_bytes([h[i], h[i + 1], h[i + 2], h[i + 3]]) as usize;
+    if word(0) != table.len() || h[4] != 1 || !(1..=7).contains(&h[5]) || h[524..].iter().any(|x| *x != 0) {
+        return Err("block 0".into());
+    }
+    let root = (h[6] as usize) << 8 | h[7] as usize;
+    let mut walk = Walk { table, reached: BTreeSet::new() };
+    let (live, _) = walk.node(root, h[5] as usize - 1, None, None, None)?;
+    for b in 0..4096 {
+        if (h[12 + b / 8] >> (b % 8) & 1 == 1) != (b == 0 || walk.reached.contains(&b)) {
+            return Err(format!("the map and block {b}"));
+        }
+    }
+    if word(8) < live.len() || word(8) > 16 * (blocks - 1) {
+        return Err("the figure in bytes 8-11".into());
+    }
+    Ok(live)
+}

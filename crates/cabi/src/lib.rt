@@ -2,7 +2,7 @@
 ghost use mathlib.Core.Path.{_≡_};
 ghost use Prim.Native.Nat.{_+_, _*_};
 ghost use Rattle.table.specs.Queries.{ReportPost, CountPost, CheckPost};
-ghost use Rattle.table.specs.Updates.{FormatPost};
+ghost use Rattle.table.specs.Updates.{FormatPost, RebuildPost};
 ghost use Rattle.cabi.specs.Packed.{Packed};
 
 fn pack(a: block::Answer) -> u64
@@ -44,4 +44,11 @@ pub extern "C" fn spot_report(
     ensures { λ r. ⌜ Packed r (λ a. ReportPost x1 x2 y (now (table .entry)) (now (output .entry)) (now («read_map» .entry)) a (now (output .exit)) (now («read_map» .exit))) ⌝ }
 {
     pack(table::report(table, x1, x2, y, output, read_map))
+}
+
+#[no_mangle]
+pub extern "C" fn spot_rebuild(table: &mut [u8], scratch: &mut [u8]) -> u64
+    ensures { λ r. ⌜ Packed r (λ a. RebuildPost (now (table .entry)) (now (scratch .entry)) a (now (table .exit)) (now (scratch .exit))) ⌝ }
+{
+    pack(table::rebuild(table, scratch))
 }

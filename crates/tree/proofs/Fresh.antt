@@ -1,8 +1,9 @@
 -- A fresh table: by computation at 9 blocks, and for every size.
 -- Assumes nothing.
-use mathlib.Core.Path.{_≡_, refl}
+use mathlib.Core.Path.{_≡_, refl, ap, sym, _∙_}
 use mathlib.Core.Bool.{true, not}
 use mathlib.Core.List.{List, [], _∷_}
+use mathlib.Core.Option.{none}
 use Prim.Native.Nat.{ℕ, _+_, _-_, _/_, _≤_}
 use native.Mathlib.Omega.{arith}
 use lib.ListN.{length, replicate, length-replicate}
@@ -21,6 +22,9 @@ use Rattle.block.specs.Table.{blockOk, tableSized, capacity}
 use Rattle.block.specs.Fresh.{freshHeader, freshLeaf, formatted}
 use Rattle.block.specs.NodeRules.{nodeOk, childCountOk, buffersRise, namedOnce, names, lowsRise, pointsAbove, filled, lowest, leafBuffersEmpty, agrees, notBelow, childBlocksOk}
 use Rattle.block.specs.HeaderRules.{headerOk, mapShows}
+use Rattle.spot.specs.Spots.{find}
+use Rattle.tree.specs.Lookup.{live}
+use Rattle.tree.proofs.Tables.{live-finds}
 use Rattle.tree.specs.Part.{whole}
 use Rattle.tree.specs.Sound.{soundAt, inRange, mapExact, sound}
 use Rattle.tree.specs.Reach.{reach}
@@ -120,3 +124,11 @@ module _ (n : ℕ) (z : tableSized n ≡ true) where
   pub fresh-sound : sound (formatted n) ≡ true
   unfolding sound liveCount be bytesOf
   fresh-sound = rw (fresh-head, fresh-sized, fresh-header-ok, fresh-tree, fresh-exact, fresh-empty) all-true
+
+  -- one level
+  pub fresh-levels : headOf (formatted n) .levels ≡ 1
+  fresh-levels = ap (λ (h : Header). h .levels) fresh-head
+
+  -- no key is live
+  pub fresh-live : (k : ℕ) → live (formatted n) k ≡ none
+  fresh-live k = sym (live-finds (formatted n) fresh-sound k) ∙ ap (find k) fresh-empty

@@ -35,7 +35,13 @@ fn ask(name: &[u8], table: &[u8], x1: i32, x2: i32, y: i32) {
 }
 
 fn reports(table: &[u8]) {
-    ask(b"  report, everything", table, -2147483648, 2147483647, -2147483648);
+    ask(
+        b"  report, everything",
+        table,
+        -2147483648,
+        2147483647,
+        -2147483648,
+    );
     ask(b"  report, the last rank", table, 0, 0, 2147483647);
     ask(b"  report, x1 above x2", table, 240, 0, 7);
 }
@@ -43,11 +49,20 @@ fn reports(table: &[u8]) {
 fn short_maps(table: &[u8]) {
     let mut output = [0u8; 1];
     let mut map = [0u8; 511];
-    show(b"  report, a map of 511 bytes", table::report(table, 0, 1, 0, &mut output, &mut map));
+    show(
+        b"  report, a map of 511 bytes",
+        table::report(table, 0, 1, 0, &mut output, &mut map),
+    );
     let mut long = [0u8; 513];
-    show(b"  report, a map of 513 bytes", table::report(table, 0, 1, 0, &mut output, &mut long));
+    show(
+        b"  report, a map of 513 bytes",
+        table::report(table, 0, 1, 0, &mut output, &mut long),
+    );
     let mut right = [0u8; 512];
-    show(b"  report, room for no spot", table::report(table, 0, 1, 0, &mut output, &mut right));
+    show(
+        b"  report, room for no spot",
+        table::report(table, 0, 1, 0, &mut output, &mut right),
+    );
 }
 
 fn eight_blocks() {

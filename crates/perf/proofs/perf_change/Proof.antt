@@ -56,8 +56,7 @@ returns-4 c = search needs
 put-node-requires : tie.Need-put-node-requires
 put-node-requires c κs =
     let e = c .before .before .before .before .before .insert-one .ensures in
-    let s = c .before .before .before .before .before .before .before .load .ensures .storable in
-    (
+    let s = c .before .before .before .before .before .before .before .load .ensures .storable in (
       omega (arith, c .before .before .before .before .before .before .before .before .before .before .before .before .if1 .left),
       record {
         level = subst⁻¹ (λ (l : ℕ). l < 256) (e .level) (s .level);
