@@ -1,0 +1,96 @@
+-- Where the lows rise, every key lies in the range of one child: the shares of all children together are the keys, and so the fullest child has no less than
+-- the mean.
+-- Assumes nothing.
+use mathlib.Core.Path.{_≡_, refl, sym}
+use mathlib.Core.Bool.{Bool, true, false, cond, true≢false}
+use mathlib.Core.List.{List, [], _∷_}
+use Prim.Native.Nat.{ℕ, zero, suc, _+_, _-_, _*_, _/_, _≤_, _<_}
+use native.Mathlib.Nat.{le-of-suc-le-suc, not-suc-le-zero, suc-mul, div-le-of-le-mul}
+use native.Mathlib.Omega.{arith}
+use lib.Dec.{ltb}
+use lib.ListN.{length, drop}
+use borrow.Author.Tests.{ltb-true, lt-ltb}
+use Rattle.octets.specs.Lists.{keep, rest, rising, risingFrom}
+use Rattle.octets.proofs.Rising.{rising-first, rising-rest}
+use Rattle.block.specs.declared.Entry.{Entry}
+use Rattle.block.specs.NodeRules.{lows}
+use Rattle.tree.specs.Part.{nextLow}
+use Rattle.buffer.specs.Buffer.{below}
+use Rattle.buffer.proofs.Counts.{below-le}
+use Rattle.choose.specs.Choices.{Fullest, startAt, endAt, share}
+use Rattle.choose.proofs.Chosen.{end-in, end-out}
+
+-- f 0 + f 1 + .. of the first m
+abbrev pub sumTo : (ℕ → ℕ) → ℕ → ℕ
+sumTo f zero = 0
+sumTo f (suc m) = sumTo f m + f m
+
+sum-le : (f : ℕ → ℕ) (top m : ℕ) → ((j : ℕ) → j < m → f j ≤ top) → sumTo f m ≤ m * top
+sum-le f top zero h = omega arith
+sum-le f top (suc m) h =
+    let r = sum-le f top m (λ j g. h j (omega arith)) in
+    let e : suc m * top ≡ m * top + top = suc-mul m top in
+    omega (arith, h m (omega arith))
+
+-- more pass a test that asks for less
+fewer : (f g : ℕ → Bool) → ((x : ℕ) → f x ≡ true → g x ≡ true) → (xs : List ℕ) → length (keep f xs) ≤ length (keep g xs)
+fewer f g h [] = omega arith
+fewer f g h (x ∷ xs) = go (f x) (g x) (h x) (fewer f g h xs)
+  where
+    go : (a b : Bool) → (a ≡ true → b ≡ true) → length (keep f xs) ≤ length (keep g xs)
+        → length (cond a (x ∷ keep f xs) (keep f xs)) ≤ length (cond b (x ∷ keep g xs) (keep g xs))
+    go true true i r = omega arith
+    go true false i r = absurd (true≢false (sym (i refl)))
+    go false true i r = omega arith
+    go false false i r = r
+
+below-up : (a b : ℕ) (ks : List ℕ) → a ≤ b → below a ks ≤ below b ks
+below-up a b ks h = fewer (λ j. ltb j a) (λ j. ltb j b) (λ x e. let g = ltb-true x a e in lt-ltb x b (omega arith)) ks
+
+-- each low is at most the next
+up-step : (es : List Entry) (a i : ℕ) → risingFrom a (lows es) ≡ true → suc i < length es → nextLow (drop i es) 0 ≤ nextLow (drop (suc i) es) 0
+up-step [] a i r h = absurd (not-suc-le-zero h)
+up-step (e ∷ []) a i r h = absurd (not-suc-le-zero (le-of-suc-le-suc h))
+up-step (e ∷ f ∷ es) a zero r h = let g = rising-first (suc (e .low)) (f .low) (lows es) (rising-rest a (e .low) (f .low ∷ lows es) r) in omega arith
+up-step (e ∷ f ∷ es) a (suc i) r h = up-step (f ∷ es) (suc (e .low)) i (rising-rest a (e .low) (f .low ∷ lows es) r) (le-of-suc-le-suc h)
+
+later-step : (es : List Entry) (i : ℕ) → rising (rest (lows es)) ≡ true → suc (suc i) < length es → nextLow (drop (suc i) es) 0 ≤ nextLow (drop (suc (suc i)) es) 0
+later-step [] i r h = absurd (not-suc-le-zero h)
+later-step (e ∷ es) i r h = up-step es 0 i r (le-of-suc-le-suc h)
+
+module _ (es : List Entry) (ks : List ℕ) (n : ℕ) (up : rising (rest (lows es)) ≡ true) (e : n ≡ length ks) where
+  start-le : (i : ℕ) → startAt es ks i ≤ n
+  start-le zero = omega arith
+  start-le (suc i) = omega (arith, below-le (nextLow (drop (suc i) es) 0) ks)
+
+  start-up : (i : ℕ) → suc i < length es → startAt es ks i ≤ startAt es ks (suc i)
+  start-up zero h = omega arith
+  start-up (suc i) h = below-up (nextLow (drop (suc i) es) 0) (nextLow (drop (suc (suc i)) es) 0) ks (later-step es i up h)
+
+  -- the shares of the first children are the keys before the next one's range
+  shares-before : (i : ℕ) → i < length es → sumTo (share es ks n) i ≡ startAt es ks i
+  shares-before zero h = refl
+  shares-before (suc i) h =
+      let r = shares-before i (omega arith) in
+      let q : endAt es ks n (suc i) ≡ startAt es ks (suc i) = end-in es ks n (suc i) h in
+      omega (arith, start-up i h)
+
+  -- and those of all are the keys
+  pub shares-all : 0 < length es → sumTo (share es ks n) (length es) ≡ n
+  shares-all h = go (length es) refl h
+    where
+      go : (m : ℕ) → m ≡ length es → 0 < m → sumTo (share es ks n) m ≡ n
+      go zero w p = absurd (not-suc-le-zero p)
+      go (suc m) w p =
+          let r = shares-before m (omega arith) in
+          let q : endAt es ks n (suc m) ≡ n = end-out es ks n (suc m) (omega arith) in
+          omega (arith, start-le m)
+
+  -- the fullest child has no less than the mean
+  pub fullest-mean : (i : ℕ) → Fullest es ks n i → n ≤ length es * share es ks n i
+  fullest-mean i f =
+      let s = shares-all (omega (arith, f .there)) in
+      omega (arith, sum-le (share es ks n) (share es ks n i) (length es) (f .most))
+
+  pub fullest-share : (i : ℕ) → Fullest es ks n i → n / length es ≤ share es ks n i
+  fullest-share i f = div-le-of-le-mul (length es) (fullest-mean i f)
