@@ -31,3 +31,4 @@ pub mod BestFirstSteps
 pub mod BestFirstEnd
 pub mod BestFirstTop
 pub mod BestFirst
+pub mod TopMarks

@@ -66,7 +66,7 @@ visits-less (suc l) m r q h p k =
     (List·Memᴰ·cases-cons k)
 
 module _ (t : List ℕ) (s : sound t ≡ true) (x1 x2 : ℤ) where
-  W : ℕ → Walk
+  unfoldable pub W : ℕ → Walk
   W y = walkTable t (topQuery x1 x2 y)
 
   W-whole : (y : ℕ) → isBroken (W y) ≡ false
@@ -74,13 +74,13 @@ module _ (t : List ℕ) (s : sound t ≡ true) (x1 x2 : ℤ) where
   W-whole y = ap isBroken (report-finds t s (topQuery x1 x2 y) .1)
 
   -- a higher rank reads no other blocks
-  W-sub : (y z : ℕ) → y ≤ z → (b : ℕ) → List·Memᴰ b (blocksRead (W z)) → List·Memᴰ b (blocksRead (W y))
+  pub W-sub : (y z : ℕ) → y ≤ z → (b : ℕ) → List·Memᴰ b (blocksRead (W z)) → List·Memᴰ b (blocksRead (W y))
   unfolding W topQuery
   W-sub y z h b k =
       rw (table-reads t s (topQuery x1 x2 y))
       (onto-mem _ (visits-less (headOf t .levels) (storeOf t) (topQuery x1 x2 z) (topQuery x1 x2 y) (refl, refl, h) (whole (headOf t)) (mem-onto _ (rw (table-reads t s (topQuery x1 x2 z)) at k))))
 
-  best-blocks : (k : ℕ) (w : Walk) → blocksRead (best k w) ≡ blocksRead w
+  pub best-blocks : (k : ℕ) (w : Walk) → blocksRead (best k w) ≡ blocksRead w
   best-blocks k broken = refl
   best-blocks k (walked found blocks) = refl
 
