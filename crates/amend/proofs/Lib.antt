@@ -1,0 +1,4 @@
+pub mod Written
+pub mod Leaving
+pub mod Passing
+pub mod Replaced

@@ -1,0 +1,116 @@
+-- The live spots gathered in the scratch: one law for each way that this ends.
+-- Assumes nothing.
+use mathlib.Core.Path.{_≡_, refl, ap, sym, _∙_}
+use mathlib.Core.Bool.{Bool, true, false, not, true≢false, false≢true}
+use mathlib.Core.List.{List, _++_}
+use Prim.Native.Nat.{ℕ, _+_, _-_, _*_, _≤_, _<_}
+use native.Mathlib.Omega.{arith}
+use lib.ListN.{length, drop, length-append, length-drop}
+use lib.Seq.{drop-append-add, drop-drop}
+use Rattle.octets.specs.Lists.{rising, risingFrom}
+use Rattle.spot.specs.Query.{everything}
+use Rattle.spot.specs.Spots.{keys, spotsBytes}
+use Rattle.spot.specs.declared.Spot.{Spot}
+use Rattle.spot.proofs.Buffers.{keys-records}
+use Rattle.spot.proofs.Stored.{length-spotsBytes}
+use Rattle.block.specs.Table.{capacity}
+use Rattle.block.specs.Header.{headOf}
+use Rattle.block.specs.Checks.{keysAt}
+use Rattle.block.proofs.Facts.{head-facts}
+use Rattle.tree.specs.Walk.{walkTable, isBroken, spots, liveSpots}
+use Rattle.tree.specs.Sound.{sound}
+use Rattle.tree.proofs.Tables.{sound-header, live-rises, count-finds, counted}
+use Rattle.query.specs.Walks.{spotsIn}
+use Rattle.query.specs.declared.Tally.{Tally}
+use Rattle.query.proofs.Gathered.{whole-header}
+use Rattle.renew.specs.Renewed.{Gathered}
+
+live-are : (t : List ℕ) → spots (walkTable t everything) ≡ liveSpots t
+unfolding liveSpots
+live-are t = refl
+
+broken-by : (ok b : Bool) → ok ≡ not b → ok ≡ false → b ≡ true
+broken-by ok true e h = refl
+broken-by ok false e h = absurd (true≢false (sym e ∙ h))
+
+pub whole-by : (ok b : Bool) → ok ≡ not b → ok ≡ true → b ≡ false
+whole-by ok false e h = refl
+whole-by ok true e h = absurd (false≢true (sym e ∙ h))
+
+-- stopped, which is so of no sound table
+gather-stops : (t w w′ : List ℕ) (r : Tally) → r .ok ≡ false → length w′ ≡ length w → drop (length t) w′ ≡ drop (length t) w → (sound t ≡ true → ⊥)
+    → Gathered t w w′ r
+gather-stops t w w′ r f l d no-sound =
+    record {
+      lent = l;
+      rest = d;
+      few = λ h. absurd (false≢true (sym f ∙ h));
+      holds = λ h. absurd (false≢true (sym f ∙ h));
+      rises = λ h. absurd (false≢true (sym f ∙ h));
+      whole = λ s. absurd (no-sound s);
+      header = λ h. f;
+    }
+
+-- a rule is broken
+pub gather-broken : (t w : List ℕ) (r : Tally) (ok : Bool) → r .ok ≡ false → ok ≡ not (isBroken (walkTable t everything)) → ok ≡ false → Gathered t w w r
+gather-broken t w r ok f e h =
+    gather-stops t w w r f refl refl (λ s. true≢false (sym (broken-by ok (isBroken (walkTable t everything)) e h) ∙ ap isBroken (count-finds t s .1)))
+
+-- there are more spots than the capacity
+pub gather-many : (t w : List ℕ) (r : Tally) (n : ℕ) → r .ok ≡ false → n ≡ length (spots (walkTable t everything)) → capacity (length t) < n → Gathered t w w r
+gather-many t w r n f e h = gather-stops t w w r f refl refl no-sound
+  where
+    no-sound : sound t ≡ true → ⊥
+    no-sound s =
+        let b = head-facts (length t) (headOf t) (sound-header t s) .bound-most in
+        omega (arith, counted t s, e, ap length (live-are t))
+
+-- the spots are collected at the front of the scratch
+module _ (t w w′ : List ℕ) (all : Tally) (r : ℕ) (few : all .spots ≤ capacity (length t)) (told : all .ok ≡ not (isBroken (walkTable t everything)))
+    (right : all .ok ≡ true) (count : all .spots ≡ length (spots (walkTable t everything)))
+    (got : (r ≡ length (spots (walkTable t everything))) × (w′ ≡ spotsBytes (spots (walkTable t everything)) ++ drop (12 * r) w) × (spotsIn w′ r ≡ spots (walkTable t everything)))
+    (room : length t ≤ length w) where
+  abbrev front : List ℕ
+  front = spotsBytes (spots (walkTable t everything))
+
+  front-long : length front ≡ 12 * r
+  front-long = length-spotsBytes (spots (walkTable t everything)) ∙ ap (λ (i : ℕ). 12 * i) (sym (got .0))
+
+  inside : 12 * r ≤ length t
+  inside = omega (arith, got .0, count, few)
+
+  lent-is : length w′ ≡ length w
+  lent-is = ap length (got .1) ∙ length-append front (drop (12 * r) w) ∙ omega (arith, front-long, length-drop (12 * r) w, inside)
+
+  rest-is : drop (length t) w′ ≡ drop (length t) w
+  rest-is =
+      let k : ℕ = length t - 12 * r in
+      let a : length t ≡ length front + k = omega (arith, front-long, inside) in
+      let b : 12 * r + k ≡ length t = omega (arith, inside) in
+      ap (drop (length t)) (got .1)
+      ∙ ap (λ (i : ℕ). drop i (front ++ drop (12 * r) w)) a
+      ∙ drop-append-add front (drop (12 * r) w) k
+      ∙ drop-drop k (12 * r) w
+      ∙ ap (λ (i : ℕ). drop i w) b
+
+  list-is : spotsIn w′ (all .spots) ≡ liveSpots t
+  list-is = ap (spotsIn w′) (count ∙ sym (got .0)) ∙ got .2 ∙ live-are t
+
+  rises-are : risingFrom 0 (keysAt w′ 12 (all .spots) 0) ≡ rising (keys (liveSpots t))
+  rises-are = ap rising (sym (keys-records w′ 12 (all .spots) 0)) ∙ ap (λ (ss : List Spot). rising (keys ss)) list-is
+
+  -- an identity stands there twice
+  pub gather-twice : (q : Tally) (b : Bool) → q .ok ≡ false → b ≡ risingFrom 0 (keysAt w′ 12 (all .spots) 0) → b ≡ false → Gathered t w w′ q
+  gather-twice q b f e h = gather-stops t w w′ q f lent-is rest-is (λ s. true≢false (sym (live-rises t s) ∙ sym rises-are ∙ sym e ∙ h))
+
+  pub gather-all : (b : Bool) → b ≡ risingFrom 0 (keysAt w′ 12 (all .spots) 0) → b ≡ true → Gathered t w w′ all
+  gather-all b e h =
+      record {
+        lent = lent-is;
+        rest = rest-is;
+        few = λ y. few;
+        holds = λ y. list-is;
+        rises = λ y. sym rises-are ∙ sym e ∙ h;
+        whole = λ s. right;
+        header = λ y. absurd (true≢false (sym (whole-header t everything (whole-by (all .ok) (isBroken (walkTable t everything)) told right)) ∙ y));
+      }

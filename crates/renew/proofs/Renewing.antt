@@ -1,0 +1,125 @@
+-- The table laid out anew with one change: one law for each way that this ends.
+-- Assumes nothing.
+use mathlib.Core.Path.{_≡_, refl, ap, sym, subst, _∙_}
+use mathlib.Core.Bool.{Bool, true, false, true≢false, false≢true}
+use mathlib.Core.List.{List}
+use mathlib.Core.Option.{none}
+use Prim.Native.Nat.{ℕ, _+_, _-_, _*_, _≤_, _<_}
+use native.Mathlib.Omega.{arith}
+use lib.Dec.{leb}
+use lib.ListN.{length, drop}
+use lib.Seq.{drop-drop}
+use borrow.Author.Tests.{leb-true, lt-leb, eq-eqb}
+use Rattle.octets.specs.Lists.{rising}
+use Rattle.octets.proofs.Records.{length-records}
+use Rattle.octets.proofs.Tests.{all-at}
+use Rattle.spot.specs.Spots.{keys, find, put, without, spotAt}
+use Rattle.spot.specs.declared.Spot.{Spot}
+use Rattle.spot.proofs.Canon.{put-rises, without-rises, find-without, length-without}
+use Rattle.block.specs.Table.{tableSized, capacity, blocksOf}
+use Rattle.tree.specs.Walk.{liveSpots}
+use Rattle.query.specs.declared.Tally.{Tally}
+use Rattle.rebuild.specs.Build.{Rebuilt}
+use Rattle.build.specs.Building.{Segment, spotsOf}
+use Rattle.amend.specs.Amended.{listed, Amendable, Amended}
+use Rattle.renew.specs.Renewed.{Gathered, Renewed}
+
+drop-more : (s u : List ℕ) (a b : ℕ) → a ≤ b → drop a s ≡ drop a u → drop b s ≡ drop b u
+drop-more s u a b h e =
+    let g : b ≡ a + (b - a) = omega arith in
+    ap (λ (i : ℕ). drop i s) g ∙ sym (drop-drop (b - a) a s) ∙ ap (drop (b - a)) e ∙ drop-drop (b - a) a u ∙ ap (λ (i : ℕ). drop i u) (sym g)
+
+few-blocks : (n : ℕ) → tableSized n ≡ true → blocksOf n ≤ 4096
+unfolding tableSized
+few-blocks n z = leb-true (blocksOf n) 4096 (all-at _ z 2)
+
+some-blocks : (n : ℕ) → tableSized n ≡ true → 9 ≤ blocksOf n
+unfolding tableSized
+some-blocks n z = leb-true 9 (blocksOf n) (all-at _ z 1)
+
+-- the lists after each change rise
+pub put-up : (s : Spot) (l : List Spot) → rising (keys l) ≡ true → rising (keys (put s (without (s .key) l))) ≡ true
+put-up s l h =
+    let e : find (s .key) (without (s .key) l) ≡ none = find-without (s .key) (s .key) l ∙ rw (eq-eqb (s .key) (s .key) refl) in
+    put-rises 0 s (without (s .key) l) (omega arith) (without-rises 0 (s .key) l h) e
+
+pub out-up : (k : ℕ) (l : List Spot) → rising (keys l) ≡ true → rising (keys (without k l)) ≡ true
+out-up k l h = without-rises 0 k l h
+
+-- nothing gathered
+pub renew-broken : {t w w₁ : List ℕ} {r : Tally} (after : List Spot) (b : Bool) → Gathered t w w₁ r → r .ok ≡ false → Renewed t t w w₁ after b false
+renew-broken after b g f =
+    record {
+      sized = refl;
+      lent = g .lent;
+      rest = g .rest;
+      kept = λ h. refl;
+      built = λ h. absurd (false≢true h);
+      whole = λ s h. absurd (true≢false (sym (g .whole s) ∙ f));
+      header = λ h. refl;
+    }
+
+module _ {t w w₁ : List ℕ} {r : Tally} (z : tableSized (length t) ≡ true) (lent : length t ≤ length w) (g : Gathered t w w₁ r) (ok : r .ok ≡ true) where
+  room : 12 * (r .spots + 1) ≤ length t
+  room = omega (arith, g .few ok, some-blocks (length t) z)
+
+  live-long : length (liveSpots t) ≡ r .spots
+  live-long = sym (ap length (g .holds ok)) ∙ length-records (spotAt w₁) 12 (r .spots) 0
+
+  pub renew-amendable : Amendable w₁ (r .spots)
+  renew-amendable =
+      record {
+        few = omega (arith, g .few ok, few-blocks (length t) z);
+        room = omega (arith, room, g .lent, lent);
+        rises = ap (λ (l : List Spot). rising (keys l)) (g .holds ok) ∙ g .rises ok;
+      }
+
+  module _ {w₂ : List ℕ} {m : ℕ} (f : List Spot → List Spot) (a : Amended w₁ w₂ (r .spots) (f (listed w₁ (r .spots))) m) where
+    holds-is : spotsOf w₂ 0 m ≡ f (liveSpots t)
+    holds-is = a .holds ∙ ap f (g .holds ok)
+
+    count-is : m ≡ length (f (liveSpots t))
+    count-is = a .count ∙ ap (λ (l : List Spot). length (f l)) (g .holds ok)
+
+    lent-is : length w₂ ≡ length w
+    lent-is = a .sized ∙ g .lent
+
+    rest-is : drop (length t) w₂ ≡ drop (length t) w
+    rest-is = drop-more w₂ w₁ (12 * (r .spots + 1)) (length t) room (a .rest) ∙ g .rest
+
+    -- too many
+    pub renew-full : capacity (length t) < m → Renewed t t w w₂ (f (liveSpots t)) (leb (length (f (liveSpots t))) (capacity (length t))) false
+    renew-full h =
+        record {
+          sized = refl;
+          lent = lent-is;
+          rest = rest-is;
+          kept = λ y. refl;
+          built = λ y. absurd (false≢true y);
+          whole = λ s y. absurd (true≢false (sym y ∙ lt-leb (length (f (liveSpots t))) (capacity (length t)) (omega (arith, count-is))));
+          header = λ y. refl;
+        }
+
+    pub renew-segment : m ≤ capacity (length t) → (rising (keys (liveSpots t)) ≡ true → rising (keys (f (liveSpots t))) ≡ true) → Segment w₂ 0 m
+    renew-segment few up =
+        record {
+          inside = omega (arith, lent-is, lent);
+          few = omega (arith, few-blocks (length t) z);
+          rises = ap (λ (l : List Spot). rising (keys l)) holds-is ∙ up (g .rises ok);
+        }
+
+    pub renew-built : {t′ : List ℕ} (b : Bool) → Rebuilt t′ (spotsOf w₂ 0 m) × (length t′ ≡ length t) → Renewed t t′ w w₂ (f (liveSpots t)) b true
+    renew-built {t′} b h =
+        record {
+          sized = h .1;
+          lent = lent-is;
+          rest = rest-is;
+          kept = λ y. absurd (true≢false y);
+          built = λ y. subst (Rebuilt t′) holds-is (h .0);
+          whole = λ s y. refl;
+          header = λ y. absurd (true≢false (sym ok ∙ g .header y));
+        }
+
+  -- one taken out leaves no more than there were
+  pub out-few : {w₂ : List ℕ} {m : ℕ} (k : ℕ) → Amended w₁ w₂ (r .spots) (without k (listed w₁ (r .spots))) m → m ≤ capacity (length t)
+  out-few k a = omega (arith, count-is (without k) a, length-without k (liveSpots t), live-long, g .few ok)

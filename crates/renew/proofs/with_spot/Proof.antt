@@ -1,0 +1,76 @@
+-- `renew::with_spot` meets its contract: gathered, the spot put in, and built.
+-- Assumes nothing.
+use Prim.Native.Nat.{_≤_, _<_}
+use mathlib.Core.List.{List}
+use lib.ListN.{length}
+use denote.Ref.{now}
+use borrow.Author.Tests.{not-true, not-false}
+use Rattle.spot.specs.Spots.{put, without}
+use Rattle.spot.specs.declared.Spot.{Spot}
+use Rattle.block.specs.Table.{capacity}
+use Rattle.renew.proofs.Renewing.{put-up, renew-broken, renew-amendable, renew-full, renew-segment, renew-built}
+use borrow.Author.Needs.{needs}
+use native.Mathlib.Omega.{arith}
+use Rattle.renew.proofs.with_spot.Statement.{statement}
+use Rattle.renew.proofs.with_spot.Tie as tie
+
+gather-requires : tie.Need-gather-requires
+gather-requires c κs = search needs
+
+same-length : tie.Need-same-length
+same-length c = search needs
+
+same-length-2 : tie.Need-same-length-2
+same-length-2 c = search needs
+
+returns : tie.Need-returns
+returns c = renew-broken _ _ (c .before .before .before .before .gather .ensures) (not-true _ (c .if1 .taken))
+
+put-in-requires : tie.Need-put-in-requires
+put-in-requires c κs = renew-amendable (c .before .before .before .before .before .before .before .before .before .before .pre .0) (c .before .before .before .before .before .before .before .before .before .before .pre .1) (c .before .before .before .before .before .gather .ensures) (not-false _ (c .before .if1 .left))
+
+capacity-of-requires : tie.Need-capacity-of-requires
+capacity-of-requires c κs = search needs
+
+same-length-3 : tie.Need-same-length-3
+same-length-3 c = search needs
+
+same-length-4 : tie.Need-same-length-4
+same-length-4 c = search needs
+
+returns-2 : tie.Need-returns-2
+returns-2 c =
+    let many : capacity (length (now (c .before .before .before .before .before .before .before .before .before .before .before .before .before .before .before .args .table))) < c .before .before .before .before .put-in .result = omega (arith, c .before .capacity-of .ensures) in
+    renew-full (c .before .before .before .before .before .before .before .before .before .before .before .before .before .before .before .pre .0) (c .before .before .before .before .before .before .before .before .before .before .before .before .before .before .before .pre .1) (c .before .before .before .before .before .before .before .before .before .before .gather .ensures) (not-false _ (c .before .before .before .before .before .before .if1 .left)) (λ (l : List Spot). put (c .before .before .before .before .before .before .before .before .before .before .before .before .before .before .before .args .s) (without (c .before .before .before .before .before .before .before .before .before .before .before .before .before .before .before .args .s .key) l)) (c .before .before .before .before .put-in .ensures) many
+
+build-table-requires : tie.Need-build-table-requires
+build-table-requires c κs =
+    let few : c .before .before .before .before .before .before .put-in .result ≤ capacity (length (now (c .before .before .before .before .before .before .before .before .before .before .before .before .before .before .before .before .before .args .table))) = omega (arith, c .before .before .before .capacity-of .ensures) in
+    (c .before .before .before .before .before .before .before .before .before .before .before .before .before .before .before .before .before .pre .0, few, renew-segment (c .before .before .before .before .before .before .before .before .before .before .before .before .before .before .before .before .before .pre .0) (c .before .before .before .before .before .before .before .before .before .before .before .before .before .before .before .before .before .pre .1) (c .before .before .before .before .before .before .before .before .before .before .before .before .gather .ensures) (not-false _ (c .before .before .before .before .before .before .before .before .if1 .left)) (λ (l : List Spot). put (c .before .before .before .before .before .before .before .before .before .before .before .before .before .before .before .before .before .args .s) (without (c .before .before .before .before .before .before .before .before .before .before .before .before .before .before .before .before .before .args .s .key) l)) (c .before .before .before .before .before .before .put-in .ensures) few (put-up (c .before .before .before .before .before .before .before .before .before .before .before .before .before .before .before .before .before .args .s) _))
+
+same-length-5 : tie.Need-same-length-5
+same-length-5 c = search needs
+
+same-length-6 : tie.Need-same-length-6
+same-length-6 c = search needs
+
+returns-3 : tie.Need-returns-3
+returns-3 c = renew-built (c .before .before .before .before .before .before .before .before .before .before .before .before .before .before .before .before .before .before .before .before .pre .0) (c .before .before .before .before .before .before .before .before .before .before .before .before .before .before .before .before .before .before .before .before .pre .1) (c .before .before .before .before .before .before .before .before .before .before .before .before .before .before .before .gather .ensures) (not-false _ (c .before .before .before .before .before .before .before .before .before .before .before .if1 .left)) (λ (l : List Spot). put (c .before .before .before .before .before .before .before .before .before .before .before .before .before .before .before .before .before .before .before .before .args .s) (without (c .before .before .before .before .before .before .before .before .before .before .before .before .before .before .before .before .before .before .before .before .args .s .key) l)) (c .before .before .before .before .before .before .before .before .before .put-in .ensures) _ (c .before .before .build-table .ensures)
+
+pub with-spot-spec : {M : Type 1} → statement M
+with-spot-spec =
+    tie.close
+    (tie.spec
+    gather-requires
+    same-length
+    same-length-2
+    returns
+    put-in-requires
+    capacity-of-requires
+    same-length-3
+    same-length-4
+    returns-2
+    build-table-requires
+    same-length-5
+    same-length-6
+    returns-3)

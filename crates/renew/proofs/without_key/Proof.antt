@@ -1,0 +1,51 @@
+-- `renew::without_key` meets its contract: gathered, the spot taken out, and built.
+-- Assumes nothing.
+use borrow.Author.Tests.{not-true, not-false}
+use Rattle.spot.specs.Spots.{without}
+use Rattle.renew.proofs.Renewing.{out-up, out-few, renew-broken, renew-amendable, renew-segment, renew-built}
+use borrow.Author.Needs.{needs}
+use Rattle.renew.proofs.without_key.Statement.{statement}
+use Rattle.renew.proofs.without_key.Tie as tie
+
+gather-requires : tie.Need-gather-requires
+gather-requires c κs = search needs
+
+same-length : tie.Need-same-length
+same-length c = search needs
+
+same-length-2 : tie.Need-same-length-2
+same-length-2 c = search needs
+
+returns : tie.Need-returns
+returns c = renew-broken _ _ (c .before .before .before .before .gather .ensures) (not-true _ (c .if1 .taken))
+
+take-out-requires : tie.Need-take-out-requires
+take-out-requires c κs = renew-amendable (c .before .before .before .before .before .before .before .before .before .before .pre .0) (c .before .before .before .before .before .before .before .before .before .before .pre .1) (c .before .before .before .before .before .gather .ensures) (not-false _ (c .before .if1 .left))
+
+build-table-requires : tie.Need-build-table-requires
+build-table-requires c κs =
+    let few = out-few (c .before .before .before .before .before .before .before .before .before .before .before .before .before .before .before .pre .0) (c .before .before .before .before .before .before .before .before .before .before .before .before .before .before .before .pre .1) (c .before .before .before .before .before .before .before .before .before .before .gather .ensures) (not-false _ (c .before .before .before .before .before .before .if1 .left)) (c .before .before .before .before .before .before .before .before .before .before .before .before .before .before .before .args .k) (c .before .before .before .before .take-out .ensures) in
+    (c .before .before .before .before .before .before .before .before .before .before .before .before .before .before .before .pre .0, few, renew-segment (c .before .before .before .before .before .before .before .before .before .before .before .before .before .before .before .pre .0) (c .before .before .before .before .before .before .before .before .before .before .before .before .before .before .before .pre .1) (c .before .before .before .before .before .before .before .before .before .before .gather .ensures) (not-false _ (c .before .before .before .before .before .before .if1 .left)) (without (c .before .before .before .before .before .before .before .before .before .before .before .before .before .before .before .args .k)) (c .before .before .before .before .take-out .ensures) few (out-up (c .before .before .before .before .before .before .before .before .before .before .before .before .before .before .before .args .k) _))
+
+same-length-3 : tie.Need-same-length-3
+same-length-3 c = search needs
+
+same-length-4 : tie.Need-same-length-4
+same-length-4 c = search needs
+
+returns-2 : tie.Need-returns-2
+returns-2 c = renew-built (c .before .before .before .before .before .before .before .before .before .before .before .before .before .before .before .before .before .before .pre .0) (c .before .before .before .before .before .before .before .before .before .before .before .before .before .before .before .before .before .before .pre .1) (c .before .before .before .before .before .before .before .before .before .before .before .before .before .gather .ensures) (not-false _ (c .before .before .before .before .before .before .before .before .before .if1 .left)) (without (c .before .before .before .before .before .before .before .before .before .before .before .before .before .before .before .before .before .before .args .k)) (c .before .before .before .before .before .before .before .take-out .ensures) _ (c .before .before .build-table .ensures)
+
+pub without-key-spec : {M : Type 1} → statement M
+without-key-spec =
+    tie.close
+    (tie.spec
+    gather-requires
+    same-length
+    same-length-2
+    returns
+    take-out-requires
+    build-table-requires
+    same-length-3
+    same-length-4
+    returns-2)
