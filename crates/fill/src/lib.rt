@@ -134,7 +134,7 @@ pub fn take_top(t: &mut [u8], s: &mut [u8], map: &mut [u8], e: block::Entry, lev
     }
 }
 
-// Fills P up to 32, as long as anything is left. No sound part needs more rounds than P and D have room for.
+// Fills P up to 32, as long as anything is left. After 128 rounds it gives up: not ok, and the caller undoes.
 pub fn fill(t: &mut [u8], s: &mut [u8], map: &mut [u8], n: node::NodeValue, level: usize) -> Filled
     requires { ⌜ Workable (now t) (now s) (now map) n level ⌝ }
     ensures kept { λ r. ⌜ Kept (now (t .entry)) (now (s .entry)) (now (map .entry)) (now (t .exit)) (now (s .exit)) (now (map .exit)) ⌝ }

@@ -2,7 +2,7 @@
 -- lent, out′ and map′ as left.
 -- Assumes nothing.
 use mathlib.Core.Path.{_≡_}
-use Prim.Native.Nat.{ℕ}
+use Prim.Native.Nat.{ℕ, _/_, _<_}
 use mathlib.Core.Bool.{Bool, true, cond}
 use mathlib.Core.List.{List, [], _++_, List·Memᴰ}
 use lib.ListN.{length, drop}
@@ -51,7 +51,11 @@ pub record HandsOut (q : Query) (t out : List ℕ) (r : Answer) (out′ map′ :
 -- walk finds an identity twice, which only an unsound table does, the choice between the two is free.
 pub record TopPost (x1 x2 : ℤ) (k : ℕ) (t out map : List ℕ) (r : Answer) (out′ map′ : List ℕ) : Type 0 where
   pub exact : rising (keys (spots (topWalk t x1 x2 k))) ≡ true → QueryPost (top x1 x2 k) (topTable t x1 x2 k) t out map r out′ map′
+  -- on every table: 1 and 2 as the lengths give them, else 0, 3 with detail 0, or 5 with more spots than the output holds
+  pub byLengths : (lengthNumber (lengths t out map []) (top x1 x2 k) ≡ 0 → ⊥) → r ≡ answer (lengthNumber (lengths t out map []) (top x1 x2 k)) 0
   pub refusals : lengthNumber (lengths t out map []) (top x1 x2 k) ≡ 0 → has (r .number) (outcomes (top x1 x2 k)) ≡ true
+  pub ruleBroken : r .number ≡ 3 → r .detail ≡ 0
+  pub tooMany : r .number ≡ 5 → length out / 12 < r .detail
   pub unchanged : (r .number ≡ 0 → ⊥) → (out′ ≡ out) × (map′ ≡ map)
   pub handsOut : r .number ≡ 0 → HandsOut (topQuery x1 x2 0) t out r out′ map′
 
