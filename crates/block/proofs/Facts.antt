@@ -20,7 +20,7 @@ use Rattle.spot.specs.Keys.{rankKey}
 use Rattle.spot.specs.Spots.{keys}
 use Rattle.block.specs.declared.Entry.{Entry}
 use Rattle.block.specs.declared.Asked.{Asked}
-use Rattle.block.specs.Table.{version1, blockOk, blocksOf, capacity, tableSized}
+use Rattle.block.specs.Table.{version1, blockOk, blocksOf, capacity, sizedFor, tableSized}
 use Rattle.block.specs.Header.{Header}
 use Rattle.block.specs.HeaderRules.{headerOk, mapShows}
 use Rattle.block.specs.Node.{Node, nodeOf, nodeFrom, laidOut, pointsFrom, insertsFrom}
@@ -208,7 +208,7 @@ module _ (bytes : ℕ) (h : Header) (ok : headerOk bytes h ≡ true) where
   right = all-at _ ok 8
 
   few : bytes / 2048 ≤ 4096
-  unfolding tableSized
+  unfolding sizedFor
   few = leb-true _ _ (all-at _ right 2)
 
   pub head-facts : HeadFacts bytes h

@@ -11,7 +11,7 @@ use lib.Seq.{length-take-le, drop-drop, take-at, drop-at}
 use borrow.Rule.Slice.PartMut.{putMid, same-len-mid, put-same, take-put, drop-put}
 use Rattle.octets.proofs.Order.{less-or-not}
 use Rattle.block.specs.declared.Asked.{Asked}
-use Rattle.block.specs.Table.{block, putBlock, blocksOf}
+use Rattle.block.specs.Table.{block, putBlockIn, putBlock, blocksOf}
 use Rattle.block.specs.Header.{headOf, headerOf}
 use Rattle.block.specs.HeaderRules.{headerOk}
 use Rattle.block.specs.Node.{nodeOf, storeOf}
@@ -42,7 +42,7 @@ block-length t b h = length-take-le 2048 (drop (b * 2048) t) (rw length-drop (om
 
 -- a part of the table that was lent and came back is a block put in
 pub put-part-is : (t : List ℕ) (b : ℕ) (s : List ℕ) → putMid (b * 2048) (b * 2048 + 2048 - b * 2048) t s ≡ putBlock t b s
-unfolding putBlock
+unfolding putBlockIn
 put-part-is t b s = ap (λ (k : ℕ). putMid (b * 2048) k t s) (add-sub-cancel-left (b * 2048) 2048)
 
 pub part-is : (t : List ℕ) (b : ℕ) → take (b * 2048 + 2048 - b * 2048) (drop (b * 2048) t) ≡ block t b
@@ -50,22 +50,22 @@ part-is t b = ap (λ (k : ℕ). take k (drop (b * 2048) t)) (add-sub-cancel-left
 
 -- put in as it was
 pub put-block : (t : List ℕ) (b : ℕ) → putBlock t b (block t b) ≡ t
-unfolding putBlock
+unfolding putBlockIn
 put-block t b = put-same (b * 2048) 2048 t
 
 module _ (t : List ℕ) (b : ℕ) (s : List ℕ) (fits : b * 2048 + 2048 ≤ length t) (whole : length s ≡ 2048) where
   pub put-length : length (putBlock t b s) ≡ length t
-  unfolding putBlock
+  unfolding putBlockIn
   put-length = same-len-mid (b * 2048) 2048 t s (whole ∙ sym (block-length t b fits))
 
   pub block-put-same : block (putBlock t b s) b ≡ s
-  unfolding putBlock
+  unfolding putBlockIn
   block-put-same =
       let after : List ℕ = drop 2048 (drop (b * 2048) t) in
       ap (take 2048) (drop-at (take (b * 2048) t) (s ++ after) (b * 2048) (length-take-le (b * 2048) t (omega arith))) ∙ take-at s after 2048 whole
 
   before : (z : ℕ) → z < b → block (putBlock t b s) z ≡ block t z
-  unfolding putBlock
+  unfolding putBlockIn
   before z h =
       sym (part-part (z * 2048) 2048 (b * 2048) (putBlock t b s) (omega arith))
       ∙ ap (λ (l : List ℕ). take 2048 (drop (z * 2048) l)) (take-put (b * 2048) 2048 t s (omega arith))
@@ -102,7 +102,7 @@ module _ (t : List ℕ) (b : ℕ) (s : List ℕ) (fits : b * 2048 + 2048 ≤ len
 
   -- put in twice
   pub put-put : (r : List ℕ) → putBlock (putBlock t b s) b r ≡ putBlock t b r
-  unfolding putBlock
+  unfolding putBlockIn
   put-put r =
       ap₂ (λ (x y : List ℕ). x ++ (r ++ y)) (take-put (b * 2048) 2048 t s (omega arith))
       (drop-drop 2048 (b * 2048) (putBlock t b s) ∙ tail-same ∙ sym (drop-drop 2048 (b * 2048) t))

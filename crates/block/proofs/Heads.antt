@@ -13,7 +13,7 @@ use Rattle.octets.specs.Lists.{every}
 use Rattle.octets.specs.Bytes.{be}
 use Rattle.octets.proofs.Tests.{and-left, and-right, and-both, all-at, all-cons, all-nil, bool-ext}
 use Rattle.octets.proofs.Bytes.{be-part}
-use Rattle.block.specs.Table.{block, blocksOf, blockOk, tableSized}
+use Rattle.block.specs.Table.{block, blocksOf, blockOk, sizedFor}
 use Rattle.block.specs.Header.{headerOf, headOf}
 use Rattle.block.specs.HeaderRules.{headerOk, mapShows}
 use Rattle.block.specs.Checks.{_and_, isZero, mapFine, numbersFine}
@@ -45,7 +45,7 @@ module _ (bytes : ℕ) (s : List ℕ) where
 
   -- what the test of the numbers says of the map's size and the root
   pub numbers-blocks : numbersFine bytes s ≡ true → bytes / 2048 ≤ 4096
-  unfolding numbersFine tableSized
+  unfolding numbersFine sizedFor
   numbers-blocks h = leb-true _ _ (all-at _ (snd _ _ h) 2)
 
   pub numbers-root : numbersFine bytes s ≡ true → be 2 s 6 < bytes / 2048

@@ -10,18 +10,18 @@ use borrow.Author.Tests.{leb-true, eqb-true}
 use Rattle.octets.specs.Bytes.{bytesOf, putBe}
 use Rattle.octets.proofs.Tests.{all-at}
 use Rattle.octets.proofs.Bytes.{put-eq}
-use Rattle.block.specs.Table.{tableSized}
+use Rattle.block.specs.Table.{sizedFor, tableSized}
 use Rattle.block.specs.Fresh.{freshHeader, freshLeaf, formatted}
 use Rattle.block.specs.Checks.{freshMarks}
 
 -- ---- a table's size
 
 pub sized-least : (n : ℕ) → tableSized n ≡ true → 18432 ≤ n
-unfolding tableSized
+unfolding sizedFor
 sized-least n z = let l : 9 ≤ n / 2048 = leb-true _ _ (all-at _ z 1) in omega arith
 
 pub sized-most : (n : ℕ) → tableSized n ≡ true → n ≤ 8388608
-unfolding tableSized
+unfolding sizedFor
 sized-most n z =
     let l : n / 2048 ≤ 4096 = leb-true _ _ (all-at _ z 2) in
     let e : n % 2048 ≡ 0 = eqb-true _ _ (all-at _ z 0) in

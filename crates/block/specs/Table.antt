@@ -19,27 +19,41 @@ pub record Widths : Type 0 where
 abbrev pub version1 : Widths
 version1 = record { block = 2048; spot = 12; identity = 8; entry = 28; used = 1896 }
 
-abbrev pub blockBytes : ℕ
-blockBytes = 2048
-
-abbrev pub blocksOf : ℕ → ℕ
-blocksOf bytes = bytes / blockBytes
+-- the whole blocks in so many bytes
+abbrev pub blocksIn : Widths → ℕ → ℕ
+blocksIn w bytes = bytes / w .block
 
 -- "A table is 9 to 4,096 blocks of 2,048 bytes"
-unfoldable pub tableSized : ℕ → Bool
-tableSized bytes = all (eqb (bytes % blockBytes) 0 ∷ leb 9 (blocksOf bytes) ∷ leb (blocksOf bytes) 4096 ∷ [])
+unfoldable pub sizedFor : Widths → ℕ → Bool
+sizedFor w bytes = all (eqb (bytes % w .block) 0 ∷ leb 9 (blocksIn w bytes) ∷ leb (blocksIn w bytes) 4096 ∷ [])
 
 -- "Capacity is 16 spots for each block after block 0"
-abbrev pub capacity : ℕ → ℕ
-capacity bytes = 16 * (blocksOf bytes - 1)
+abbrev pub capacityFor : Widths → ℕ → ℕ
+capacityFor w bytes = 16 * (blocksIn w bytes - 1)
 
 -- the bytes of one block
-abbrev pub block : List ℕ → ℕ → List ℕ
-block t b = take blockBytes (drop (b * blockBytes) t)
+abbrev pub blockIn : Widths → List ℕ → ℕ → List ℕ
+blockIn w t b = take (w .block) (drop (b * w .block) t)
 
 -- the table with these bytes in the place of block b
-unfoldable pub putBlock : List ℕ → ℕ → List ℕ → List ℕ
-putBlock t b s = take (b * blockBytes) t ++ (s ++ drop blockBytes (drop (b * blockBytes) t))
+unfoldable pub putBlockIn : Widths → List ℕ → ℕ → List ℕ → List ℕ
+putBlockIn w t b s = take (b * w .block) t ++ (s ++ drop (w .block) (drop (b * w .block) t))
+
+-- the same on the card of version 1
+abbrev pub blocksOf : ℕ → ℕ
+blocksOf = blocksIn version1
+
+abbrev pub tableSized : ℕ → Bool
+tableSized = sizedFor version1
+
+abbrev pub capacity : ℕ → ℕ
+capacity = capacityFor version1
+
+abbrev pub block : List ℕ → ℕ → List ℕ
+block = blockIn version1
+
+abbrev pub putBlock : List ℕ → ℕ → List ℕ → List ℕ
+putBlock = putBlockIn version1
 
 -- "12-523 the map of blocks in use"; "a map of 512 bytes, laid out as block 0's"
 abbrev pub mapBytes : ℕ

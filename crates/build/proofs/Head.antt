@@ -21,7 +21,7 @@ use Rattle.octets.proofs.Order.{same-or-not, less-or-not, ltb-same}
 use Rattle.octets.proofs.Tests.{all-at, all-cons, all-nil}
 use Rattle.octets.proofs.UpTo.{every-upTo}
 use Rattle.tree.proofs.MapBits.{bit-setBit, zeros, bit-zeros}
-use Rattle.block.specs.Table.{block, putBlock, blocksOf, blockOk, tableSized, capacity}
+use Rattle.block.specs.Table.{block, putBlock, blocksOf, blockOk, sizedFor, capacity}
 use Rattle.block.specs.Header.{Header, headerOf, headOf}
 use Rattle.block.specs.HeaderRules.{headerOk, mapShows}
 use Rattle.block.proofs.Frames.{put-length as put-block-length, block-put-same, block-put-other}
@@ -180,7 +180,7 @@ module _ (a h n z : ℕ) (s u m : List ℕ) (len : length s ≡ 2048) (nums : Nu
 
 module _ (t u s : List ℕ) (h n z : ℕ) (fits : HeaderFits t h n z) (len : length s ≡ 2048) (says : HeadSays (headerOf s) (length t) h n z) (e : u ≡ putBlock t 0 s) where
   blocks-least : 9 ≤ blocksOf (length t)
-  unfolding tableSized
+  unfolding sizedFor
   blocks-least = leb-true _ _ (all-at _ (fits .sized) 1)
 
   inside : 0 * 2048 + 2048 ≤ length t

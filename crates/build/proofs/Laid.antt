@@ -17,7 +17,7 @@ use Rattle.block.specs.declared.Entry.{Entry}
 use Rattle.block.specs.Header.{headOf}
 use Rattle.block.specs.HeaderRules.{headerOk}
 use Rattle.block.specs.Node.{storeOf}
-use Rattle.block.specs.Table.{blocksOf, capacity, tableSized}
+use Rattle.block.specs.Table.{blocksOf, capacity, sizedFor, tableSized}
 use Rattle.block.proofs.Frames.{store-same}
 use Rattle.rebuild.specs.Build.{nodes, shapeOf, shape, Built, BuildPost, Rebuilt}
 use Rattle.rebuild.proofs.Built.{nodes-some}
@@ -36,7 +36,7 @@ module _ (t list : List ℕ) (n : ℕ) (sized : tableSized (length t) ≡ true) 
   ys = spotsOf list 0 n
 
   blocks-most : (9 ≤ blocksOf (length t)) × (blocksOf (length t) ≤ 4096)
-  unfolding tableSized
+  unfolding sizedFor
   blocks-most = (leb-true _ _ (all-at _ sized 1), leb-true _ _ (all-at _ sized 2))
 
   fits : Fits n (blocksOf (length t) - 1) fs
@@ -89,7 +89,7 @@ module _ (t list : List ℕ) (n : ℕ) (sized : tableSized (length t) ≡ true) 
           header = subst (λ (k : ℕ). headerOk k (headOf v) ≡ true) (sym (w .sized)) (w .ok);
           root = w .root;
           levels = w .levels ∙ omega (arith, high, ap (λ (s : List ℕ). length s) shaped);
-          bound = omega (arith, w .bound);
+          bound = w .bound ∙ sym long;
           inUse = λ b l. w .inUse b l ∙ ap (leb b) (count ∙ ap nodes shaped);
           built = subst (λ (k : ℕ). Built (shape (length ys)) (blocksOf k) (storeOf v) 1 ys allKeys) (sym same) (subst (λ (s : List ℕ). Built s (blocksOf (length t)) (storeOf v) 1 ys allKeys) shaped kept);
         },

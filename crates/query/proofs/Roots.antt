@@ -10,7 +10,7 @@ use borrow.Author.Tests.{leb-true}
 use Rattle.octets.proofs.Tests.{all-at}
 use Rattle.spot.specs.Keys.{allKeys}
 use Rattle.block.specs.declared.Asked.the-variants.{Root}
-use Rattle.block.specs.Table.{tableSized, blocksOf}
+use Rattle.block.specs.Table.{sizedFor, tableSized, blocksOf}
 use Rattle.block.specs.Header.{headOf}
 use Rattle.block.specs.HeaderRules.{headerOk}
 use Rattle.block.proofs.Facts.{head-facts}
@@ -19,7 +19,7 @@ use Rattle.visit.specs.declared.Span.{Span}
 use Rattle.visit.specs.Visit.{endOf, partOf}
 
 pub sized-long : (t : List ℕ) → tableSized (length t) ≡ true → 2048 ≤ length t
-unfolding tableSized
+unfolding sizedFor
 sized-long t h = omega (arith, leb-true 9 (blocksOf (length t)) (all-at _ h 1))
 
 module _ (t : List ℕ) (ok : headerOk (length t) (headOf t) ≡ true) where

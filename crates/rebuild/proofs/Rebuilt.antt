@@ -109,7 +109,7 @@ module _ (t : List ℕ) (ys : List Spot) (r : Rebuilt t ys) where
 
   -- the table is sound
   pub rebuilt-sound : sound t ≡ true
-  rebuilt-sound = sound-from t rebuilt-shaped (rw rebuilt-spots (r .bound))
+  rebuilt-sound = sound-from t rebuilt-shaped (rw rebuilt-spots (omega (arith, r .bound)))
 
 unlive : (t : List ℕ) (k : ℕ) {a : ℕ} → live t k ≡ some a → lookup (headOf t .levels) (storeOf t) k (whole (headOf t)) ≡ some a
 unfolding live

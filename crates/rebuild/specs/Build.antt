@@ -159,6 +159,6 @@ pub record Rebuilt (t : List ℕ) (ys : List Spot) : Type 0 where
   pub header : headerOk (length t) (headOf t) ≡ true
   pub root : headOf t .root ≡ 1
   pub levels : headOf t .levels ≡ suc (length (shape (length ys)))
-  pub bound : length ys ≤ headOf t .bound
+  pub bound : headOf t .bound ≡ length ys
   pub inUse : (b : ℕ) → b < mapBlocks → bit (headOf t .inUse) b ≡ leb b (nodes (shape (length ys)))
   pub built : Built (shape (length ys)) (blocksOf (length t)) (storeOf t) 1 ys allKeys

@@ -16,7 +16,7 @@ use Rattle.octets.proofs.Tests.{all-at}
 use Rattle.spot.specs.Spots.{keys, find, put, without, spotAt}
 use Rattle.spot.specs.declared.Spot.{Spot}
 use Rattle.spot.proofs.Canon.{put-rises, without-rises, find-without, length-without}
-use Rattle.block.specs.Table.{tableSized, capacity, blocksOf}
+use Rattle.block.specs.Table.{sizedFor, tableSized, capacity, blocksOf}
 use Rattle.tree.specs.Walk.{liveSpots}
 use Rattle.query.specs.declared.Tally.{Tally}
 use Rattle.rebuild.specs.Build.{Rebuilt}
@@ -30,11 +30,11 @@ drop-more s u a b h e =
     ap (λ (i : ℕ). drop i s) g ∙ sym (drop-drop (b - a) a s) ∙ ap (drop (b - a)) e ∙ drop-drop (b - a) a u ∙ ap (λ (i : ℕ). drop i u) (sym g)
 
 few-blocks : (n : ℕ) → tableSized n ≡ true → blocksOf n ≤ 4096
-unfolding tableSized
+unfolding sizedFor
 few-blocks n z = leb-true (blocksOf n) 4096 (all-at _ z 2)
 
 some-blocks : (n : ℕ) → tableSized n ≡ true → 9 ≤ blocksOf n
-unfolding tableSized
+unfolding sizedFor
 some-blocks n z = leb-true 9 (blocksOf n) (all-at _ z 1)
 
 -- the lists after each change rise

@@ -18,7 +18,7 @@ use Rattle.spot.proofs.Buffers.{keys-records}
 use Rattle.spot.proofs.Stored.{length-spotsBytes}
 use Rattle.block.specs.declared.Answer.{Answer}
 use Rattle.block.specs.Answers.{answer}
-use Rattle.block.specs.Table.{tableSized, capacity, blocksOf}
+use Rattle.block.specs.Table.{sizedFor, tableSized, capacity, blocksOf}
 use Rattle.block.specs.Header.{headOf}
 use Rattle.block.specs.Checks.{keysAt}
 use Rattle.block.proofs.Facts.{head-facts}
@@ -106,7 +106,7 @@ module _ (t w w′ : List ℕ) (ok : Bool) (n r : ℕ) (z : tableSized (length t
 
   -- they rise, so a table can be built of them
   pub anew-segment : (b : Bool) → b ≡ risingFrom 0 (keysAt w′ 12 n 0) → b ≡ true → Segment w′ 0 n
-  unfolding tableSized
+  unfolding sizedFor
   anew-segment b e h =
       record {
         inside = omega (arith, anew-lent, inside, got .0, count, room);

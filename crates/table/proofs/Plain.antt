@@ -17,7 +17,7 @@ use Rattle.spot.specs.Spots.{spotBytes, spotsBytes, find, put, putHigh, byRank,
 use Rattle.spot.specs.Query.{query, topQuery, wants}
 use Rattle.spot.proofs.Signed.{Fits, signed-fits}
 use Rattle.spot.proofs.Orders.{report-wants, top-wants}
-use Rattle.block.specs.Table.{tableSized}
+use Rattle.block.specs.Table.{sizedFor, tableSized}
 use Rattle.tree.specs.Lookup.{isLive}
 use Rattle.table.specs.Calls.{Call, format, add, withdraw, report, top, count, check, rebuild, Lengths, argumentsFit}
 use Rattle.table.specs.Answers.{lengthNumber, addNumber, spotsAnswer, outputLeft}
@@ -269,7 +269,7 @@ not-all false b c = refl
 
 -- a table of a wrong length
 pub bad-table : (bytes : ℕ) → badTable bytes ≡ not (tableSized bytes)
-unfolding badTable tableSized
+unfolding badTable sizedFor
 bad-table bytes =
     ap₂ (λ (a b : Bool). not (eqb (bytes % 2048) 0) || a || b) (sym (not-leb 9 (bytes / 2048))) (sym (not-leb (bytes / 2048) 4096)) ∙
     not-all (eqb (bytes % 2048) 0) (leb 9 (bytes / 2048)) (leb (bytes / 2048) 4096)

@@ -18,7 +18,7 @@ use Rattle.spot.specs.declared.Query.{Query}
 use Rattle.spot.specs.Query.{everything}
 use Rattle.block.specs.Header.{Header, headOf, headerOf}
 use Rattle.block.specs.Node.{storeOf, nodeOf, nodeFrom, laidOut, firstBlank}
-use Rattle.block.specs.Table.{blockOk, tableSized, capacity}
+use Rattle.block.specs.Table.{blockOk, sizedFor, tableSized, capacity}
 use Rattle.block.specs.Fresh.{freshHeader, freshLeaf, formatted}
 use Rattle.block.specs.NodeRules.{nodeOk, childCountOk, buffersRise, namedOnce, names, lowsRise, pointsAbove, filled, lowest, leafBuffersEmpty, agrees, notBelow, childBlocksOk}
 use Rattle.block.specs.HeaderRules.{headerOk, mapShows}
@@ -32,12 +32,12 @@ use Rattle.tree.specs.Walk.{walked, walkTable, walkFrom, walk, once, ent
 
 -- M1: any walk of a fresh table of 9 blocks finds nothing, and reads the root
 pub fresh-walk-9 : (q : Query) → walkTable (formatted 18432) q ≡ walked [] (1 ∷ [])
-unfolding all within headOf headerOf storeOf nodeOf nodeFrom laidOut freshHeader freshLeaf formatted headerOk tableSized mapShows blockOk bit nodeOk childCountOk buffersRise namedOnce names lowsRise pointsAbove filled lowest leafBuffersEmpty agrees notBelow childBlocksOk firstBlank walkTable walkFrom walk enter finds be bytesOf once
+unfolding all within headOf headerOf storeOf nodeOf nodeFrom laidOut freshHeader freshLeaf formatted headerOk sizedFor mapShows blockOk bit nodeOk childCountOk buffersRise namedOnce names lowsRise pointsAbove filled lowest leafBuffersEmpty agrees notBelow childBlocksOk firstBlank walkTable walkFrom walk enter finds be bytesOf once
 fresh-walk-9 q = refl
 
 -- M1: a fresh table of 9 blocks is sound
 pub fresh-sound-9 : sound (formatted 18432) ≡ true
-unfolding all within headOf headerOf storeOf nodeOf nodeFrom laidOut freshHeader freshLeaf formatted headerOk tableSized mapShows blockOk bit nodeOk childCountOk buffersRise namedOnce names lowsRise pointsAbove filled lowest leafBuffersEmpty agrees notBelow childBlocksOk firstBlank walkTable walkFrom walk enter finds sound soundAt inRange reach mapExact liveCount liveSpots be bytesOf once
+unfolding all within headOf headerOf storeOf nodeOf nodeFrom laidOut freshHeader freshLeaf formatted headerOk sizedFor mapShows blockOk bit nodeOk childCountOk buffersRise namedOnce names lowsRise pointsAbove filled lowest leafBuffersEmpty agrees notBelow childBlocksOk firstBlank walkTable walkFrom walk enter finds sound soundAt inRange reach mapExact liveCount liveSpots be bytesOf once
 fresh-sound-9 = refl
 
 -- M1: one level, and capacity 128
@@ -68,11 +68,11 @@ all-true = refl
 -- For every size
 module _ (n : ℕ) (z : tableSized n ≡ true) where
   least : 9 ≤ n / 2048
-  unfolding tableSized be bytesOf
+  unfolding sizedFor be bytesOf
   least = leb-true 9 (n / 2048) (all-at _ z 1)
 
   most : n / 2048 ≤ 4096
-  unfolding tableSized be bytesOf
+  unfolding sizedFor be bytesOf
   most = leb-true (n / 2048) 4096 (all-at _ z 2)
 
   -- a fresh table has the length asked for

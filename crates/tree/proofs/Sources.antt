@@ -19,7 +19,7 @@ use Rattle.spot.specs.declared.Spot.{Spot}
 use Rattle.spot.specs.declared.Query.{Query}
 use Rattle.spot.proofs.Buffers.{putAll-from}
 use Rattle.block.specs.declared.Asked.{Asked}
-use Rattle.block.specs.Table.{blockOk, blocksOf, tableSized}
+use Rattle.block.specs.Table.{blockOk, blocksOf, sizedFor}
 use Rattle.block.specs.Node.{Store, storeOf, nodeOf, nodeFrom}
 use Rattle.block.specs.NodeRules.{names, nodeOk, childBlocksOk}
 use Rattle.block.specs.Header.{headOf}
@@ -185,7 +185,7 @@ module _ (t : List ℕ) (h : headerOk (length t) (headOf t) ≡ true) where
 
   -- and at least 9
   pub header-least : 9 ≤ blocksOf (length t)
-  unfolding tableSized
+  unfolding sizedFor
   header-least = leb-true _ _ (all-at _ (head-facts (length t) (headOf t) h .sized) 1)
 
   -- the root is a node block

@@ -1,0 +1,4 @@
+pub mod Taking
+pub mod Marking
+pub mod Finding
+pub mod Heading

@@ -1,0 +1,50 @@
+-- `spare::turn_head` meets its contract: three numbers, and the map put into its part of the block.
+-- Assumes nothing.
+use Rattle.spare.proofs.Heading.{head-turned}
+use mathlib.Core.Path.{refl}
+use borrow.Author.Needs.{needs}
+use Rattle.spare.proofs.turn_head.Statement.{statement}
+use Rattle.spare.proofs.turn_head.Tie as tie
+
+write8-requires : tie.Need-write8-requires
+write8-requires c κs = search needs
+
+write16-requires : tie.Need-write16-requires
+write16-requires c κs = search needs
+
+write32-requires : tie.Need-write32-requires
+write32-requires c κs = search needs
+
+sub-mark-taken : tie.Need-sub-mark-taken
+sub-mark-taken c = search needs
+
+part-mark-taken-start : tie.Need-part-mark-taken-start
+part-mark-taken-start c = search needs
+
+part-mark-taken-end : tie.Need-part-mark-taken-end
+part-mark-taken-end c = search needs
+
+mark-taken-requires : tie.Need-mark-taken-requires
+mark-taken-requires c κs = search needs
+
+same-length : tie.Need-same-length
+same-length c = search needs
+
+returns : tie.Need-returns
+returns c =
+    let p = c .before .before .before .before .before .before .before .before .before .before .before .before .before .before .before .before .before .pre in
+    head-turned _ _ _ _ (c .before .before .before .before .before .before .before .before .before .before .before .before .before .before .before .before .before .args .head .now) (c .before .before .before .before .before .before .before .before .before .before .before .before .before .before .write8 .last .0) (c .before .before .before .before .before .before .before .before .before .before .write16 .last .0) (c .before .before .before .before .before .before .write32 .last .0) (c .before .before .mark-taken .last .0) _ (p .2) (p .3) (p .4) (p .0) (c .before .before .before .before .before .before .before .before .before .before .before .before .before .before .write8 .ensures) (c .before .before .before .before .before .before .before .before .before .before .write16 .ensures) (c .before .before .before .before .before .before .write32 .ensures) (c .before .before .mark-taken .ensures) refl
+
+pub turn-head-spec : {M : Type 1} → statement M
+turn-head-spec =
+    tie.close
+    (tie.spec
+    write8-requires
+    write16-requires
+    write32-requires
+    sub-mark-taken
+    part-mark-taken-start
+    part-mark-taken-end
+    mark-taken-requires
+    same-length
+    returns)
