@@ -4,7 +4,7 @@ use mathlib.Core.Path.{_≡_, refl, sym, ap, subst, _∙_}
 use mathlib.Core.Logic.{⊎-elim}
 use mathlib.Core.Bool.{cond}
 use mathlib.Core.List.{List}
-use Prim.Native.Nat.{ℕ, suc, _+_, _-_, _≤_, _<_}
+use Prim.Native.Nat.{ℕ, zero, suc, _+_, _-_, _≤_, _<_}
 use native.Mathlib.Nat.{not-suc-le-zero}
 use native.Mathlib.Numerals.{add-one}
 use native.Mathlib.Omega.{arith}
@@ -54,6 +54,10 @@ module _ (es : List Entry) (ks : List ℕ) (n : ℕ) where
 
   pub end-out : (i : ℕ) → length es ≤ i → endAt es ks n i ≡ n
   end-out i h = ap (λ b. cond b (below (nextLow (drop i es) 0) ks) n) (le-ltb i (length es) h)
+
+  pub start-later : (i : ℕ) → (i ≡ 0 → ⊥) → below (nextLow (drop i es) 0) ks ≡ startAt es ks i
+  start-later zero h = absurd (h refl)
+  start-later (suc i) h = refl
 
   -- the best of the first i children, and where the next one's keys begin
   pub record Seen (best most start i : ℕ) : Type 0 where

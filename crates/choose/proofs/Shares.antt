@@ -2,23 +2,25 @@
 -- the mean.
 -- Assumes nothing.
 use mathlib.Core.Path.{_≡_, refl, sym}
+use mathlib.Core.Logic.{⊎-elim}
 use mathlib.Core.Bool.{Bool, true, false, cond, true≢false}
 use mathlib.Core.List.{List, [], _∷_}
 use Prim.Native.Nat.{ℕ, zero, suc, _+_, _-_, _*_, _/_, _≤_, _<_}
 use native.Mathlib.Nat.{le-of-suc-le-suc, not-suc-le-zero, suc-mul, div-le-of-le-mul}
 use native.Mathlib.Omega.{arith}
 use lib.Dec.{ltb}
-use lib.ListN.{length, drop}
+use lib.ListN.{length, drop, getD}
 use borrow.Author.Tests.{ltb-true, lt-ltb}
 use Rattle.octets.specs.Lists.{keep, rest, rising, risingFrom}
+use Rattle.octets.proofs.Order.{less-or-not}
 use Rattle.octets.proofs.Rising.{rising-first, rising-rest}
 use Rattle.block.specs.declared.Entry.{Entry}
 use Rattle.block.specs.NodeRules.{lows}
 use Rattle.tree.specs.Part.{nextLow}
 use Rattle.buffer.specs.Buffer.{below}
-use Rattle.buffer.proofs.Counts.{below-le}
-use Rattle.choose.specs.Choices.{Fullest, startAt, endAt, share}
-use Rattle.choose.proofs.Chosen.{end-in, end-out}
+use Rattle.buffer.proofs.Counts.{below-le, below-at, past-at}
+use Rattle.choose.specs.Choices.{ChildFor, Fullest, startAt, endAt, share}
+use Rattle.choose.proofs.Chosen.{end-in, end-out, start-later}
 
 -- f 0 + f 1 + .. of the first m
 abbrev pub sumTo : (ℕ → ℕ) → ℕ → ℕ
@@ -44,7 +46,8 @@ fewer f g h (x ∷ xs) = go (f x) (g x) (h x) (fewer f g h xs)
     go false true i r = omega arith
     go false false i r = r
 
-below-up : (a b : ℕ) (ks : List ℕ) → a ≤ b → below a ks ≤ below b ks
+-- fewer are below a lower key
+pub below-up : (a b : ℕ) (ks : List ℕ) → a ≤ b → below a ks ≤ below b ks
 below-up a b ks h = fewer (λ j. ltb j a) (λ j. ltb j b) (λ x e. let g = ltb-true x a e in lt-ltb x b (omega arith)) ks
 
 -- each low is at most the next
@@ -59,13 +62,47 @@ later-step [] i r h = absurd (not-suc-le-zero h)
 later-step (e ∷ es) i r h = up-step es 0 i r (le-of-suc-le-suc h)
 
 module _ (es : List Entry) (ks : List ℕ) (n : ℕ) (up : rising (rest (lows es)) ≡ true) (e : n ≡ length ks) where
-  start-le : (i : ℕ) → startAt es ks i ≤ n
+  pub start-le : (i : ℕ) → startAt es ks i ≤ n
   start-le zero = omega arith
   start-le (suc i) = omega (arith, below-le (nextLow (drop (suc i) es) 0) ks)
 
   start-up : (i : ℕ) → suc i < length es → startAt es ks i ≤ startAt es ks (suc i)
   start-up zero h = omega arith
   start-up (suc i) h = below-up (nextLow (drop (suc i) es) 0) (nextLow (drop (suc (suc i)) es) 0) ks (later-step es i up h)
+
+  pub end-le : (i : ℕ) → endAt es ks n i ≤ n
+  end-le i =
+      ⊎-elim
+      (λ (h : length es ≤ i). let q = end-out es ks n i h in omega arith)
+      (λ (h : i < length es). let q = end-in es ks n i h in omega (arith, below-le (nextLow (drop i es) 0) ks))
+      (less-or-not (length es) i)
+
+  -- a child's keys begin no later than they end
+  pub start-end : (i : ℕ) → startAt es ks i ≤ endAt es ks n (suc i)
+  start-end i =
+      ⊎-elim
+      (λ (h : length es ≤ suc i). let q = end-out es ks n (suc i) h in omega (arith, start-le i))
+      (λ (h : suc i < length es). let q : endAt es ks n (suc i) ≡ startAt es ks (suc i) = end-in es ks n (suc i) h in omega (arith, start-up i h))
+      (less-or-not (length es) (suc i))
+
+  -- the keys between are in its range
+  pub share-for : rising ks ≡ true → (i p : ℕ) → i < length es → startAt es ks i ≤ p → p < endAt es ks n (suc i) → ChildFor es (getD ks p 0) i
+  share-for r i p h s t =
+      let k = getD ks p 0 in
+      let w : p < length ks = omega (arith, end-le (suc i)) in
+      let at = below-at ks r p w k refl in
+      let past = past-at ks r p w k refl in
+      record {
+        there = h;
+        from = λ g.
+            let low = nextLow (drop i es) 0 in
+            let q : below low ks ≡ startAt es ks i = start-later es ks n i (λ z. omega arith) in
+            ⊎-elim (λ (z : low ≤ k). z) (λ (z : k < low). absurd (omega (arith, below-up (suc k) low ks z))) (less-or-not low k);
+        to = λ g.
+            let low = nextLow (drop (suc i) es) 0 in
+            let q = end-in es ks n (suc i) g in
+            ⊎-elim (λ (z : low ≤ k). absurd (omega (arith, below-up low k ks z))) (λ (z : k < low). z) (less-or-not low k);
+      }
 
   -- the shares of the first children are the keys before the next one's range
   shares-before : (i : ℕ) → i < length es → sumTo (share es ks n) i ≡ startAt es ks i

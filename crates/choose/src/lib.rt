@@ -9,7 +9,7 @@ ghost use Rattle.block.specs.NodeRules.{lows};
 ghost use Rattle.tree.specs.Part.{nextLow};
 ghost use Rattle.buffer.specs.Buffer.{held, named, Ordered, OrderedKeys};
 ghost use Rattle.node.specs.Memory.{entriesOf};
-ghost use Rattle.choose.specs.Choices.{ChildFor, Fullest, endAt};
+ghost use Rattle.choose.specs.Choices.{ChildFor, Fullest, startAt, endAt};
 
 // The low of the i-th entry.
 fn low_at(es: node::Entries, i: usize) -> u64
@@ -37,7 +37,7 @@ pub fn child_of(es: node::Entries, k: u64) -> usize
 }
 
 // How many spots of a buffer are below the low of the i-th entry; all, where i is the number of entries.
-fn end_of(es: node::Entries, b: buffer::SpotBuffer, i: usize) -> usize
+pub fn end_of(es: node::Entries, b: buffer::SpotBuffer, i: usize) -> usize
     requires { ⌜ (es .n ≤ 8) × Ordered b ⌝ }
     ensures { λ r. ⌜ r ≡ endAt (entriesOf es) (keys (held b)) (b .n) i ⌝ }
 {
@@ -49,7 +49,7 @@ fn end_of(es: node::Entries, b: buffer::SpotBuffer, i: usize) -> usize
 }
 
 // The same of keys.
-fn keys_end_of(es: node::Entries, b: buffer::KeyBuffer, i: usize) -> usize
+pub fn keys_end_of(es: node::Entries, b: buffer::KeyBuffer, i: usize) -> usize
     requires { ⌜ (es .n ≤ 8) × OrderedKeys b ⌝ }
     ensures { λ r. ⌜ r ≡ endAt (entriesOf es) (named b) (b .n) i ⌝ }
 {
@@ -58,6 +58,30 @@ fn keys_end_of(es: node::Entries, b: buffer::KeyBuffer, i: usize) -> usize
         return buffer::key_position(b, low);
     }
     b.n
+}
+
+// How many spots of a buffer lie before the range of the i-th child.
+pub fn start_of(es: node::Entries, b: buffer::SpotBuffer, i: usize) -> usize
+    requires { ⌜ (i < es .n) × (es .n ≤ 8) × Ordered b ⌝ }
+    ensures { λ r. ⌜ r ≡ startAt (entriesOf es) (keys (held b)) i ⌝ }
+{
+    if i == 0 {
+        return 0;
+    }
+    let low = low_at(es, i);
+    buffer::position(b, low)
+}
+
+// The same of keys.
+pub fn keys_start_of(es: node::Entries, b: buffer::KeyBuffer, i: usize) -> usize
+    requires { ⌜ (i < es .n) × (es .n ≤ 8) × OrderedKeys b ⌝ }
+    ensures { λ r. ⌜ r ≡ startAt (entriesOf es) (named b) i ⌝ }
+{
+    if i == 0 {
+        return 0;
+    }
+    let low = low_at(es, i);
+    buffer::key_position(b, low)
 }
 
 // How many lie from `start` up to `end`.

@@ -31,11 +31,12 @@ pub record Lowering (p₀ i₀ : SpotBuffer) (d : KeyBuffer) (p i : SpotBuffer) 
   pub apart : Apart (keys (held p)) (keys (held i))
   pub total : p .n + i .n ≡ p₀ .n + i₀ .n
   pub on : (c : Held) → Spilled (buffers (held p) (held i) (named d)) c → Spilled (buffers (held p₀) (held i₀) (named d)) c
+  pub full : 64 < p₀ .n → 64 ≤ p .n
   pub kept : p₀ .n ≤ 64 → (p ≡ p₀) × (i ≡ i₀)
 
 -- before the first turn
 pub lowering-none : (p i : SpotBuffer) (d : KeyBuffer) → length (p .spots) ≡ 80 → Ordered p → Ordered i → Apart (keys (held p)) (keys (held i)) → Lowering p i d p i
-lowering-none p i d w a b o = record { long = w; points = a; inserts = b; apart = o; total = refl; on = λ c s. s; kept = λ h. (refl, refl) }
+lowering-none p i d w a b o = record { long = w; points = a; inserts = b; apart = o; total = refl; on = λ c s. s; full = λ h. omega arith; kept = λ h. (refl, refl) }
 
 module _ (p i : SpotBuffer) (q : Spot) (l : Lowest (held p) q) (o : Apart (keys (held p)) (keys (held i))) where
   -- the lowest of P is not in I
@@ -67,6 +68,7 @@ lowering-more p i p′ i′ q s l h e w a n f b =
       apart = still-apart p i q l (s .apart) e f;
       total = omega (arith, s .total);
       on = λ z t. s .on z (Spilled.more q l (subst (λ (y : Held). Spilled y z) (same-held e f refl) t));
+      full = λ k. omega arith;
       kept = λ k. absurd (let g = ap (λ (y : SpotBuffer). y .n) (s .kept k .0) in omega arith);
     }
 
@@ -80,6 +82,7 @@ lowering-all n p i s h o =
       entries = refl;
       level = refl;
       few = h;
+      full = λ k. omega (arith, s .full k);
       kept = λ k. λ z. record { level = n .level; entries = n .entries; points = s .kept k .0 z; inserts = s .kept k .1 z; deletes = n .deletes };
       total = s .total;
       deletes = refl;

@@ -66,6 +66,7 @@ pub record SpillPost (n x : NodeValue) : Type 0 where
   pub entries : x .entries ≡ n .entries
   pub level : x .level ≡ n .level
   pub few : x .points .n ≤ 64
+  pub full : 64 < n .points .n → x .points .n ≡ 64
   pub kept : n .points .n ≤ 64 → x ≡ n
   pub total : x .points .n + x .inserts .n ≡ n .points .n + n .inserts .n
   pub deletes : x .deletes ≡ n .deletes

@@ -1,0 +1,83 @@
+-- `batch::take_in` meets its contract.
+-- Assumes nothing.
+use mathlib.Core.Path.{_≡_}
+use native.Mathlib.Omega.{arith}
+use borrow.Author.Needs.{needs}
+use lib.ListN.{length}
+use Rattle.buffer.specs.Buffer.{held, named}
+use Rattle.buffer.proofs.Lists.{length-image}
+use Rattle.buffer.proofs.Laws.{held-length, named-length}
+use Rattle.edit.proofs.delete_all.Reads as delete-all-reads
+use Rattle.edit.proofs.insert_all.Reads as insert-all-reads
+use Rattle.edit.proofs.threshold.Reads as threshold-reads
+use Rattle.batch.proofs.Taking.{Counted, Changed, less-sized, less-few, taken-in}
+use Rattle.batch.proofs.take_in.Statement.{statement}
+use Rattle.batch.proofs.take_in.Tie as tie
+use Rattle.batch.proofs.take_in.Reads as reads
+use Rattle.batch.proofs.take_in.Lts as lts
+use Rattle.batch.proofs.spill_inner.Reads as spill-inner-reads
+
+threshold-requires : tie.Need-threshold-requires
+threshold-requires c κs = search needs
+
+insert-all-requires : tie.Need-insert-all-requires
+insert-all-requires c κs = search needs
+
+delete-all-requires : tie.Need-delete-all-requires
+delete-all-requires c κs = search needs
+
+-- the buffers that were lent, and those of the node before
+long-inserts : (c : tie.Start) → length (held (c .args .inserts)) ≡ c .args .inserts .n
+long-inserts c = held-length (c .args .inserts) (search (needs, length-image)) (omega (arith, c .pre .fewI))
+
+long-deletes : (c : tie.Start) → length (named (c .args .deletes)) ≡ c .args .deletes .n
+long-deletes c = named-length (c .args .deletes) (search (needs, length-image)) (omega (arith, c .pre .fewD))
+
+counted : (c : tie.Start) → Counted (c .args .n)
+counted c =
+    let n = c .args .n in
+    let t = c .pre .tidy in
+    record {
+      points = held-length (n .points) (search (needs, length-image)) (t .points .fits);
+      inserts = held-length (n .inserts) (search (needs, length-image)) (t .inserts .fits);
+      deletes = named-length (n .deletes) (search (needs, length-image)) (t .deletes .fits);
+    }
+
+abbrev Deleted : Type 0
+Deleted = lts.After-delete-all (threshold-reads.Asked, threshold-reads.Learnt, insert-all-reads.Asked, insert-all-reads.Learnt, delete-all-reads.Asked, delete-all-reads.Learnt, spill-inner-reads.Asked, spill-inner-reads.Learnt) reads.Pre reads.Post
+
+-- and after
+counted-less : (c : Deleted) → Counted (c .delete-all .result)
+counted-less c =
+    let n = c .delete-all .result in
+    let t = c .delete-all .ensures .tidy in
+    record {
+      points = held-length (n .points) (search (needs, length-image, c .delete-all .ok .1 .1 .1 .1 .0)) (t .points .fits);
+      inserts = held-length (n .inserts) (search (needs, length-image, c .delete-all .ok .1 .1 .1 .1 .1 .0)) (t .inserts .fits);
+      deletes = named-length (n .deletes) (search (needs, length-image, c .delete-all .ok .1 .1 .1 .1 .1 .1 .0)) (t .deletes .fits);
+    }
+
+changed : (c : Deleted)
+    → Changed (c .before .before .before .args .n) (c .before .insert-all .result) (c .delete-all .result) (held (c .before .before .before .args .inserts))
+    (named (c .before .before .before .args .deletes)) (c .before .before .before .args .inserts .n) (c .before .before .before .args .deletes .n) (c .before .before .threshold .result)
+changed c =
+    let s = c .before .before .before in
+    record {
+      received = s .pre;
+      spots = long-inserts s;
+      keys = long-deletes s;
+      before = counted s;
+      counted = counted-less c;
+      threshold = c .before .before .threshold .ensures;
+      inserted = c .before .insert-all .ensures;
+      deleted = c .delete-all .ensures;
+    }
+
+spill-inner-requires : tie.Need-spill-inner-requires
+spill-inner-requires c κs = (c .delete-all .ensures .tidy, less-few (changed c), less-sized (changed c) .apart)
+
+returns : tie.Need-returns
+returns c = taken-in (changed (c .before)) (c .spill-inner .result) (c .spill-inner .ensures)
+
+pub take-in-spec : {M : Type 1} → statement M
+take-in-spec = tie.close (tie.spec threshold-requires insert-all-requires delete-all-requires spill-inner-requires returns)
