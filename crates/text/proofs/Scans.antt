@@ -1,0 +1,83 @@
+-- One turn of each loop over a line.
+-- Assumes nothing.
+use mathlib.Core.Path.{_≡_, refl, ap, ap₂, sym, _∙_}
+use mathlib.Core.Bool.{Bool, true, false, cond, _&&_}
+use mathlib.Core.List.{List, [], _∷_}
+use Prim.Native.Nat.{ℕ, suc, _+_, _≤_, _<_}
+use native.Mathlib.Omega.{arith}
+use native.Mathlib.Numerals.{add-one}
+use lib.ListN.{length, getD, take, drop, drop-of-length-le}
+use lib.Seq.{drop-cons, drop-drop}
+use borrow.Author.Tests.{eq-eqb, ne-eqb}
+use Rattle.text.specs.Reading.{front, behind, step, value, alike}
+use Rattle.text.proofs.Words.{front-take, behind-drop}
+use Rattle.text.proofs.Inverse.{alike-same}
+
+pub next-byte : (s : List ℕ) (i : ℕ) → i < length s → drop i s ≡ getD s i 0 ∷ drop (i + 1) s
+next-byte s i h = rw (add-one i) (drop-cons s i 0 h)
+
+-- ---- to the end of a word
+
+module _ (s : List ℕ) (i : ℕ) where
+  pub scan-stop : i < length s → getD s i 0 ≡ 32 → i ≡ i + length (front (drop i s))
+  scan-stop h e =
+      let z : length (front (drop i s)) ≡ 0 =
+      ap (λ (l : List ℕ). length (front l)) (next-byte s i h)
+      ∙ ap (λ (b : Bool). length (cond b [] (getD s i 0 ∷ front (drop (i + 1) s)))) (eq-eqb 32 (getD s i 0) (sym e)) in
+      omega arith
+
+  pub scan-next : i < length s → (getD s i 0 ≡ 32 → ⊥) → i + 1 + length (front (drop (i + 1) s)) ≡ i + length (front (drop i s))
+  scan-next h e =
+      let z : length (front (drop i s)) ≡ suc (length (front (drop (i + 1) s))) =
+      ap (λ (l : List ℕ). length (front l)) (next-byte s i h)
+      ∙ ap (λ (b : Bool). length (cond b [] (getD s i 0 ∷ front (drop (i + 1) s)))) (ne-eqb 32 (getD s i 0) (λ g. e (sym g))) in
+      omega arith
+
+  pub scan-end : length s ≤ i → i ≡ i + length (front (drop i s))
+  scan-end h = rw (drop-of-length-le s {i = i} h) (omega arith)
+
+-- ---- the digits of a number
+
+pub value-next : (w : List ℕ) (i n : ℕ) → i < length w → value (step n (getD w i 0)) (drop (i + 1) w) ≡ value n (drop i w)
+value-next w i n h = sym (ap (value n) (next-byte w i h))
+
+pub value-end : (w : List ℕ) (i n : ℕ) → length w ≤ i → n ≡ value n (drop i w)
+value-end w i n h = rw (drop-of-length-le w {i = i} h)
+
+-- ---- the comparison
+
+not-true-false : (b : Bool) → (b ≡ true → ⊥) → b ≡ false
+not-true-false true h = absurd (h refl)
+not-true-false false h = refl
+
+pub alike-lengths : (a b : List ℕ) → (length a ≡ length b → ⊥) → alike a b ≡ false
+alike-lengths a b h = not-true-false (alike a b) (λ (e : alike a b ≡ true). h (ap length (alike-same a b e)))
+
+module _ (a b : List ℕ) (i : ℕ) (l : i < length a) (m : i < length b) where
+  pub alike-next : getD a i 0 ≡ getD b i 0 → alike (drop (i + 1) a) (drop (i + 1) b) ≡ alike (drop i a) (drop i b)
+  alike-next e =
+      sym (ap₂ alike (next-byte a i l) (next-byte b i m) ∙ ap (λ (t : Bool). t && alike (drop (i + 1) a) (drop (i + 1) b)) (eq-eqb (getD a i 0) (getD b i 0) e))
+
+  pub alike-differ : (getD a i 0 ≡ getD b i 0 → ⊥) → alike (drop i a) (drop i b) ≡ false
+  alike-differ e =
+      ap₂ alike (next-byte a i l) (next-byte b i m)
+      ∙ ap (λ (t : Bool). t && alike (drop (i + 1) a) (drop (i + 1) b)) (ne-eqb (getD a i 0) (getD b i 0) e)
+
+pub alike-end : (a b : List ℕ) (i : ℕ) → length a ≤ i → length b ≤ i → alike (drop i a) (drop i b) ≡ true
+alike-end a b i l m = ap₂ alike (drop-of-length-le a {i = i} l) (drop-of-length-le b {i = i} m)
+
+-- ---- a word as it lies in a line
+
+pub word-in : (s : List ℕ) (at e : ℕ) → e ≡ at + length (front (drop at s)) → (k : ℕ) → at + k ≡ e → take k (drop at s) ≡ front (drop at s)
+word-in s at e h k g =
+    let n : k ≡ length (front (drop at s)) = omega arith in
+    ap (λ (j : ℕ). take j (drop at s)) n ∙ front-take (drop at s)
+
+pub behind-in : (s : List ℕ) (at e : ℕ) → e ≡ at + length (front (drop at s)) → drop (e + 1) s ≡ behind (drop at s)
+behind-in s at e h =
+    let n : e + 1 ≡ at + suc (length (front (drop at s))) = omega arith in
+    ap (λ (j : ℕ). drop j s) n ∙ sym (drop-drop (suc (length (front (drop at s)))) at s) ∙ behind-drop (drop at s)
+
+-- where a word ends with the line, nothing lies behind it
+pub behind-none : (s : List ℕ) (at e : ℕ) → e ≡ at + length (front (drop at s)) → length s ≤ e → drop e s ≡ behind (drop at s)
+behind-none s at e h l = drop-of-length-le s {i = e} l ∙ sym (drop-of-length-le s {i = e + 1} (omega arith)) ∙ behind-in s at e h
