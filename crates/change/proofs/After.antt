@@ -1,0 +1,179 @@
+-- The table after a change of its tree, once block 0 says so.
+-- Assumes nothing.
+use mathlib.Core.Path.{_≡_, refl, ap, ap₂, sym, _∙_, subst, subst⁻¹}
+use mathlib.Core.Logic.{inl, inr, ⊎-elim}
+use mathlib.Core.Bool.{Bool, true, false, true≢false}
+use mathlib.Core.List.{List, [], _∷_, List·Memᴰ, append-nil}
+use mathlib.Core.Option.{Option, none, some}
+use Prim.Native.Nat.{ℕ, suc, _≤_, _<_}
+use native.Mathlib.Omega.{arith}
+use lib.ListN.{length}
+use Rattle.octets.specs.Bitmap.{bit}
+use Rattle.octets.proofs.Sets.{Apart, has-not}
+use Rattle.octets.proofs.UpTo.{upTo-from}
+use Rattle.spot.specs.Keys.{allKeys, within}
+use Rattle.spot.specs.Spots.{keys, find}
+use Rattle.spot.specs.declared.Spot.{Spot}
+use Rattle.spot.proofs.Buffers.{find-mem}
+use Rattle.block.specs.declared.Asked.the-variants.{Root}
+use Rattle.block.specs.Table.{mapBlocks}
+use Rattle.block.specs.Header.{Header, headOf}
+use Rattle.block.specs.HeaderRules.{headerOk}
+use Rattle.block.specs.Node.{Store, storeOf}
+use Rattle.block.proofs.Frames.{store-same}
+use Rattle.tree.specs.Part.{Part, whole}
+use Rattle.tree.specs.Lookup.{lookup, live, orElse}
+use Rattle.tree.specs.Reach.{reach}
+use Rattle.tree.specs.Sound.{soundAt, mapExact}
+use Rattle.tree.proofs.Tables.{Shaped}
+use Rattle.tree.proofs.Live.{lookup-within}
+use Rattle.tree.proofs.Marks.{exact-once, exact-bit, read-mem}
+use Rattle.tree.proofs.Sources.{table-reach, header-few}
+use Rattle.update.proofs.Change.{reaches, Sound}
+use Rattle.update.proofs.Count.{map-after}
+use Rattle.update.proofs.Spare.{Taken}
+use Rattle.update.proofs.Loose.{part}
+use Rattle.spare.specs.declared.Spare.{Spare}
+use Rattle.spare.specs.Spares.{spareOf, takenOf, SpareIn, Reheaded}
+use Rattle.spare.proofs.Taking.{taken-is, taken-not}
+use Rattle.batch.specs.Batches.{batchSays}
+use Rattle.change.specs.Growing.{Rooted}
+use Rattle.change.proofs.Trees.{sound-of, of-sound, rooted-frame}
+
+-- ---- the tree of a table that keeps the rules
+
+module _ (t : List ℕ) (s : Shaped t) where
+  -- its parts are one, the whole
+  pub whole-sound : Sound (headOf t .levels) (storeOf t) (whole (headOf t) ∷ [])
+  whole-sound = sound-of (headOf t .levels) (storeOf t) (whole (headOf t)) (s .tree) (exact-once (headOf t .inUse) _ (s .map))
+
+  one-reach : reaches (headOf t .levels) (storeOf t) (whole (headOf t) ∷ []) ≡ reach (headOf t .levels) (storeOf t) (whole (headOf t))
+  one-reach = append-nil (reach (headOf t .levels) (storeOf t) (whole (headOf t)))
+
+  reached-in : (z : ℕ) → List·Memᴰ z (reaches (headOf t .levels) (storeOf t) (whole (headOf t) ∷ [])) → List·Memᴰ z (reach (headOf t .levels) (storeOf t) (whole (headOf t)))
+  reached-in z i = subst (λ (bs : List ℕ). List·Memᴰ z bs) one-reach i
+
+  -- block 0 isn't reached
+  pub zero-off : List·Memᴰ 0 (reaches (headOf t .levels) (storeOf t) (whole (headOf t) ∷ [])) → ⊥
+  zero-off i = let z = table-reach t (s .header) (s .tree) 0 (reached-in 0 i) .some in omega arith
+
+  -- nor are blocks that the map does not mark
+  pub spare-apart : (spare : Spare) → SpareIn t spare → Apart (spareOf spare (spare .n)) (reaches (headOf t .levels) (storeOf t) (whole (headOf t) ∷ []))
+  spare-apart spare u z i j =
+      let k = reached-in z j in
+      let low : z < 4096 = let a = table-reach t (s .header) (s .tree) z k .low in omega (arith, header-few t (s .header)) in
+      true≢false (sym (exact-bit (headOf t .inUse) _ (s .map) z low ∙ read-mem _ z k) ∙ u .unused z i)
+
+  -- keys past the last are not live
+  pub live-off : (k : ℕ) → within 0 allKeys k ≡ false → live t k ≡ none
+  unfolding live
+  live-off k w = go (lookup (headOf t .levels) (storeOf t) k (whole (headOf t))) refl
+    where
+      go : (o : Option ℕ) → lookup (headOf t .levels) (storeOf t) k (whole (headOf t)) ≡ o → lookup (headOf t .levels) (storeOf t) k (whole (headOf t)) ≡ none
+      go none e = e
+      go (some a) e = absurd (true≢false (sym (lookup-within (headOf t .levels) (storeOf t) k (whole (headOf t)) (s .tree) (omega arith) e) ∙ w))
+
+-- ---- what a batch says of keys past the last
+
+pub says-off : (ss : List Spot) (ks : List ℕ) → ((k : ℕ) → List·Memᴰ k (keys ss) → within 0 allKeys k ≡ true) → ((k : ℕ) → List·Memᴰ k ks → within 0 allKeys k ≡ true)
+    → (k : ℕ) → within 0 allKeys k ≡ false → batchSays ss ks k none ≡ none
+says-off ss ks hi hd k w =
+    rw (has-not k ks (λ i. true≢false (sym (hd k i) ∙ w))) (go (find k ss) refl)
+  where
+    go : (o : Option ℕ) → find k ss ≡ o → orElse o none ≡ none
+    go none e = refl
+    go (some a) e = absurd (true≢false (sym (hi k (find-mem k ss e)) ∙ w))
+
+-- ---- the table after it
+
+module _ (t v u : List ℕ) (spare : Spare) (left h root bound : ℕ) (f : ℕ → Option ℕ) (y : Store) (s : Shaped t) (unused : SpareIn t spare) (less : left ≤ spare .n)
+    (g : Rooted (headOf t .levels) (storeOf t) (whole (headOf t) ∷ []) (Taken (spareOf spare (spare .n)) (spareOf spare left)) h y root f)
+    (sized : length v ≡ length t) (head : headOf v ≡ headOf t) (else : (z : ℕ) → (z ≡ 0 → ⊥) → storeOf v z ≡ y z)
+    (r : Reheaded v u (takenOf spare left) h root bound) where
+  tree : Rooted (headOf t .levels) (storeOf t) (whole (headOf t) ∷ []) (Taken (spareOf spare (spare .n)) (spareOf spare left)) h (storeOf u) root f
+  tree =
+      rooted-frame (headOf t .levels) (storeOf t) (whole (headOf t) ∷ []) (Taken (spareOf spare (spare .n)) (spareOf spare left)) h y root f (storeOf u)
+      (zero-off t s) (λ i. let z = unused .fits .inside 0 (i .0) .0 in omega arith)
+      (λ z d. store-same v u (r .sized) z (r .else z d) ∙ else z d) g
+
+  is-whole : whole (headOf u) ≡ part root Root 0 allKeys
+  is-whole = ap (λ (b : ℕ). part b Root 0 allKeys) (r .rootIs)
+
+  is-reach : reach (headOf u .levels) (storeOf u) (whole (headOf u)) ≡ reach h (storeOf u) (part root Root 0 allKeys)
+  is-reach = ap₂ (λ (n : ℕ) (p : Part). reach n (storeOf u) p) (r .levels) is-whole
+
+  map-is : mapExact (headOf u .inUse) (reach h (storeOf u) (part root Root 0 allKeys)) ≡ true
+  map-is =
+      map-after (headOf t .inUse) (headOf u .inUse) (reach (headOf t .levels) (storeOf t) (whole (headOf t))) (reach h (storeOf u) (part root Root 0 allKeys))
+      (spareOf spare (spare .n)) (spareOf spare left) (s .map) (of-sound h (storeOf u) (part root Root 0 allKeys) (tree .sound) .1)
+      (λ z i. ⊎-elim (λ j. inl (reached-in t s z j)) inr (tree .reached z i))
+      (λ z i. tree .still z (⊎-elim (λ j. inl (subst⁻¹ (λ (bs : List ℕ). List·Memᴰ z bs) (one-reach t s) j)) inr i))
+      (λ z i n. r .marked z (taken-is spare left less (unused .fits .once) z (n .0) (n .1)))
+      (λ z i n. r .others z (let q = upTo-from 0 mapBlocks i in omega arith) (λ j. n (taken-not spare left less (unused .fits .once) z j)) ∙ ap (λ (x : Header). bit (x .inUse) z) head)
+
+  -- it keeps the rules
+  pub after-shaped : Shaped u
+  after-shaped =
+      record {
+        header = subst⁻¹ (λ (n : ℕ). headerOk n (headOf u) ≡ true) (r .sized) (r .ok);
+        tree = ap₂ (λ (n : ℕ) (p : Part). soundAt n (storeOf u) p) (r .levels) is-whole ∙ of-sound h (storeOf u) (part root Root 0 allKeys) (tree .sound) .0;
+        map = ap (mapExact (headOf u .inUse)) is-reach ∙ map-is;
+      }
+
+  -- and its live spots are those
+  pub after-live : (k : ℕ) → within 0 allKeys k ≡ true → live u k ≡ f k
+  unfolding live
+  after-live k w = ap₂ (λ (n : ℕ) (p : Part). lookup n (storeOf u) k p) (r .levels) is-whole ∙ tree .found k w
+
+-- with the batch's words, for every key
+pub after-says : (t u : List ℕ) (ss : List Spot) (ks : List ℕ) → Shaped t → Shaped u
+    → ((k : ℕ) → List·Memᴰ k (keys ss) → within 0 allKeys k ≡ true) → ((k : ℕ) → List·Memᴰ k ks → within 0 allKeys k ≡ true)
+    → ((k : ℕ) → within 0 allKeys k ≡ true → live u k ≡ batchSays ss ks k (live t k)) → (k : ℕ) → live u k ≡ batchSays ss ks k (live t k)
+after-says t u ss ks s s′ hi hd h k = go (within 0 allKeys k) refl
+  where
+    go : (b : Bool) → within 0 allKeys k ≡ b → live u k ≡ batchSays ss ks k (live t k)
+    go true w = h k w
+    go false w = live-off u s′ k w ∙ sym (ap (batchSays ss ks k) (live-off t s k w) ∙ says-off ss ks hi hd k w)
+
+-- ---- the root that block 0 names
+
+module _ (t : List ℕ) (root level : ℕ) (at-root : root ≡ headOf t .root) (at-level : suc level ≡ headOf t .levels) where
+  abbrev here : Part
+  here = part root Root 0 allKeys
+
+  whole-is : here ≡ whole (headOf t)
+  whole-is = ap (λ (b : ℕ). part b Root 0 allKeys) at-root
+
+  -- its tree is sound
+  pub root-sound : Shaped t → Sound (suc level) (storeOf t) (part root Root 0 allKeys ∷ [])
+  root-sound s =
+      subst⁻¹ (λ (h : ℕ). Sound h (storeOf t) (here ∷ [])) at-level
+      (subst⁻¹ (λ (p : Part). Sound (headOf t .levels) (storeOf t) (p ∷ [])) whole-is (whole-sound t s))
+
+  -- and spare blocks are none of its own
+  pub root-apart : Shaped t → (spare : Spare) → SpareIn t spare → Apart (spareOf spare (spare .n)) (reaches (suc level) (storeOf t) (part root Root 0 allKeys ∷ []))
+  root-apart s spare u =
+      subst⁻¹ (λ (h : ℕ). Apart (spareOf spare (spare .n)) (reaches h (storeOf t) (here ∷ []))) at-level
+      (subst⁻¹ (λ (p : Part). Apart (spareOf spare (spare .n)) (reaches (headOf t .levels) (storeOf t) (p ∷ []))) whole-is (spare-apart t s spare u))
+
+  module _ (v u : List ℕ) (spare : Spare) (left h new bound : ℕ) (y : Store) (ss : List Spot) (ks : List ℕ) (s : Shaped t) (unused : SpareIn t spare) (less : left ≤ spare .n)
+      (fitI : (k : ℕ) → List·Memᴰ k (keys ss) → within 0 allKeys k ≡ true) (fitD : (k : ℕ) → List·Memᴰ k ks → within 0 allKeys k ≡ true)
+      (g : Rooted (suc level) (storeOf t) (part root Root 0 allKeys ∷ []) (Taken (spareOf spare (spare .n)) (spareOf spare left)) h y new
+      (λ k. batchSays ss ks k (lookup (suc level) (storeOf t) k (part root Root 0 allKeys))))
+      (sized : length v ≡ length t) (head : headOf v ≡ headOf t) (else : (z : ℕ) → (z ≡ 0 → ⊥) → storeOf v z ≡ y z)
+      (r : Reheaded v u (takenOf spare left) h new bound) where
+    named : Rooted (headOf t .levels) (storeOf t) (whole (headOf t) ∷ []) (Taken (spareOf spare (spare .n)) (spareOf spare left)) h y new (λ k. batchSays ss ks k (live t k))
+    unfolding live
+    named =
+        subst (λ (p : Part). Rooted (headOf t .levels) (storeOf t) (p ∷ []) (Taken (spareOf spare (spare .n)) (spareOf spare left)) h y new (λ k. batchSays ss ks k (lookup (headOf t .levels) (storeOf t) k p))) whole-is
+        (subst (λ (n : ℕ). Rooted n (storeOf t) (here ∷ []) (Taken (spareOf spare (spare .n)) (spareOf spare left)) h y new (λ k. batchSays ss ks k (lookup n (storeOf t) k here))) at-level g)
+
+    -- the table after a change of its root
+    pub change-shaped : Shaped u
+    change-shaped = after-shaped t v u spare left h new bound (λ k. batchSays ss ks k (live t k)) y s unused less named sized head else r
+
+    -- what is live then
+    pub change-live : (k : ℕ) → live u k ≡ batchSays ss ks k (live t k)
+    change-live =
+        after-says t u ss ks s change-shaped fitI fitD
+        (after-live t v u spare left h new bound (λ k. batchSays ss ks k (live t k)) y s unused less named sized head else r)

@@ -1,0 +1,171 @@
+-- A new root over two entries: it is filled, stored in a spare block, and is then the root of a sound tree.
+-- Assumes nothing.
+use mathlib.Core.Path.{_≡_, refl, ap, sym, _∙_, subst, subst⁻¹}
+use mathlib.Core.Logic.{_⊎_, inl, inr, ⊎-elim}
+use mathlib.Core.Bool.{true, false, _||_}
+use mathlib.Core.List.{List, [], _∷_, List·Memᴰ, List·Memᴰ·not-nil, List·Memᴰ·cases-cons}
+use mathlib.Core.Option.{Option}
+use Prim.Native.Nat.{ℕ, suc, _+_, _≤_, _<_}
+use native.Mathlib.Omega.{arith}
+use lib.ListN.{length}
+use lib.Dec.{eqb, leb}
+use borrow.Author.Tests.{eq-eqb, ne-eqb, le-leb, lt-ltb}
+use Rattle.octets.specs.Lists.{every, rest, rising}
+use Rattle.octets.proofs.Tests.{all-cons, all-nil, and-both, every-make}
+use Rattle.spot.specs.Keys.{allKeys, within, rankKey}
+use Rattle.spot.proofs.Places.{within-yes}
+use Rattle.block.specs.declared.Entry.{Entry}
+use Rattle.block.specs.declared.Asked.the-variants.{Root}
+use Rattle.block.specs.Table.{blocksOf, blockOk}
+use Rattle.block.specs.Node.{Node, storeOf}
+use Rattle.block.specs.NodeRules.{lows, zeroFirst, lowsRise, childCountOk, fewest, childBlocksOk, leafBuffersEmpty, agrees, filled, lowest}
+use Rattle.tree.specs.Part.{parts}
+use Rattle.tree.specs.Lookup.{lookup}
+use Rattle.tree.specs.Reach.{reach}
+use Rattle.tree.proofs.Below.{sizes-filled, sizes-lowest}
+use Rattle.update.specs.Held.{Held}
+use Rattle.update.proofs.Change.{reaches, Sound}
+use Rattle.update.proofs.Spare.{Taken}
+use Rattle.update.proofs.Loose.{part}
+use Rattle.update.proofs.Open.{under, Open}
+use Rattle.update.proofs.Close.{Shape, raise, raised}
+use Rattle.update.proofs.Rounds.{Full}
+use Rattle.node.specs.Memory.{entriesOf, nodeIn, EntryFits, Storable, Stored}
+use Rattle.node.specs.declared.NodeValue.{NodeValue}
+use Rattle.node.proofs.Laws.{stored-else}
+use Rattle.edit.specs.Edits.{heldIn}
+use Rattle.journal.specs.Journal.{Undoable}
+use Rattle.fill.specs.Filling.{Workable, FillPost, FilledBy}
+use Rattle.fill.specs.declared.Filled.{Filled}
+use Rattle.fill.proofs.Works.{few}
+use Rattle.change.specs.Growing.{Rooted, Over}
+
+-- one of two
+either : (e first second : Entry) → List·Memᴰ e (first ∷ second ∷ []) → (e ≡ first) ⊎ (e ≡ second)
+either e first second i =
+    ⊎-elim inl (λ j. ⊎-elim inr (λ k. absurd (List·Memᴰ·not-nil k)) (List·Memᴰ·cases-cons j)) (List·Memᴰ·cases-cons i)
+
+length-lows : (es : List Entry) → length (lows es) ≡ length es
+length-lows [] = refl
+length-lows (e ∷ es) = ap suc (length-lows es)
+
+module _ {level : ℕ} {first second : Entry} {n : NodeValue} (o : Over level first second n) where
+  same : (e : Entry) → List·Memᴰ e (entriesOf (n .entries)) → List·Memᴰ e (first ∷ second ∷ [])
+  same e i = subst (λ (es : List Entry). List·Memᴰ e es) (o .entries) i
+
+  lows-are : lows (entriesOf (n .entries)) ≡ first .low ∷ second .low ∷ []
+  lows-are = ap lows (o .entries)
+
+  -- it may be filled
+  pub crown-works : {t s map : List ℕ} → Undoable t s map → level ≤ 6 → EntryFits first × EntryFits second
+      → (1 ≤ first .block) × (first .block < blocksOf (length t)) → (1 ≤ second .block) × (second .block < blocksOf (length t)) → Workable t s map n level
+  crown-works {t} u deep fits in₁ in₂ =
+      record {
+        undoable = u;
+        tidy = o .tidy;
+        entries = record { few = omega (arith, o .count); each = λ e i. ⊎-elim (λ (q : e ≡ first). subst⁻¹ EntryFits q (fits .0)) (λ (q : e ≡ second). subst⁻¹ EntryFits q (fits .1)) (either e first second (same e i)) };
+        inside = λ e i.
+            ⊎-elim (λ (q : e ≡ first). subst⁻¹ (λ (d : Entry). (1 ≤ d .block) × (d .block < blocksOf (length t))) q in₁)
+            (λ (q : e ≡ second). subst⁻¹ (λ (d : Entry). (1 ≤ d .block) × (d .block < blocksOf (length t))) q in₂)
+            (either e first second (same e i));
+        level = o .level;
+        deep = deep;
+        points = omega (arith, o .points);
+        inserts = omega (arith, o .inserts);
+        deletes = omega (arith, o .deletes);
+      }
+
+  module _ {t t₁ s₁ map₁ : List ℕ} {r : Filled} (p : FillPost t t₁ s₁ map₁ level n r) (zero : first .low ≡ 0) where
+    first-zero : zeroFirst (lows (entriesOf (n .entries))) ≡ true
+    first-zero = ap zeroFirst lows-are ∙ eq-eqb (first .low) 0 zero
+
+    -- and then stored
+    pub crown-stores : Storable (r .node)
+    crown-stores =
+        record {
+          level = let z = p .works .level in let w = p .works .deep in omega arith;
+          entries = p .works .entries;
+          first = ap zeroFirst (p .sameLows) ∙ first-zero;
+          points = p .works .points;
+          inserts = omega (arith, p .inserts, o .inserts);
+          deletes = omega (arith, p .deletes, o .deletes);
+        }
+
+    module _ (ok : r .ok ≡ true) (inner : 1 ≤ level) (t₂ : List ℕ) (b : ℕ) (st : Stored t₁ t₂ b (r .node)) (f : ℕ → Option ℕ) (low : 0 < second .low) (high : second .low < allKeys)
+        (kids : Sound level (storeOf t) (parts 0 allKeys (first ∷ second ∷ [])))
+        (finds : (k : ℕ) → within 0 allKeys k ≡ true → under level (storeOf t) 0 allKeys (first ∷ second ∷ []) k ≡ f k)
+        (off : List·Memᴰ b (reaches level (storeOf t) (parts 0 allKeys (first ∷ second ∷ []))) → ⊥) where
+      abbrev m : Node
+      m = nodeIn (blocksOf (length t₁)) (r .node)
+
+      abbrev es : List Entry
+      es = entriesOf (r .node .entries)
+
+      abbrev above : ℕ
+      above = suc (rankKey (first .top) + rankKey (second .top))
+
+      opened : Open level (storeOf t) 0 allKeys above (entriesOf (n .entries)) (heldIn n) f
+      opened =
+          subst⁻¹ (λ (ds : List Entry). Open level (storeOf t) 0 allKeys above ds (heldIn n) f) (o .entries)
+          (subst⁻¹ (λ (h : Held). Open level (storeOf t) 0 allKeys above (first ∷ second ∷ []) h f) (o .holds)
+          (raise level (storeOf t) 0 allKeys above first (second ∷ []) f kids (omega arith, (omega arith, tt)) finds
+          (λ d i.
+          ⊎-elim (λ (q : d ≡ first). let z : rankKey (d .top) ≡ rankKey (first .top) = ap (λ (x : Entry). rankKey (x .top)) q in omega arith)
+          (λ (q : d ≡ second). let z : rankKey (d .top) ≡ rankKey (second .top) = ap (λ (x : Entry). rankKey (x .top)) q in omega arith)
+          (either d first second i))))
+
+      filled-is : FilledBy (storeOf t) (storeOf t₁) level n (r .node) 0 allKeys f
+      filled-is = p .done ok 0 allKeys above f (omega arith) first-zero opened
+
+      lows-then : lows es ≡ first .low ∷ second .low ∷ []
+      lows-then = p .sameLows ∙ lows-are
+
+      two : length es ≡ 2
+      two = sym (length-lows es) ∙ ap length lows-then
+
+      deep : eqb (r .node .level) 0 ≡ false
+      deep = ne-eqb (r .node .level) 0 (λ e. let z = p .works .level in omega arith)
+
+      sizes : Full es (heldIn (r .node)) → (filled m || lowest m) ≡ true
+      sizes (inl h) =
+          let np = few (r .node .points .n) (r .node .points .spots) in
+          let ni = few (r .node .inserts .n) (r .node .inserts .spots) in
+          let nd = few (r .node .deletes .n) (r .node .deletes .keys) in
+          sizes-filled m h (omega (arith, np, p .works .points)) (omega (arith, ni, p .inserts, o .inserts)) (omega (arith, nd, p .deletes, o .deletes))
+      sizes (inr h) = sizes-lowest m (h .0) (h .1) (h .2) (h .3)
+
+      shape : Shape level Root 0 allKeys m
+      unfolding childCountOk fewest lowsRise leafBuffersEmpty agrees childBlocksOk blockOk
+      shape =
+          record {
+            laid = refl;
+            level = eq-eqb (r .node .level) level (p .works .level);
+            count = rw deep (all-cons _ _ (le-leb 2 (length es) (omega (arith, two))) (all-cons _ _ (le-leb (length es) 8 (omega (arith, two))) all-nil));
+            lowsUp = all-cons _ _ (ap zeroFirst (p .sameLows) ∙ first-zero) (all-cons _ _ (ap (λ (l : List ℕ). rising (rest l)) lows-then ∙ and-both (leb 0 (second .low)) true (le-leb 0 (second .low) (omega arith)) refl) all-nil);
+            lowsIn = ap (λ (l : List ℕ). every (within 0 allKeys) (rest l)) lows-then ∙ and-both (within 0 allKeys (second .low)) true (within-yes 0 allKeys (second .low) (omega arith) high) refl;
+            sizes = sizes (filled-is .full);
+            leaf = rw deep;
+            agree = refl;
+            low = omega arith;
+            blocks = every-make _ es (λ e i. let z = p .works .inside e i in all-cons _ _ (le-leb 1 (e .block) (z .0)) (all-cons _ _ (lt-ltb (e .block) (blocksOf (length t₁)) (z .1)) all-nil));
+          }
+
+      -- the tree under it
+      pub crowned : Rooted level (storeOf t) (parts 0 allKeys (first ∷ second ∷ [])) (λ z. z ≡ b) (suc level) (storeOf t₂) b f
+      crowned =
+          subst (λ (ds : List Entry). Rooted level (storeOf t) (parts 0 allKeys ds) (λ z. z ≡ b) (suc level) (storeOf t₂) b f) (o .entries)
+          (record { sound = u .0; found = u .1; reached = u .2; still = u .3 })
+        where
+          off-n : List·Memᴰ b (reaches level (storeOf t) (parts 0 allKeys (entriesOf (n .entries)))) → ⊥
+          off-n = subst⁻¹ (λ (ds : List Entry). List·Memᴰ b (reaches level (storeOf t) (parts 0 allKeys ds)) → ⊥) (o .entries) off
+
+          u : Sound (suc level) (storeOf t₂) (part b Root 0 allKeys ∷ []) × ((k : ℕ) → within 0 allKeys k ≡ true → lookup (suc level) (storeOf t₂) k (part b Root 0 allKeys) ≡ f k)
+              × ((z : ℕ) → List·Memᴰ z (reach (suc level) (storeOf t₂) (part b Root 0 allKeys)) → List·Memᴰ z (reaches level (storeOf t) (parts 0 allKeys (entriesOf (n .entries)))) ⊎ (z ≡ b))
+              × ((z : ℕ) → List·Memᴰ z (reaches level (storeOf t) (parts 0 allKeys (entriesOf (n .entries)))) ⊎ (z ≡ b) → List·Memᴰ z (reach (suc level) (storeOf t₂) (part b Root 0 allKeys)))
+              × ((z : ℕ) → (List·Memᴰ z (reaches level (storeOf t) (parts 0 allKeys (entriesOf (n .entries)))) → ⊥) → (z ≡ b → ⊥) → storeOf t₂ z ≡ storeOf t z)
+          u =
+              raised level (λ z. z ≡ b) (storeOf t) (parts 0 allKeys (entriesOf (n .entries))) (storeOf t₁) (storeOf t₂) b Root 0 allKeys (filled-is .rank) m f
+              (under level (storeOf t₁) 0 allKeys es) (Taken [] [])
+              (λ z (e : z ≡ b) i. off-n (subst (λ (k : ℕ). List·Memᴰ k (reaches level (storeOf t) (parts 0 allKeys (entriesOf (n .entries))))) e i))
+              (λ z i. absurd (List·Memᴰ·not-nil (i .0))) (λ z e. inr e) refl (λ i. List·Memᴰ·not-nil (i .0))
+              (filled-is .loop .going .changed) (filled-is .loop .going .node) shape (st .here) (stored-else t₁ t₂ b (r .node) st)

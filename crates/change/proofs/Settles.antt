@@ -1,0 +1,198 @@
+-- The root settled, as one or with a new root over two: what is then known of the tree.
+-- Assumes nothing.
+use mathlib.Core.Path.{_≡_, refl, ap, sym, _∙_, subst, subst⁻¹}
+use mathlib.Core.Logic.{_⊎_, inl, inr, ⊎-elim}
+use mathlib.Core.Bool.{Bool, true, false, cond, _||_, false≢true, true≢false}
+use mathlib.Core.List.{List, [], _∷_, _++_, List·Memᴰ, List·Memᴰ·head, Memᴰ·append-right}
+use mathlib.Core.Option.{Option}
+use Prim.Native.Nat.{ℕ, suc, _+_, _-_, _≤_, _<_}
+use native.Mathlib.Numerals.{add-one}
+use native.Mathlib.Omega.{arith}
+use lib.ListN.{length}
+use lib.Dec.{eqb, ltb}
+use borrow.Author.Tests.{eqb-false, ltb-false}
+use Rattle.octets.specs.Lists.{distinct}
+use Rattle.octets.proofs.Sets.{Apart, in-or-not}
+use Rattle.spot.specs.Keys.{allKeys, within}
+use Rattle.spot.specs.declared.Spot.{Spot}
+use Rattle.block.specs.declared.Asked.the-variants.{Root, Child}
+use Rattle.block.specs.Table.{blocksOf}
+use Rattle.block.specs.Node.{Store, storeOf}
+use Rattle.tree.specs.Part.{Part, parts}
+use Rattle.tree.specs.Lookup.{lookup}
+use Rattle.update.proofs.Change.{reaches, Sound, Changed}
+use Rattle.update.proofs.Spare.{Taken}
+use Rattle.update.proofs.Loose.{part}
+use Rattle.update.proofs.Open.{under}
+use Rattle.node.specs.Memory.{Stored}
+use Rattle.node.specs.declared.NodeValue.{NodeValue}
+use Rattle.journal.specs.Journal.{Kept}
+use Rattle.journal.proofs.Kept.{undoable-kept}
+use Rattle.fill.specs.Filling.{FillPost}
+use Rattle.fill.specs.declared.Filled.{Filled}
+use Rattle.block.specs.declared.Entry.{Entry}
+use Rattle.spare.specs.declared.Spare.{Spare}
+use Rattle.spare.specs.Spares.{spareOf, takenOf, SpareFits}
+use Rattle.spare.proofs.Taking.{spare-less, taken-is, last-new, spare-step}
+use Rattle.batch.specs.Batches.{batchSays}
+use Rattle.settle.specs.Settling.{Settleable, SettlePost, SettledTo}
+use Rattle.settle.specs.declared.Settled.{Settled}
+use Rattle.change.specs.declared.Grown.{Grown}
+use Rattle.change.specs.Growing.{Rooted, Over, Crownable, CrownPost, GrowPost}
+use Rattle.change.proofs.Trees.{rooted-one, rooted-after}
+use Rattle.change.proofs.Crown.{crowned}
+
+-- spare blocks of a table are spare in another of its length
+pub spares-kept : (t u : List ℕ) (s : Spare) → length u ≡ length t → SpareFits t s → SpareFits u s
+spares-kept t u s e f =
+    record { few = f .few; inside = λ b i. let z = f .inside b i in (z .0, subst⁻¹ (λ (n : ℕ). b < blocksOf n) e (z .1)); once = f .once }
+
+-- the last of the blocks that are left is one of the table
+pub last-inside : (t : List ℕ) (s : Spare) (left b : ℕ) → SpareFits t s → left ≤ s .n → spareOf s left ≡ spareOf s (left - 1) ++ (b ∷ []) → (1 ≤ b) × (b < blocksOf (length t))
+last-inside t s left b f h e =
+    f .inside b (spare-less s left (s .n) h b (subst⁻¹ (λ (bs : List ℕ). List·Memᴰ b bs) e (Memᴰ·append-right (spareOf s (left - 1)) (List·Memᴰ·head refl))))
+
+-- there is a spare block, and a level more is not too many
+pub room-above : (left level : ℕ) → eqb left 0 || ltb 6 level ≡ false → (0 < left) × (level ≤ 6)
+room-above left level h = go (eqb left 0) refl (ltb 6 level) refl h
+  where
+    go : (a : Bool) → eqb left 0 ≡ a → (b : Bool) → ltb 6 level ≡ b → a || b ≡ false → (0 < left) × (level ≤ 6)
+    go true x b y z = absurd (true≢false z)
+    go false x true y z = absurd (true≢false z)
+    go false x false y z = (let n = eqb-false left 0 x in omega (arith, n), ltb-false 6 level y)
+
+-- ---- a new root
+
+-- it failed
+pub crown-fails : (t t′ : List ℕ) (first second : Entry) (level : ℕ) (spare : Spare) (left : ℕ) (r : Grown) → r .ok ≡ false → CrownPost t t′ first second level spare left r
+crown-fails t t′ first second level spare left r no-good =
+    record { some = λ e. absurd (off e); fewer = λ e. absurd (off e); levels = λ e. absurd (off e); taken = λ e. absurd (off e); done = λ e. absurd (off e) }
+  where
+    off : r .ok ≡ true → ⊥
+    off e = false≢true (sym no-good ∙ e)
+
+-- it stands
+pub crown-done : {t t₁ s₁ map₁ : List ℕ} {first second : Entry} {level : ℕ} {n : NodeValue} {r : Filled} (t₂ : List ℕ) (spare : Spare) (left b : ℕ)
+    → Over level first second n → FillPost t t₁ s₁ map₁ level n r → r .ok ≡ true → first .low ≡ 0 → 1 ≤ level → level ≤ 6 → 0 < left
+    → spareOf spare left ≡ spareOf spare (left - 1) ++ (b ∷ []) → Stored t₁ t₂ b (r .node)
+    → CrownPost t t₂ first second level spare left (record { ok = true; levels = level + 1; root = b; left = left - 1 })
+crown-done {level = level} t₂ spare left b o p ok zero inner deep some last st =
+    record {
+      some = λ e. some;
+      fewer = λ e. refl;
+      levels = λ e. (add-one level, deep);
+      taken = λ e. last;
+      done = λ e f low high kids finds off. crowned o p zero ok inner t₂ b st f low high kids finds off;
+    }
+
+-- ---- the tree
+
+-- settling failed, or the new root did
+pub grow-fails : (t t′ : List ℕ) (root level : ℕ) (ss : List Spot) (ks : List ℕ) (spare : Spare) (r : Grown) → r .ok ≡ false → GrowPost t t′ root level ss ks spare r
+grow-fails t t′ root level ss ks spare r no-good =
+    record { fewer = λ e. absurd (off e); levels = λ e. absurd (off e); top = λ e. absurd (off e); done = λ e. absurd (off e) }
+  where
+    off : r .ok ≡ true → ⊥
+    off e = false≢true (sym no-good ∙ e)
+
+module _ {t w map t₁ w₁ map₁ : List ℕ} {root level ni nd : ℕ} {ss : List Spot} {ks : List ℕ} {spare : Spare} {r : Settled} (s : Settleable t w map root level ni nd spare (spare .n))
+    (kept : Kept t w map t₁ w₁ map₁) (p : SettlePost t t₁ level root Root ss ks spare (spare .n) r) (ok : r .ok ≡ true) where
+  abbrev x : Store
+  x = storeOf t
+
+  abbrev whole-part : Part
+  whole-part = part root Root 0 allKeys
+
+  abbrev says : ℕ → Option ℕ
+  says k = batchSays ss ks k (lookup (suc level) x k whole-part)
+
+  all-of : (k : ℕ) → within 0 allKeys k ≡ true → within 0 allKeys k || false ≡ true
+  all-of k i = ap (λ (u : Bool). u || false) i
+
+  -- one part
+  pub grow-one : r .two ≡ false → GrowPost t t₁ root level ss ks spare (record { ok = true; levels = level + 1; root = root; left = r .left })
+  grow-one one =
+      record {
+        fewer = λ e. p .fewer;
+        levels = λ e. (omega arith, omega (arith, s .deep));
+        top = λ e. inl refl;
+        done = λ e hi hd sound apart.
+            let q = p .done ok 0 allKeys (omega arith) (omega arith) (omega arith) hi hd sound apart in
+            let c : Changed (suc level) (Taken (spareOf spare (spare .n)) (spareOf spare (r .left))) x (whole-part ∷ []) (storeOf t₁) (whole-part ∷ []) says =
+            subst (λ (two : Bool). Changed (suc level) (Taken (spareOf spare (spare .n)) (spareOf spare (r .left))) x (whole-part ∷ []) (storeOf t₁) (cond two (part root (Child (r .first)) 0 (r .second .low) ∷ part (r .second .block) (Child (r .second)) (r .second .low) allKeys ∷ []) (whole-part ∷ [])) says) one (q .changed)
+            in
+            subst⁻¹ (λ (h : ℕ). Rooted (suc level) x (whole-part ∷ []) (Taken (spareOf spare (spare .n)) (spareOf spare (r .left))) h (storeOf t₁) root says) (add-one level)
+            (rooted-one (suc level) (Taken (spareOf spare (spare .n)) (spareOf spare (r .left))) x root (storeOf t₁) says c);
+      }
+
+  module _ (two : r .two ≡ true) where
+    -- two parts: a new root may be put over them
+    pub grow-crowns : Crownable t₁ w₁ map₁ (r .first) (r .second) (level + 1) spare (r .left)
+    grow-crowns =
+        record {
+          undoable = undoable-kept kept (s .undoable);
+          inner = omega arith;
+          fits = (p .fits ok, p .second ok two .2);
+          inside = subst⁻¹ (λ (b : ℕ). (1 ≤ b) × (b < blocksOf (length t₁))) (p .block ok) (s .first, subst⁻¹ (λ (n : ℕ). root < blocksOf n) (kept .table) (s .inside));
+          insideToo = (p .second ok two .0, subst⁻¹ (λ (n : ℕ). r .second .block < blocksOf n) (kept .table) (p .second ok two .1));
+          zero = p .low ok;
+          spares = spares-kept t t₁ spare (kept .table) (s .spares);
+          less = p .fewer;
+        }
+
+    -- and with it the tree is whole
+    pub grow-two : {t₂ : List ℕ} {g : Grown} → CrownPost t₁ t₂ (r .first) (r .second) (level + 1) spare (r .left) g → GrowPost t t₂ root level ss ks spare g
+    grow-two {t₂} {g} c =
+        record {
+          fewer = λ e. let z = c .fewer e in let y = p .fewer in omega arith;
+          levels = λ e. let z = c .levels e in (omega (arith, z .0), omega (arith, z .0, z .1));
+          top = λ e. inr (subst⁻¹ (λ (n : ℕ). List·Memᴰ (g .root) (takenOf spare n)) (c .fewer e) (taken-is spare (r .left - 1) (lower e) once (g .root) (all-spare e (new e .0)) (new e .1)));
+          done = λ e hi hd sound apart. grown e (p .done ok 0 allKeys (omega arith) (omega arith) (omega arith) hi hd sound apart) apart;
+        }
+      where
+        once : distinct (spareOf spare (spare .n)) ≡ true
+        once = s .spares .once
+
+        lower : g .ok ≡ true → r .left - 1 ≤ spare .n
+        lower e = let y = p .fewer in omega arith
+
+        -- the new root's block was spare
+        new : (e : g .ok ≡ true) → List·Memᴰ (g .root) (spareOf spare (r .left)) × (List·Memᴰ (g .root) (spareOf spare (r .left - 1)) → ⊥)
+        new e = last-new spare (r .left) (g .root) (c .some e) (p .fewer) once (c .taken e)
+
+        all-spare : g .ok ≡ true → List·Memᴰ (g .root) (spareOf spare (r .left)) → List·Memᴰ (g .root) (spareOf spare (spare .n))
+        all-spare e i = spare-less spare (r .left) (spare .n) (p .fewer) (g .root) i
+
+        grown : g .ok ≡ true → SettledTo x (storeOf t₁) level root Root 0 allKeys ss ks spare (spare .n) r → Apart (spareOf spare (spare .n)) (reaches (suc level) x (whole-part ∷ []))
+            → Rooted (suc level) x (whole-part ∷ []) (Taken (spareOf spare (spare .n)) (spareOf spare (g .left))) (g .levels) (storeOf t₂) (g .root) says
+        grown e q apart =
+            subst⁻¹ (λ (n : ℕ). Rooted (suc level) x (whole-part ∷ []) (Taken (spareOf spare (spare .n)) (spareOf spare n)) (g .levels) (storeOf t₂) (g .root) says) (c .fewer e)
+            (subst⁻¹ (λ (h : ℕ). Rooted (suc level) x (whole-part ∷ []) (Taken (spareOf spare (spare .n)) (spareOf spare (r .left - 1))) h (storeOf t₂) (g .root) says) (c .levels e .0 ∙ ap suc (add-one level))
+            (rooted-after (suc level) A (λ z. z ≡ g .root) (Taken (spareOf spare (spare .n)) (spareOf spare (r .left - 1))) x (whole-part ∷ []) (storeOf t₁) qs (suc (suc level)) (storeOf t₂) (g .root) says says
+            (λ z i. (i .0, λ j. i .1 (spare-less spare (r .left - 1) (r .left) (omega arith) z j)))
+            (λ z (d : z ≡ g .root). subst⁻¹ (λ (k : ℕ). Taken (spareOf spare (spare .n)) (spareOf spare (r .left - 1)) k) d (all-spare e (new e .0), new e .1))
+            exact changed over))
+          where
+            A : ℕ → Type 0
+            A = Taken (spareOf spare (spare .n)) (spareOf spare (r .left))
+
+            qs : List Part
+            qs = parts 0 allKeys (r .first ∷ r .second ∷ [])
+
+            changed : Changed (suc level) (Taken (spareOf spare (spare .n)) (spareOf spare (r .left))) x (whole-part ∷ []) (storeOf t₁) (parts 0 allKeys (r .first ∷ r .second ∷ [])) says
+            changed =
+                subst⁻¹ (λ (b : ℕ). Changed (suc level) (Taken (spareOf spare (spare .n)) (spareOf spare (r .left))) x (whole-part ∷ []) (storeOf t₁) (part b (Child (r .first)) 0 (r .second .low) ∷ part (r .second .block) (Child (r .second)) (r .second .low) allKeys ∷ []) says) (p .block ok)
+                (subst (λ (u : Bool). Changed (suc level) (Taken (spareOf spare (spare .n)) (spareOf spare (r .left))) x (whole-part ∷ []) (storeOf t₁) (cond u (part root (Child (r .first)) 0 (r .second .low) ∷ part (r .second .block) (Child (r .second)) (r .second .low) allKeys ∷ []) (whole-part ∷ [])) says) two (q .changed))
+
+            exact : (z : ℕ) → Taken (spareOf spare (spare .n)) (spareOf spare (r .left - 1)) z → Taken (spareOf spare (spare .n)) (spareOf spare (r .left)) z ⊎ (z ≡ g .root)
+            exact z i =
+                ⊎-elim (λ j. ⊎-elim (λ k. absurd (i .1 k)) inr (spare-step spare (r .left) (g .root) (c .some e) (p .fewer) once (c .taken e) z j)) (λ n. inl (i .0, n)) (in-or-not z (spareOf spare (r .left)))
+
+            over : Rooted (suc level) (storeOf t₁) (parts 0 allKeys (r .first ∷ r .second ∷ [])) (λ z. z ≡ g .root) (suc (suc level)) (storeOf t₂) (g .root) says
+            over =
+                subst (λ (h : ℕ). Rooted h (storeOf t₁) (parts 0 allKeys (r .first ∷ r .second ∷ [])) (λ z. z ≡ g .root) (suc h) (storeOf t₂) (g .root) says) (add-one level)
+                (c .done e says (q .apart two .0) (q .apart two .1)
+                (subst⁻¹ (λ (h : ℕ). Sound h (storeOf t₁) (parts 0 allKeys (r .first ∷ r .second ∷ []))) (add-one level) (changed .sound))
+                (subst⁻¹ (λ (h : ℕ). (k : ℕ) → within 0 allKeys k ≡ true → under h (storeOf t₁) 0 allKeys (r .first ∷ r .second ∷ []) k ≡ says k) (add-one level) (λ k i. changed .found k (all-of k i)))
+                (subst⁻¹ (λ (h : ℕ). List·Memᴰ (g .root) (reaches h (storeOf t₁) (parts 0 allKeys (r .first ∷ r .second ∷ []))) → ⊥) (add-one level)
+                (λ i. ⊎-elim (λ j. apart (g .root) (all-spare e (new e .0)) j) (λ n. n .1 (new e .0)) (changed .reached (g .root) i))))

@@ -1,0 +1,96 @@
+-- `change::heavy` meets its contract.
+-- Assumes nothing.
+use mathlib.Core.Bool.{true}
+use mathlib.Core.Path.{_≡_}
+use native.Mathlib.Omega.{arith}
+use borrow.Author.Tests.{not-false}
+use borrow.Author.Needs.{needs}
+use Rattle.octets.specs.Lists.{every}
+use Rattle.node.proofs.Fits.{all-fit, keys-fit}
+use Rattle.node.specs.Bytes.{spotFits, keyFits}
+use Rattle.journal.proofs.Kept.{kept-trans, undoable-kept}
+use Rattle.change.proofs.Deep.{nine-blocks, heavy-starts, heavy-settles, heavy-undone, heavy-finishes, heavy-done}
+use Rattle.change.proofs.Roomy.{spots-within, keys-within}
+use Rattle.change.proofs.heavy.Statement.{statement}
+use Rattle.change.proofs.heavy.Tie as tie
+
+fit-spots : (c : tie.Start) → every spotFits (c .args .inserts .spots) ≡ true
+fit-spots c = search (needs, all-fit)
+
+fit-keys : (c : tie.Start) → every keyFits (c .args .deletes .keys) ≡ true
+fit-keys c = keys-fit (c .args .deletes .keys) (λ i. search needs)
+
+slice-aggregate-save : tie.Need-slice-aggregate-save
+slice-aggregate-save c = search needs
+
+save-requires : tie.Need-save-requires
+save-requires c κs = (heavy-starts (c .before .before .before .before .before .pre), let z = nine-blocks (c .before .before .before .before .before .args .t .now) (c .before .before .before .before .before .pre .start .header) in omega (arith, z))
+
+spare-blocks-requires : tie.Need-spare-blocks-requires
+spare-blocks-requires c κs = search needs
+
+slice-aggregate-grow : tie.Need-slice-aggregate-grow
+slice-aggregate-grow c = search needs
+
+grow-requires : tie.Need-grow-requires
+grow-requires c κs =
+    let s = c .before .before .before .before .before .before .before .before .save .ensures in
+    heavy-settles (c .before .before .before .before .before .before .before .before .before .before .before .before .before .before .pre) (s .0) (s .1) (c .before .before .before .spare-blocks .ensures)
+
+slice-aggregate-undo : tie.Need-slice-aggregate-undo
+slice-aggregate-undo c = search needs
+
+undo-requires : tie.Need-undo-requires
+undo-requires c κs =
+    let s = c .before .before .before .before .before .before .before .before .before .before .before .before .before .before .before .before .before .before .before .save .ensures in
+    undoable-kept (kept-trans (s .0) (c .before .before .before .before .before .before .before .before .before .before .grow .ensures .0)) (heavy-starts (c .before .before .before .before .before .before .before .before .before .before .before .before .before .before .before .before .before .before .before .before .before .before .before .before .before .pre))
+
+same-length : tie.Need-same-length
+same-length c = search needs
+
+same-length-2 : tie.Need-same-length-2
+same-length-2 c = search needs
+
+returns : tie.Need-returns
+returns c =
+    let s = c .before .before .before .before .before .before .before .before .before .before .before .before .before .before .before .before .before .before .before .before .before .before .save .ensures in
+    heavy-undone (c .before .before .before .before .before .before .before .before .before .before .before .before .before .before .before .before .before .before .before .before .before .before .before .before .before .before .before .before .pre) (s .0) (s .1) (c .before .before .before .before .before .before .before .before .before .before .before .before .before .before .before .before .before .spare-blocks .ensures) (c .before .before .before .before .before .before .before .before .before .before .before .before .before .grow .ensures .0) _ _ (c .before .before .undo .ensures)
+
+finish-requires : tie.Need-finish-requires
+finish-requires c κs =
+    let s = c .before .before .before .before .before .before .before .before .before .before .before .before .before .before .before .before .before .before .save .ensures in
+    let g = c .before .before .before .before .before .before .before .before .before .grow .ensures in
+    heavy-finishes (c .before .before .before .before .before .before .before .before .before .before .before .before .before .before .before .before .before .before .before .before .before .before .before .before .pre) (s .0) (s .1) (c .before .before .before .before .before .before .before .before .before .before .before .before .before .spare-blocks .ensures) (g .0) (g .1) (not-false _ (c .before .before .if1 .left))
+
+same-length-3 : tie.Need-same-length-3
+same-length-3 c = search needs
+
+same-length-4 : tie.Need-same-length-4
+same-length-4 c = search needs
+
+returns-2 : tie.Need-returns-2
+returns-2 c =
+    let a = c .before .before .before .before .before .before .before .before .before .before .before .before .before .before .before .before .before .before .before .before .before .before .before .before .before .before .before .args in
+    let s = c .before .before .before .before .before .before .before .before .before .before .before .before .before .before .before .before .before .before .before .before .before .save .ensures in
+    let g = c .before .before .before .before .before .before .before .before .before .before .before .before .grow .ensures in
+    heavy-done (c .before .before .before .before .before .before .before .before .before .before .before .before .before .before .before .before .before .before .before .before .before .before .before .before .before .before .before .pre) (s .0) (s .1) (c .before .before .before .before .before .before .before .before .before .before .before .before .before .before .before .before .spare-blocks .ensures) (g .0) (g .1) (not-false _ (c .before .before .before .before .before .if1 .left)) (c .before .before .finish .ensures)
+    (spots-within (a .inserts .n) (a .inserts .spots) (fit-spots (c .before .before .before .before .before .before .before .before .before .before .before .before .before .before .before .before .before .before .before .before .before .before .before .before .before .before .before))) (keys-within (a .deletes .n) (a .deletes .keys) (fit-keys (c .before .before .before .before .before .before .before .before .before .before .before .before .before .before .before .before .before .before .before .before .before .before .before .before .before .before .before)))
+
+pub heavy-spec : {M : Type 1} → statement M
+heavy-spec =
+    tie.close
+    (tie.spec
+    slice-aggregate-save
+    save-requires
+    spare-blocks-requires
+    slice-aggregate-grow
+    grow-requires
+    slice-aggregate-undo
+    undo-requires
+    same-length
+    same-length-2
+    returns
+    finish-requires
+    same-length-3
+    same-length-4
+    returns-2)

@@ -1,0 +1,110 @@
+-- `change::new_root` meets its contract.
+-- Assumes nothing.
+use mathlib.Core.Path.{subst⁻¹}
+use Prim.Native.Nat.{ℕ, _<_}
+use native.Mathlib.Omega.{arith}
+use borrow.Author.Tests.{not-false}
+use borrow.Author.Needs.{needs}
+use Rattle.block.specs.Table.{blocksOf}
+use Rattle.journal.proofs.Kept.{kept-refl, kept-trans, undoable-kept}
+use Rattle.change.proofs.Settles.{crown-fails, crown-done, last-inside, room-above}
+use Rattle.change.proofs.Crown.{crown-works, crown-stores}
+use Rattle.change.proofs.new_root.Statement.{statement}
+use Rattle.change.proofs.new_root.Tie as tie
+
+not-grown-requires : tie.Need-not-grown-requires
+not-grown-requires c κs = search needs
+
+returns : tie.Need-returns
+returns c = (kept-refl, crown-fails _ _ _ _ _ _ _ _ (c .not-grown .ensures))
+
+last-of-requires : tie.Need-last-of-requires
+last-of-requires c κs =
+    let a = c .before .before .before .before .args in
+    let p = c .before .before .before .before .pre in
+    let z = room-above (a .left) (a .level) (c .if1 .left) in
+    (z .0, omega (arith, p .less, p .spares .few))
+
+over-requires : tie.Need-over-requires
+over-requires c κs = search needs
+
+fill-requires : tie.Need-fill-requires
+fill-requires c κs =
+    let a = c .before .before .before .before .before .before .before .before .before .args in
+    let p = c .before .before .before .before .before .before .before .before .before .pre in
+    crown-works (c .before .before .before .over .ensures) (p .undoable) (room-above (a .left) (a .level) (c .before .before .before .before .before .if1 .left) .1) (p .fits) (p .inside) (p .insideToo)
+
+not-grown-requires-2 : tie.Need-not-grown-requires-2
+not-grown-requires-2 c κs = search needs
+
+same-length : tie.Need-same-length
+same-length c = search needs
+
+same-length-2 : tie.Need-same-length-2
+same-length-2 c = search needs
+
+same-length-3 : tie.Need-same-length-3
+same-length-3 c = search needs
+
+returns-2 : tie.Need-returns-2
+returns-2 c = (c .before .before .before .before .before .before .before .before .before .fill .ensures .0, crown-fails _ _ _ _ _ _ _ _ (c .not-grown2 .ensures))
+
+write-node-requires : tie.Need-write-node-requires
+write-node-requires c κs =
+    let a = c .before .before .before .before .before .before .before .before .before .before .before .before .before .before .before .before .before .before .before .before .before .before .args in
+    let p = c .before .before .before .before .before .before .before .before .before .before .before .before .before .before .before .before .before .before .before .before .before .before .pre in
+    let f = c .before .before .before .before .before .before .before .before .before .before .before .before .fill .ensures in
+    let i = last-inside (a .t .now) (a .spare) (a .left) (c .before .before .before .before .before .before .before .before .before .before .before .before .before .before .before .before .before .last-of .result) (p .spares) (p .less) (c .before .before .before .before .before .before .before .before .before .before .before .before .before .before .before .before .before .last-of .ensures) in
+    (undoable-kept (f .0) (p .undoable), subst⁻¹ (λ (n : ℕ). c .before .before .before .before .before .before .before .before .before .before .before .before .before .before .before .before .before .last-of .result < blocksOf n) (f .0 .table) (i .1), crown-stores (c .before .before .before .before .before .before .before .before .before .before .before .before .before .before .before .before .over .ensures) (f .1) (p .zero))
+
+add-t29 : tie.Need-add-t29
+add-t29 c =
+    let a = c .before .before .before .before .before .before .before .before .before .before .before .before .before .before .before .before .before .before .before .before .before .before .before .before .before .before .before .before .before .args in
+    let z = room-above (a .left) (a .level) (c .before .before .before .before .before .before .before .before .before .before .before .before .before .before .before .before .before .before .before .before .before .before .before .before .before .if1 .left) in
+    omega (arith, z .1)
+
+sub-t30 : tie.Need-sub-t30
+sub-t30 c =
+    let a = c .before .before .before .before .before .before .before .before .before .before .before .before .before .before .before .before .before .before .before .before .before .before .before .before .before .before .before .before .before .args in
+    let z = room-above (a .left) (a .level) (c .before .before .before .before .before .before .before .before .before .before .before .before .before .before .before .before .before .before .before .before .before .before .before .before .before .if1 .left) in
+    omega (arith, z .0)
+
+same-length-4 : tie.Need-same-length-4
+same-length-4 c = search needs
+
+same-length-5 : tie.Need-same-length-5
+same-length-5 c = search needs
+
+same-length-6 : tie.Need-same-length-6
+same-length-6 c = search needs
+
+returns-3 : tie.Need-returns-3
+returns-3 c =
+    let a = c .before .before .before .before .before .before .before .before .before .before .before .before .before .before .before .before .before .before .before .before .before .before .before .before .before .before .before .before .before .args in
+    let p = c .before .before .before .before .before .before .before .before .before .before .before .before .before .before .before .before .before .before .before .before .before .before .before .before .before .before .before .before .before .pre in
+    let f = c .before .before .before .before .before .before .before .before .before .before .before .before .before .before .before .before .before .before .before .fill .ensures in
+    let w = c .before .before .before .before .before .before .write-node .ensures in
+    let z = room-above (a .left) (a .level) (c .before .before .before .before .before .before .before .before .before .before .before .before .before .before .before .before .before .before .before .before .before .before .before .before .before .if1 .left) in
+    (kept-trans (f .0) (w .0), crown-done _ (a .spare) (a .left) (c .before .before .before .before .before .before .before .before .before .before .before .before .before .before .before .before .before .before .before .before .before .before .before .before .last-of .result) (c .before .before .before .before .before .before .before .before .before .before .before .before .before .before .before .before .before .before .before .before .before .before .before .over .ensures) (f .1) (not-false _ (c .before .before .before .before .before .before .before .before .before .before .before .if2 .left)) (p .zero) (p .inner) (z .1) (z .0) (c .before .before .before .before .before .before .before .before .before .before .before .before .before .before .before .before .before .before .before .before .before .before .before .before .last-of .ensures) (w .1))
+
+pub new-root-spec : {M : Type 1} → statement M
+new-root-spec =
+    tie.close
+    (tie.spec
+    not-grown-requires
+    returns
+    last-of-requires
+    over-requires
+    fill-requires
+    not-grown-requires-2
+    same-length
+    same-length-2
+    same-length-3
+    returns-2
+    write-node-requires
+    add-t29
+    sub-t30
+    same-length-4
+    same-length-5
+    same-length-6
+    returns-3)

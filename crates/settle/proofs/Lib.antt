@@ -1,0 +1,9 @@
+pub mod Stores
+pub mod Halves
+pub mod Lows
+pub mod Storing
+pub mod Splitting
+pub mod Pushing
+pub mod Refining
+pub mod Readying
+pub mod Ways

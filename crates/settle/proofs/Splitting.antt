@@ -1,0 +1,352 @@
+-- A node in memory is cut in two, each half is worked on by itself, and both are stored.
+-- Assumes nothing.
+use mathlib.Core.Path.{_≡_, refl, ap, sym, _∙_, subst, subst⁻¹}
+use mathlib.Core.Logic.{_⊎_, inl, inr, ⊎-elim}
+use mathlib.Core.Bool.{Bool, true, cond}
+use mathlib.Core.List.{List, [], _∷_, _++_, List·Memᴰ, List·Memᴰ·head, List·Memᴰ·tail, Memᴰ·append-left}
+use mathlib.Core.Option.{Option}
+use Prim.Native.Nat.{ℕ, zero, suc, _-_, _/_, _≤_, _<_}
+use native.Mathlib.Omega.{arith}
+use lib.ListN.{length, take, drop}
+use lib.Dec.{ltb, leb}
+use Rattle.octets.proofs.Sets.{Apart}
+use Rattle.spot.proofs.Places.{within-from, within-to}
+use Rattle.block.specs.declared.Entry.{Entry}
+use Rattle.block.specs.declared.Asked.{Asked}
+use Rattle.block.specs.declared.Asked.the-variants.{Child}
+use Rattle.block.specs.Table.{blocksOf}
+use Rattle.block.specs.Node.{Store, storeOf, openBelow, firstOpen}
+use Rattle.block.specs.NodeRules.{fewest}
+use Rattle.tree.specs.Part.{Part, parts}
+use Rattle.tree.specs.Reach.{reach}
+use Rattle.tree.proofs.Gather.{gather-append}
+use Rattle.tree.proofs.Entries.{lowOf}
+use Rattle.update.specs.Held.{Held}
+use Rattle.update.proofs.Change.{reaches, Sound, Changed, changed-refl, changed-trans}
+use Rattle.update.proofs.Spare.{Taken, Within}
+use Rattle.update.proofs.Close.{settle-two}
+use Rattle.update.proofs.Open.{under, Open, open-frame}
+use Rattle.update.proofs.Cut.{halfOf, leaf-cut, open-left, open-right, cut-changed}
+use Rattle.update.proofs.Loose.{part, reach-step}
+use Rattle.node.specs.Memory.{entriesOf, nodeIn, EntryAt}
+use Rattle.node.specs.declared.NodeValue.{NodeValue}
+use Rattle.edit.specs.Edits.{heldIn}
+use Rattle.fill.proofs.Onward.{same-at}
+use Rattle.spare.specs.declared.Spare.{Spare}
+use Rattle.spare.specs.Spares.{spareOf}
+use Rattle.spare.proofs.Taking.{spare-less, last-new, spare-step}
+use Rattle.batch.specs.declared.Halves.{Halves}
+use Rattle.batch.specs.Batches.{Halved}
+use Rattle.settle.specs.declared.Settled.{Settled}
+use Rattle.settle.specs.declared.Worked.{Worked}
+use Rattle.settle.specs.Settling.{again, became, LowsFit, Opened, WorkedTo, RefinePost, Standing, Cuttable, PlacedTo, PlacePost, StoredTwo}
+use Rattle.settle.proofs.Halves.{right-same, right-free, left-same, within-both, halves}
+use Rattle.settle.proofs.Lows.{lows-left, lows-right, cut-high, cut-low}
+use Rattle.settle.proofs.Storing.{Ground, refined-shape, block-few}
+
+-- ---- eight entries, four and four
+
+pub record Eight (es : List Entry) : Type 0 where
+  pub u : Entry
+  pub w : Entry
+  pub us : List Entry
+  pub v : Entry
+  pub vs : List Entry
+  pub before : take 4 es ≡ u ∷ w ∷ us
+  pub from : drop 4 es ≡ v ∷ vs
+  pub whole : es ≡ (u ∷ w ∷ us) ++ (v ∷ vs)
+  pub at : EntryAt es 4 v
+  pub fourL : length (take 4 es) ≡ 4
+  pub fourR : length (firstOpen (drop 4 es)) ≡ 4
+
+eight : (es : List Entry) → length es ≡ 8 → Eight es
+eight [] h = let z : zero ≡ 8 = h in absurd (omega arith)
+eight (a ∷ []) h = let z : suc zero ≡ 8 = h in absurd (omega arith)
+eight (a ∷ b ∷ []) h = let z : suc (suc zero) ≡ 8 = h in absurd (omega arith)
+eight (a ∷ b ∷ c ∷ []) h = let z : suc (suc (suc zero)) ≡ 8 = h in absurd (omega arith)
+eight (a ∷ b ∷ c ∷ d ∷ []) h = let z : suc (suc (suc (suc zero))) ≡ 8 = h in absurd (omega arith)
+eight (a ∷ b ∷ c ∷ d ∷ e ∷ es) h =
+    record {
+      u = a;
+      w = b;
+      us = c ∷ d ∷ [];
+      v = e;
+      vs = es;
+      before = refl;
+      from = refl;
+      whole = refl;
+      at = record { split = refl; there = List·Memᴰ·tail (List·Memᴰ·tail (List·Memᴰ·tail (List·Memᴰ·tail (List·Memᴰ·head refl)))) };
+      fourL = refl;
+      fourR = let z : suc (suc (suc (suc (suc (length es))))) ≡ 8 = h in omega arith;
+    }
+
+-- ---- the node cut
+
+-- the node with the entries es and the buffers b, cut at sep
+pub record CutIn (x : Store) (level lo sep hi : ℕ) (s : List ℕ) (es es₁ es₂ : List Entry) (b₁ b₂ : Held) (f : ℕ → Option ℕ) : Type 0 where
+  pub rank : ℕ
+  pub low : lo < sep
+  pub high : sep < hi
+  pub openL : Open level x lo sep rank es₁ b₁ f
+  pub openR : Open level x sep hi rank es₂ b₂ f
+  pub lowsL : LowsFit lo sep es₁
+  pub lowsR : LowsFit sep hi es₂
+  pub word : ℕ → Option ℕ
+  pub cut : Changed level (Taken s s) x (parts lo hi es) x (parts lo sep es₁ ++ parts sep hi es₂) word
+
+module _ (x : Store) (level lo hi : ℕ) (s : List ℕ) (r : ℕ) (b : Held) (f : ℕ → Option ℕ) where
+  cut-inner : (u w : Entry) (us : List Entry) (v : Entry) (vs : List Entry) → Open level x lo hi r ((u ∷ w ∷ us) ++ (v ∷ vs)) b f → LowsFit lo hi ((u ∷ w ∷ us) ++ (v ∷ vs))
+      → CutIn x level lo (v .low) hi s ((u ∷ w ∷ us) ++ (v ∷ vs)) (u ∷ w ∷ us) (openBelow v ∷ vs) (halfOf (λ k. ltb k (v .low)) b) (halfOf (λ k. leb (v .low) k) b) f
+  cut-inner u w us v vs o l =
+      record {
+        rank = r;
+        low = cut-low lo hi u w us v vs l;
+        high = cut-high lo hi u (w ∷ us) v vs l;
+        openL = open-left level x lo hi r u (w ∷ us) v vs b f o;
+        openR = open-right level x lo hi r u (w ∷ us) v vs b f o;
+        lowsL = lows-left lo hi u (w ∷ us) v vs l;
+        lowsR = lows-right lo hi u (w ∷ us) v vs l;
+        word = under level x lo hi ((u ∷ w ∷ us) ++ (v ∷ vs));
+        cut = cut-changed level x lo hi r u (w ∷ us) v vs b f o (Taken s s) (λ z t. t .1 (t .0));
+      }
+
+  cut-leaf : (sep : ℕ) → lo < sep → sep < hi → Open level x lo hi r [] b f → CutIn x level lo sep hi s [] [] [] (halfOf (λ k. ltb k sep) b) (halfOf (λ k. leb sep k) b) f
+  cut-leaf sep a c o =
+      let h = leaf-cut level x lo sep hi r b f (omega arith) (omega arith) o in
+      record {
+        rank = r;
+        low = a;
+        high = c;
+        openL = h .0;
+        openR = h .1;
+        lowsL = record { zero = refl; rise = refl; inside = refl };
+        lowsR = record { zero = refl; rise = refl; inside = refl };
+        word = under level x lo hi [];
+        cut = changed-refl level (Taken s s) x [] (λ z t. t .1 (t .0)) (o .kids);
+      }
+
+cut-as : {x : Store} {level lo sep hi : ℕ} {s : List ℕ} {es es₁ es₂ ds ds₁ ds₂ : List Entry} {b₁ b₂ c₁ c₂ : Held} {f : ℕ → Option ℕ} → ds ≡ es → ds₁ ≡ es₁ → ds₂ ≡ es₂ → c₁ ≡ b₁ → c₂ ≡ b₂
+    → CutIn x level lo sep hi s es es₁ es₂ b₁ b₂ f → CutIn x level lo sep hi s ds ds₁ ds₂ c₁ c₂ f
+cut-as {x} {level} {lo} {sep} {hi} {s} {es} {es₁} {es₂} {ds} {ds₁} {ds₂} {b₁} {b₂} {c₁} {c₂} {f} e e₁ e₂ h₁ h₂ c =
+    subst⁻¹ (λ (q : List Entry). CutIn x level lo sep hi s q ds₁ ds₂ c₁ c₂ f) e
+    (subst⁻¹ (λ (q : List Entry). CutIn x level lo sep hi s es q ds₂ c₁ c₂ f) e₁
+    (subst⁻¹ (λ (q : List Entry). CutIn x level lo sep hi s es es₁ q c₁ c₂ f) e₂
+    (subst⁻¹ (λ (q : Held). CutIn x level lo sep hi s es es₁ es₂ q c₂ f) h₁
+    (subst⁻¹ (λ (q : Held). CutIn x level lo sep hi s es es₁ es₂ b₁ q f) h₂ c))))
+
+-- the halves that were made
+module _ {t s map : List ℕ} {b level : ℕ} {asked : Asked} {n : NodeValue} {h : Halves} {spare : Spare} {left : ℕ} (st : Standing t s map b level asked n spare left)
+    (hv : Halved n (n .entries .n / 2) h) where
+  -- a leaf
+  module _ (none : n .entries .n ≡ 0) where
+    bare : entriesOf (n .entries) ≡ []
+    bare = ap (λ (k : ℕ). take k (n .entries .list)) none
+
+    pub bareL : entriesOf (h .left .entries) ≡ []
+    bareL = hv .left .entries ∙ ap (λ (k : ℕ). take (k / 2) (entriesOf (n .entries))) none
+
+    pub bareR : entriesOf (h .right .entries) ≡ []
+    bareR = hv .right .entries ∙ ap (λ (k : ℕ). firstOpen (drop (k / 2) (entriesOf (n .entries)))) none ∙ ap firstOpen bare
+
+    leaf-cuts : (x : Store) (lo hi : ℕ) (f : ℕ → Option ℕ) (free : List ℕ) → Opened x level lo hi n spare left f
+        → CutIn x level lo (h .sep) hi free (entriesOf (n .entries)) (entriesOf (h .left .entries)) (entriesOf (h .right .entries)) (heldIn (h .left)) (heldIn (h .right)) f
+    leaf-cuts x lo hi f free o =
+        let l = hv .leaf none in
+        let i = o .node .ready .inP (h .sep) (l .0) in
+        let j = o .node .ready .inP (l .1 .0) (l .1 .1) in
+        let a = within-from lo hi (l .1 .0) j in
+        let c = l .1 .2 in
+        cut-as bare bareL bareR (hv .left .holds) (hv .right .holds)
+        (cut-leaf x level lo hi free (o .rank) (heldIn n) f (h .sep) (omega arith) (within-to lo hi (h .sep) i)
+        (subst (λ (es : List Entry). Open level x lo hi (o .rank) es (heldIn n) f) bare (o .node)))
+
+  -- an inner node
+  module _ (full : n .entries .n ≡ 8) where
+    pub fours : Eight (entriesOf (n .entries))
+    fours = eight (entriesOf (n .entries)) (st .counted ∙ full)
+
+    sep-is : h .sep ≡ fours .v .low
+    sep-is = let i = hv .inner full in i .2 ∙ ap (λ (d : Entry). d .low) (same-at (entriesOf (n .entries)) 4 (i .0) (fours .v) (i .1) (fours .at))
+
+    pub halfL : entriesOf (h .left .entries) ≡ take 4 (entriesOf (n .entries))
+    halfL = hv .left .entries ∙ ap (λ (k : ℕ). take (k / 2) (entriesOf (n .entries))) full
+
+    pub halfR : entriesOf (h .right .entries) ≡ firstOpen (drop 4 (entriesOf (n .entries)))
+    halfR = hv .right .entries ∙ ap (λ (k : ℕ). firstOpen (drop (k / 2) (entriesOf (n .entries)))) full
+
+    inner-cuts : (x : Store) (lo hi : ℕ) (f : ℕ → Option ℕ) (free : List ℕ) → Opened x level lo hi n spare left f
+        → CutIn x level lo (h .sep) hi free (entriesOf (n .entries)) (entriesOf (h .left .entries)) (entriesOf (h .right .entries)) (heldIn (h .left)) (heldIn (h .right)) f
+    inner-cuts x lo hi f free o =
+        cut-as (fours .whole) (halfL ∙ fours .before) (halfR ∙ ap firstOpen (fours .from)) (hv .left .holds) (hv .right .holds)
+        (subst⁻¹ (λ (q : ℕ). CutIn x level lo q hi free ((fours .u ∷ fours .w ∷ fours .us) ++ (fours .v ∷ fours .vs)) (fours .u ∷ fours .w ∷ fours .us) (openBelow (fours .v) ∷ fours .vs) (halfOf (λ k. ltb k q) (heldIn n)) (halfOf (λ k. leb q k) (heldIn n)) f) sep-is
+        (cut-inner x level lo hi free (o .rank) (heldIn n) f (fours .u) (fours .w) (fours .us) (fours .v) (fours .vs)
+        (subst (λ (es : List Entry). Open level x lo hi (o .rank) es (heldIn n) f) (fours .whole) (o .node))
+        (subst (λ (es : List Entry). LowsFit lo hi es) (fours .whole) (o .lowsFit))))
+
+  pub cut-of : Cuttable level n → (x : Store) (lo hi : ℕ) (f : ℕ → Option ℕ) (free : List ℕ) → Opened x level lo hi n spare left f
+      → CutIn x level lo (h .sep) hi free (entriesOf (n .entries)) (entriesOf (h .left .entries)) (entriesOf (h .right .entries)) (heldIn (h .left)) (heldIn (h .right)) f
+  cut-of (inl c) = leaf-cuts (c .1)
+  cut-of (inr c) = inner-cuts (c .1)
+
+  -- what the halves must have to be stored
+  pub ground-left : Cuttable level n → (d : Entry) → Ground level (Child d) (h .left)
+  unfolding fewest
+  ground-left c d =
+      record {
+        leafE = λ z. ⊎-elim (λ q. ap length (bareL (q .1))) (λ q. absurd (q .0 z)) c;
+        least = λ z. ⊎-elim (λ q. absurd (z (q .0))) (λ q. let y : length (entriesOf (h .left .entries)) ≡ 4 = ap length (halfL (q .1)) ∙ fours (q .1) .fourL in omega arith) c;
+        leafI = λ z. let i = st .leafI z in let y = hv .left .inserts in omega arith;
+        leafD = λ z. let i = st .leafD z in let y = hv .left .deletes in omega arith;
+      }
+
+  pub ground-right : Cuttable level n → (d : Entry) → Ground level (Child d) (h .right)
+  unfolding fewest
+  ground-right c d =
+      record {
+        leafE = λ z. ⊎-elim (λ q. ap length (bareR (q .1))) (λ q. absurd (q .0 z)) c;
+        least = λ z. ⊎-elim (λ q. absurd (z (q .0))) (λ q. let y : length (entriesOf (h .right .entries)) ≡ 4 = ap length (halfR (q .1)) ∙ fours (q .1) .fourR in omega arith) c;
+        leafI = λ z. let i = st .leafI z in let y = hv .right .inserts in omega arith;
+        leafD = λ z. let i = st .leafD z in let y = hv .right .deletes in omega arith;
+      }
+
+-- ---- both halves worked on and stored: the right one in the last of the spare blocks
+module _ {t s map t₁ s₁ map₁ t₂ s₂ map₂ t₃ : List ℕ} {b level : ℕ} {asked : Asked} {n : NodeValue} {h : Halves} {spare : Spare} {left c : ℕ} {w₁ w₂ : Worked} {r : Settled}
+    (st : Standing t s map b level asked n spare left) (some : 0 < left) (last : spareOf spare left ≡ spareOf spare (left - 1) ++ (c ∷ [])) (cuts : Cuttable level n) (hv : Halved n (n .entries .n / 2) h)
+    (p₁ : RefinePost t t₁ s₁ map₁ level (h .left) spare (left - 1) w₁) (ok₁ : w₁ .ok ≡ true) (k₁ : length t₁ ≡ length t)
+    (p₂ : RefinePost t₁ t₂ s₂ map₂ level (h .right) spare (w₁ .left) w₂) (ok₂ : w₂ .ok ≡ true) (k₂ : length t₂ ≡ length t₁)
+    (q : StoredTwo t₂ t₃ b (lowOf asked) c (h .sep) (w₁ .node) (w₂ .node) (w₂ .left) r) where
+  new : List·Memᴰ c (spareOf spare left) × (List·Memᴰ c (spareOf spare (left - 1)) → ⊥)
+  new = last-new spare left c some (st .less) (st .spares .once) last
+
+  less₁ : Within (spareOf spare (w₁ .left)) (spareOf spare (left - 1))
+  less₁ = spare-less spare (w₁ .left) (left - 1) (p₁ .work .fewer)
+
+  less₂ : Within (spareOf spare (w₂ .left)) (spareOf spare (w₁ .left))
+  less₂ = spare-less spare (w₂ .left) (w₁ .left) (p₂ .work .fewer)
+
+  less₀ : Within (spareOf spare (left - 1)) (spareOf spare left)
+  less₀ = spare-less spare (left - 1) left (omega arith)
+
+  module _ (lo hi : ℕ) (f : ℕ → Option ℕ) (low : lowOf asked ≤ lo) (sound : Sound (suc level) (storeOf t) (part b asked lo hi ∷ []))
+      (apart : Apart (spareOf spare left) (reaches (suc level) (storeOf t) (part b asked lo hi ∷ []))) (o : Opened (storeOf t) level lo hi n spare left f) where
+    abbrev sep : ℕ
+    sep = h .sep
+
+    abbrev S : List ℕ
+    S = spareOf spare (left - 1)
+
+    abbrev S₁ : List ℕ
+    S₁ = spareOf spare (w₁ .left)
+
+    abbrev S₂ : List ℕ
+    S₂ = spareOf spare (w₂ .left)
+
+    u : CutIn (storeOf t) level lo (h .sep) hi (spareOf spare (left - 1)) (entriesOf (n .entries)) (entriesOf (h .left .entries)) (entriesOf (h .right .entries)) (heldIn (h .left)) (heldIn (h .right)) f
+    u = cut-of st hv cuts (storeOf t) lo hi f (spareOf spare (left - 1)) o
+
+    -- the children of each half, before and after
+    abbrev A : List Part
+    A = parts lo sep (entriesOf (h .left .entries))
+
+    abbrev C : List Part
+    C = parts sep hi (entriesOf (h .right .entries))
+
+    abbrev A′ : List Part
+    A′ = parts lo sep (entriesOf (w₁ .node .entries))
+
+    abbrev C′ : List Part
+    C′ = parts sep hi (entriesOf (w₂ .node .entries))
+
+    free : Apart S (reaches level (storeOf t) (A ++ C))
+    free z i j = ⊎-elim (λ v. o .free z (less₀ z i) v) (λ v. v .1 (v .0)) (u .cut .reached z j)
+
+    -- the left half
+    left-open : Opened (storeOf t) level lo sep (h .left) spare (left - 1) f
+    left-open =
+        record {
+          order = let z = u .low in omega arith;
+          full = let z = u .high in let y = o .full in omega arith;
+          rank = u .rank;
+          node = u .openL;
+          lowsFit = u .lowsL;
+          free = λ z i j. free z i (rw (gather-append (reach level (storeOf t)) A C) (Memᴰ·append-left (reaches level (storeOf t) C) j));
+        }
+
+    one : WorkedTo (storeOf t) (storeOf t₁) level lo sep (h .left) (w₁ .node) spare (left - 1) (w₁ .left) f
+    one = p₁ .work .done ok₁ lo sep f left-open
+
+    -- then the right one
+    right-open : Opened (storeOf t₁) level sep hi (h .right) spare (w₁ .left) f
+    right-open =
+        record {
+          order = let z = u .high in omega arith;
+          full = o .full;
+          rank = u .rank;
+          node = open-frame level (storeOf t) (storeOf t₁) sep hi (u .rank) (entriesOf (h .right .entries)) (heldIn (h .right)) f
+              (right-same level S S₁ (storeOf t) (storeOf t₁) A A′ C _ (u .cut .sound) free less₁ (one .going .changed)) (u .openR);
+          lowsFit = u .lowsR;
+          free = right-free level S S₁ (storeOf t) (storeOf t₁) A A′ C _ (u .cut .sound) free less₁ (one .going .changed);
+        }
+
+    two : WorkedTo (storeOf t₁) (storeOf t₂) level sep hi (h .right) (w₂ .node) spare (w₁ .left) (w₂ .left) f
+    two = p₂ .work .done ok₂ sep hi f right-open
+
+    stays : Open level (storeOf t₂) lo sep (one .rank) (entriesOf (w₁ .node .entries)) (heldIn (w₁ .node)) f
+    stays =
+        open-frame level (storeOf t₁) (storeOf t₂) lo sep (one .rank) (entriesOf (w₁ .node .entries)) (heldIn (w₁ .node)) f
+        (left-same level S S₁ (storeOf t) (storeOf t₁) A A′ C _ (u .cut .sound) free less₁ (one .going .changed) S₂ (storeOf t₂) C′ _ less₂ (two .going .changed)) (one .going .node)
+
+    -- the children of both
+    abbrev word : ℕ → Option ℕ
+    word = within-both level S S₁ (storeOf t) (storeOf t₁) A A′ C (under level (storeOf t₁) lo sep (entriesOf (w₁ .node .entries))) (u .cut .sound) free less₁ (one .going .changed) S₂ (storeOf t₂) C′
+        (under level (storeOf t₂) sep hi (entriesOf (w₂ .node .entries))) less₂ (two .going .changed)
+
+    kids : Changed level (Taken S S₂) (storeOf t) (parts lo hi (storeOf t b .entries)) (storeOf t₂) (A′ ++ C′) word
+    kids =
+        subst (λ (es : List Entry). Changed level (Taken S S₂) (storeOf t) (parts lo hi es) (storeOf t₂) (A′ ++ C′) word) (st .same)
+        (changed-trans level (Taken S S) (Taken S S₂) (Taken S S₂) (storeOf t) (parts lo hi (entriesOf (n .entries))) (storeOf t) (A ++ C) (storeOf t₂) (A′ ++ C′) (u .word) word
+        (λ z v. absurd (v .1 (v .0))) (λ z v. v) (λ z v. inr v) (u .cut)
+        (halves level S S₁ (storeOf t) (storeOf t₁) A A′ C _ (u .cut .sound) free less₁ (one .going .changed) S₂ (storeOf t₂) C′ _ less₂ (two .going .changed)))
+
+    -- the new block is not the old
+    other : b ≡ c → ⊥
+    other e =
+        apart c (new .0)
+        (Memᴰ·append-left [] (subst⁻¹ (λ (bs : List ℕ). List·Memᴰ c bs) (reach-step level (storeOf t) (part b asked lo hi)) (List·Memᴰ·head (sym e))))
+
+    changed : Changed (suc level) (Taken (spareOf spare left) S₂) (storeOf t) (part b asked lo hi ∷ []) (storeOf t₃) (part b (Child (r .first)) lo sep ∷ part c (Child (r .second)) sep hi ∷ []) f
+    changed =
+        settle-two level (Taken S S₂) (Taken (spareOf spare left) S₂) (storeOf t) (storeOf t₂) (storeOf t₃) (part b asked lo hi) (Child (r .first)) (Child (r .second)) (one .rank) (two .rank)
+        (nodeIn (blocksOf (length t₁)) (w₁ .node)) (nodeIn (blocksOf (length t₂)) (w₂ .node)) c sep f word sound
+        (λ z v i. apart z (v .0) (Memᴰ·append-left [] i)) (λ z v. (less₀ z (v .0), v .1)) (λ z v. ⊎-elim (λ j. inl (j, v .1)) inr (spare-step spare left c some (st .less) (st .spares .once) last z (v .0)))
+        (new .0, λ i. new .1 (less₁ c (less₂ c i))) (λ v. new .1 (v .0)) (let z = u .low in omega arith) (let z = u .high in omega arith) kids
+        stays
+        (refined-shape (Child (r .first)) (ground-left st hv cuts (r .first)) p₁ ok₁ lo sep (one .lowsFit) (p₁ .full ok₁ lo sep f left-open) (let z = q .first .low in omega arith) (q .first .agree (blocksOf (length t₁))))
+        (two .going .node)
+        (refined-shape (Child (r .second)) (ground-right st hv cuts (r .second)) p₂ ok₂ sep hi (two .lowsFit) (p₂ .full ok₂ sep hi f right-open) (let z = q .second .low in omega arith) (q .second .agree (blocksOf (length t₂))))
+        (q .here other ∙ ap (λ (v : ℕ). nodeIn (blocksOf v) (w₁ .node)) k₂)
+        (q .there)
+        (q .else)
+
+    placed : PlacedTo (storeOf t) (storeOf t₃) level b asked lo hi spare left r f
+    placed =
+        record {
+          changed = subst⁻¹ (λ (v : ℕ). Changed (suc level) (Taken (spareOf spare left) (spareOf spare v)) (storeOf t) (part b asked lo hi ∷ []) (storeOf t₃) (became b asked lo hi r) f) (q .spare)
+              (subst⁻¹ (λ (d : Bool). Changed (suc level) (Taken (spareOf spare left) S₂) (storeOf t) (part b asked lo hi ∷ []) (storeOf t₃)
+              (cond d (part b (Child (r .first)) lo (r .second .low) ∷ part (r .second .block) (Child (r .second)) (r .second .low) hi ∷ []) (part b (again asked (r .first)) lo hi ∷ [])) f) (q .two)
+              (subst⁻¹ (λ (v : ℕ). Changed (suc level) (Taken (spareOf spare left) S₂) (storeOf t) (part b asked lo hi ∷ []) (storeOf t₃) (part b (Child (r .first)) lo v ∷ part (r .second .block) (Child (r .second)) v hi ∷ []) f) (q .second .low)
+              (subst⁻¹ (λ (v : ℕ). Changed (suc level) (Taken (spareOf spare left) S₂) (storeOf t) (part b asked lo hi ∷ []) (storeOf t₃) (part b (Child (r .first)) lo sep ∷ part v (Child (r .second)) sep hi ∷ []) f) (q .second .block) changed)));
+          apart = λ e. let z = q .second .low in (let a = u .low in omega arith, let a = u .high in omega arith);
+        }
+
+  pub place-two : PlacePost t t₃ level b asked n spare left r
+  place-two =
+      let i = st .spares .inside c (spare-less spare left (spare .n) (st .less) c (new .0)) in
+      record {
+        fewer = let z = q .spare in omega (arith, p₁ .work .fewer, p₂ .work .fewer);
+        block = λ e. q .first .block;
+        low = λ e. q .first .low;
+        fits = λ e. q .first .fits (block-few (st .undoable) (st .inside));
+        second = λ e g. let z = q .second .block in (omega (arith, i .0), omega (arith, i .1), q .second .fits (block-few (st .undoable) (i .1)));
+        done = λ e lo hi f low sound apart o. placed lo hi f low sound apart o;
+      }

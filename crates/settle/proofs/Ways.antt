@@ -1,0 +1,76 @@
+-- What the tests of push, refine and split leave known, and what they ask of the functions that they call.
+-- Assumes nothing.
+use mathlib.Core.Path.{_≡_, refl, sym, _∙_}
+use mathlib.Core.Logic.{_⊎_, inl, inr}
+use mathlib.Core.Bool.{Bool, true, false, _&&_, _||_, true≢false}
+use mathlib.Core.List.{List, [], _∷_, _++_}
+use Prim.Native.Nat.{ℕ, _-_, _≤_, _<_}
+use native.Mathlib.Omega.{arith}
+use lib.ListN.{length}
+use lib.Dec.{eqb, leb, ltb}
+use borrow.Author.Tests.{eq-eqb, leb-true, leb-false, ltb-false}
+use Rattle.octets.proofs.Tests.{and-left, and-right}
+use Rattle.spot.specs.declared.Spot.{Spot}
+use Rattle.block.specs.declared.Asked.{Asked}
+use Rattle.block.specs.Table.{blocksOf}
+use Rattle.block.specs.Node.{storeOf}
+use Rattle.node.specs.Memory.{Loaded, Storable}
+use Rattle.node.specs.declared.NodeValue.{NodeValue}
+use Rattle.spare.specs.declared.Spare.{Spare}
+use Rattle.spare.specs.Spares.{spareOf}
+use Rattle.spare.proofs.Taking.{spare-less, last-new}
+use Rattle.batch.specs.Batches.{TakenIn}
+use Rattle.batch.proofs.Opened.{taken-open}
+use Rattle.settle.specs.declared.Worked.{Worked}
+use Rattle.settle.specs.Settling.{Standing, Cuttable, RefinePost}
+use Rattle.settle.proofs.Storing.{Received}
+
+or-none : (a b : Bool) → a || b ≡ false → (a ≡ false) × (b ≡ false)
+or-none true b e = absurd (true≢false e)
+or-none false b e = (refl, e)
+
+-- a node that has a child, and room for one more
+pub may-push : (level k : ℕ) → ((eqb level 0 || eqb k 0) || leb 8 k) ≡ false → (level ≡ 0 → ⊥) × (0 < k) × (k < 8)
+may-push level k e =
+    let a = or-none (eqb level 0 || eqb k 0) (leb 8 k) e in
+    let b = or-none (eqb level 0) (eqb k 0) (a .0) in
+    let no-zero : k ≡ 0 → ⊥ = λ z. true≢false (sym (eq-eqb k 0 z) ∙ b .1) in
+    (λ z. true≢false (sym (eq-eqb level 0 z) ∙ b .0), omega (arith, no-zero), leb-false 8 k (a .1))
+
+-- the sizes with which a node may be stored
+pub sizes-right : (a : Bool) (i d : ℕ) → ((a && leb i 64) && leb d 16) ≡ true → (a ≡ true) × (i ≤ 64) × (d ≤ 16)
+sizes-right a i d e =
+    let b = and-left (a && leb i 64) (leb d 16) e in
+    (and-left a (leb i 64) b, leb-true i 64 (and-right a (leb i 64) b), leb-true d 16 (and-right (a && leb i 64) (leb d 16) e))
+
+-- two halves of few points
+pub both-few : (i j : ℕ) → (ltb 64 i || ltb 64 j) ≡ false → (i ≤ 64) × (j ≤ 64)
+both-few i j e = let a = or-none (ltb 64 i) (ltb 64 j) e in (ltb-false 64 i (a .0), ltb-false 64 j (a .1))
+
+-- it can be halved
+pub cut-halves : {depth : ℕ} (n : NodeValue) → Cuttable depth n → ((n .entries .n ≡ 0) × (2 ≤ n .points .n)) ⊎ (n .entries .n ≡ 8)
+cut-halves n (inl c) = let z = c .2 in inl (c .1, omega arith)
+cut-halves n (inr c) = inr (c .1)
+
+-- what was refined may be stored
+pub refined-stores : {t t′ s′ map′ : List ℕ} {level : ℕ} {n : NodeValue} {spare : Spare} {left : ℕ} {w : Worked} → RefinePost t t′ s′ map′ level n spare left w → w .ok ≡ true → Storable (w .node)
+refined-stores p ok =
+    record {
+      level = let z = p .work .works .level in omega (arith, p .work .works .deep);
+      entries = p .work .works .entries;
+      first = p .work .zero ok;
+      points = p .work .works .points;
+      inserts = p .fewI ok;
+      deletes = p .fewD ok;
+    }
+
+-- the last spare block is of the table
+pub last-inside : {t s map : List ℕ} {b level : ℕ} {asked : Asked} {n : NodeValue} {spare : Spare} {left c : ℕ} → Standing t s map b level asked n spare left → 0 < left
+    → spareOf spare left ≡ spareOf spare (left - 1) ++ (c ∷ []) → c < blocksOf (length t)
+last-inside {spare = spare} {left = left} {c = c} st some last =
+    st .spares .inside c (spare-less spare left (spare .n) (st .less) c (last-new spare left c some (st .less) (st .spares .once) last .0)) .1
+
+-- what is found through a node that took in a batch
+pub received : {t : List ℕ} {b : ℕ} {n m : NodeValue} {ss : List Spot} {ks : List ℕ} {ni nd : ℕ} (level : ℕ) (asked : Asked) → Loaded t b n → TakenIn n ss ks ni nd m → Received t level b asked ss ks m
+received {t} {b} {n} {m} {ss} {ks} {ni} {nd} level asked l tk lo hi order full wI wD sound =
+    taken-open level (storeOf t) b asked lo hi order full sound (blocksOf (length t)) n (l .is) ss ks ni nd m wI wD tk

@@ -1,0 +1,270 @@
+// Pushing a batch down and settling the child that overflows call for each other, a level lower each time (source section 4, steps i to v).
+ghost use mathlib.Core.Path.{_≡_};
+ghost use mathlib.Core.Bool.{false};
+ghost use Prim.Native.Nat.{_<_};
+ghost use lib.ListN.{length};
+ghost use Rattle.block.specs.Table.{blocksOf};
+ghost use Rattle.tree.proofs.Entries.{lowOf};
+ghost use Rattle.buffer.specs.Buffer.{held, named};
+ghost use Rattle.node.specs.Memory.{Storable};
+ghost use Rattle.edit.specs.Edits.{Tidy};
+ghost use Rattle.journal.specs.Journal.{Undoable, Kept};
+ghost use Rattle.settle.specs.Settling.{Settleable, SettlePost, Pushable, WorkPost, RefinePost, SplitWhen, Standing, Cuttable, PlacePost, StoredOne, StoredTwo};
+
+// A part after settling: one entry, or two, and how many spare blocks are left.
+pub struct Settled {
+    pub ok: bool,
+    pub two: bool,
+    pub first: block::Entry,
+    pub second: block::Entry,
+    pub left: usize,
+}
+
+// A node in memory that was worked on, and how many spare blocks are left.
+pub struct Worked {
+    pub ok: bool,
+    pub node: node::NodeValue,
+    pub left: usize,
+}
+
+fn not_settled(left: usize) -> Settled
+    ensures { λ r. ⌜ (r .ok ≡ false) × (r .left ≡ left) ⌝ }
+{
+    let none = block::Entry {
+        block: 0,
+        size: 0,
+        low: 0,
+        top: 0,
+        bottom: 0,
+    };
+    Settled {
+        ok: false,
+        two: false,
+        first: none,
+        second: none,
+        left,
+    }
+}
+
+fn handed(ok: bool, n: node::NodeValue, left: usize) -> Worked
+    ensures { λ r. ⌜ r ≡ record { ok = ok; node = n; left = left } ⌝ }
+{
+    let node = n;
+    Worked { ok, node, left }
+}
+
+// The low of the entry that leads to a node; the root has none.
+fn low_of(asked: block::Asked) -> u64
+    ensures { λ r. ⌜ r ≡ lowOf asked ⌝ }
+{
+    match asked {
+        block::Asked::Root => 0,
+        block::Asked::Child(e) => e.low,
+    }
+}
+
+// A leaf with over 64 points, or a node of eight entries that must push, is cut in two: two halves of four entries have room for what a push brings.
+fn must_split(n: node::NodeValue) -> bool
+    ensures { λ r. ⌜ SplitWhen n r ⌝ }
+{
+    if n.level == 0 {
+        return 64 < n.points.n;
+    }
+    (8 <= n.entries.n) & ((64 < n.inserts.n) | (16 < n.deletes.n))
+}
+
+// The node in its block again, and its entry.
+fn store_one(
+    t: &mut [u8],
+    s: &mut [u8],
+    map: &mut [u8],
+    b: usize,
+    asked: block::Asked,
+    n: node::NodeValue,
+    left: usize,
+) -> Settled
+    requires { ⌜ Undoable (now t) (now s) (now map) × (b < blocksOf (length (now t))) × Storable n × Tidy n ⌝ }
+    ensures kept { λ r. ⌜ Kept (now (t .entry)) (now (s .entry)) (now (map .entry)) (now (t .exit)) (now (s .exit)) (now (map .exit)) ⌝ }
+    ensures stored { λ r. ⌜ StoredOne (now (t .entry)) (now (t .exit)) b (lowOf asked) n left r ⌝ }
+{
+    journal::write_node(t, s, map, b, n);
+    let low = low_of(asked);
+    let first = edit::entry_for(b, low, n);
+    Settled {
+        ok: true,
+        two: false,
+        first,
+        second: first,
+        left,
+    }
+}
+
+// The left half n in the old block b, the right half m, from the key sep on, in the block c.
+fn store_two(
+    t: &mut [u8],
+    s: &mut [u8],
+    map: &mut [u8],
+    b: usize,
+    asked: block::Asked,
+    n: node::NodeValue,
+    c: usize,
+    sep: u64,
+    m: node::NodeValue,
+    left: usize,
+) -> Settled
+    requires { ⌜ Undoable (now t) (now s) (now map) × (b < blocksOf (length (now t))) × Storable n × Tidy n × (c < blocksOf (length (now t))) × Storable m × Tidy m ⌝ }
+    ensures kept { λ r. ⌜ Kept (now (t .entry)) (now (s .entry)) (now (map .entry)) (now (t .exit)) (now (s .exit)) (now (map .exit)) ⌝ }
+    ensures stored { λ r. ⌜ StoredTwo (now (t .entry)) (now (t .exit)) b (lowOf asked) c sep n m left r ⌝ }
+{
+    journal::write_node(t, s, map, b, n);
+    journal::write_node(t, s, map, c, m);
+    let low = low_of(asked);
+    let first = edit::entry_for(b, low, n);
+    let second = edit::entry_for(c, sep, m);
+    Settled {
+        ok: true,
+        two: true,
+        first,
+        second,
+        left,
+    }
+}
+
+// Takes a batch into the part at block b.
+pub fn settle(
+    t: &mut [u8],
+    s: &mut [u8],
+    map: &mut [u8],
+    b: usize,
+    asked: block::Asked,
+    level: usize,
+    inserts: buffer::SpotBuffer,
+    deletes: buffer::KeyBuffer,
+    spare: spare::Spare,
+    left: usize,
+) -> Settled
+    requires { ⌜ Settleable (now t) (now s) (now map) b level (inserts .n) (deletes .n) spare left ⌝ }
+    ensures kept { λ r. ⌜ Kept (now (t .entry)) (now (s .entry)) (now (map .entry)) (now (t .exit)) (now (s .exit)) (now (map .exit)) ⌝ }
+    ensures settled { λ r. ⌜ SettlePost (now (t .entry)) (now (t .exit)) level b asked (held inserts) (named deletes) spare left r ⌝ }
+{
+    if !block::block_ok(t, b, level, asked) {
+        return not_settled(left);
+    }
+    let n = node::load(t, b);
+    let full = batch::take_in(n, inserts, deletes);
+    if must_split(full) {
+        return split(t, s, map, b, asked, level, full, spare, left);
+    }
+    let w = refine(t, s, map, full, level, spare, left);
+    if !w.ok {
+        return not_settled(w.left);
+    }
+    let node = w.node;
+    store_one(t, s, map, b, asked, node, w.left)
+}
+
+// The node cut in two: each half pushes and is filled by itself, and the right one takes a spare block.
+fn split(
+    t: &mut [u8],
+    s: &mut [u8],
+    map: &mut [u8],
+    b: usize,
+    asked: block::Asked,
+    level: usize,
+    n: node::NodeValue,
+    spare: spare::Spare,
+    left: usize,
+) -> Settled
+    requires { ⌜ Standing (now t) (now s) (now map) b level asked n spare left × Cuttable level n ⌝ }
+    ensures kept { λ r. ⌜ Kept (now (t .entry)) (now (s .entry)) (now (map .entry)) (now (t .exit)) (now (s .exit)) (now (map .exit)) ⌝ }
+    ensures placed { λ r. ⌜ PlacePost (now (t .entry)) (now (t .exit)) level b asked n spare left r ⌝ }
+{
+    if left == 0 {
+        return not_settled(left);
+    }
+    let c = spare::last_of(spare, left);
+    let h = batch::halve(n);
+    let low = h.left;
+    let high = h.right;
+    if (64 < low.points.n) | (64 < high.points.n) {
+        return not_settled(left);
+    }
+    let x = refine(t, s, map, low, level, spare, left - 1);
+    if !x.ok {
+        return not_settled(x.left);
+    }
+    let y = refine(t, s, map, high, level, spare, x.left);
+    if !y.ok {
+        return not_settled(y.left);
+    }
+    store_two(t, s, map, b, asked, x.node, c, h.sep, y.node, y.left)
+}
+
+// Pushes where that is needed, then fills P.
+fn refine(
+    t: &mut [u8],
+    s: &mut [u8],
+    map: &mut [u8],
+    n: node::NodeValue,
+    level: usize,
+    spare: spare::Spare,
+    left: usize,
+) -> Worked
+    requires { ⌜ Pushable (now t) (now s) (now map) n level spare left ⌝ }
+    ensures kept { λ r. ⌜ Kept (now (t .entry)) (now (s .entry)) (now (map .entry)) (now (t .exit)) (now (s .exit)) (now (map .exit)) ⌝ }
+    ensures refined { λ r. ⌜ RefinePost (now (t .entry)) (now (t .exit)) (now (s .exit)) (now (map .exit)) level n spare left r ⌝ }
+{
+    let w = push(t, s, map, n, level, spare, left);
+    if !w.ok {
+        return w;
+    }
+    let f = fill::fill(t, s, map, w.node, level);
+    let node = f.node;
+    let ok = f.ok & (node.inserts.n <= 64) & (node.deletes.n <= 16);
+    Worked {
+        ok,
+        node,
+        left: w.left,
+    }
+}
+
+// Where I or D is too large, hands a batch of it down to the child for which most waits.
+pub fn push(
+    t: &mut [u8],
+    s: &mut [u8],
+    map: &mut [u8],
+    n: node::NodeValue,
+    level: usize,
+    spare: spare::Spare,
+    left: usize,
+) -> Worked
+    requires { ⌜ Pushable (now t) (now s) (now map) n level spare left ⌝ }
+    ensures kept { λ r. ⌜ Kept (now (t .entry)) (now (s .entry)) (now (map .entry)) (now (t .exit)) (now (s .exit)) (now (map .exit)) ⌝ }
+    ensures worked { λ r. ⌜ WorkPost (now (t .entry)) (now (t .exit)) (now (s .exit)) (now (map .exit)) level n spare left r ⌝ }
+{
+    if (n.inserts.n <= 64) & (n.deletes.n <= 16) {
+        return handed(true, n, left);
+    }
+    if (level == 0) | (n.entries.n == 0) | (8 <= n.entries.n) {
+        return handed(false, n, left);
+    }
+    let p = batch::pick(n);
+    let e = node::entry(n.entries, p.child);
+    let r = settle(
+        t,
+        s,
+        map,
+        e.block,
+        block::Asked::Child(e),
+        level - 1,
+        p.inserts,
+        p.deletes,
+        spare,
+        left,
+    );
+    if !r.ok {
+        return handed(false, n, r.left);
+    }
+    let node = batch::put_back(p.node, p.child, r.two, r.first, r.second);
+    handed(true, node, r.left)
+}
