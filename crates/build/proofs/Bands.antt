@@ -6,7 +6,7 @@ use mathlib.Core.Bool.{Bool, true, false, cond, _&&_}
 use mathlib.Core.List.{List, [], _∷_, _++_, append-nil}
 use Prim.Native.Nat.{ℕ, zero, suc, _+_, _-_, _*_, _/_, _≤_, _<_}
 use native.Mathlib.Omega.{arith}
-use lib.ListN.{length, length-append}
+use lib.ListN.{length, take, set, length-append, length-set}
 use lib.Seq.{append-snoc}
 use lib.Dec.{leb, ltb, leb·suc-suc, leb·suc-zero}
 use Rattle.octets.specs.Lists.{all, every, records, rising}
@@ -22,6 +22,7 @@ use Rattle.rebuild.specs.Build.{band}
 use Rattle.rebuild.proofs.Choose.{band-step, ends-apart}
 use Rattle.buffer.specs.declared.SpotBuffer.{SpotBuffer}
 use Rattle.buffer.specs.Buffer.{held, Ordered}
+use Rattle.buffer.proofs.Lists.{take-push}
 use Rattle.build.specs.Building.{spotsOf, limitOf, Segment, Cut}
 use Rattle.build.specs.declared.Limit.{Limit}
 
@@ -117,12 +118,13 @@ module _ (list : List ℕ) (from n c t : ℕ) where
 
   pub record Taken (out : SpotBuffer) (i : ℕ) : Type 0 where
     pub inside : i ≤ n
+    pub long : length (out .spots) ≡ 80
     pub counted : out .n ≡ length (held out)
     pub whole : held out ++ after i ≡ band c t (spotsOf list from n)
 
-  pub taken-none : {out : SpotBuffer} → out .n ≡ 0 → held out ≡ [] → Taken out 0
-  taken-none e g =
-      record { inside = omega arith; counted = e ∙ sym (ap (λ (l : List Spot). length l) g); whole = ap (λ (l : List Spot). l ++ after 0) g ∙ sym after-all }
+  pub taken-none : {out : SpotBuffer} → length (out .spots) ≡ 80 → out .n ≡ 0 → held out ≡ [] → Taken out 0
+  taken-none h e g =
+      record { inside = omega arith; long = h; counted = e ∙ sym (ap (λ (l : List Spot). length l) g); whole = ap (λ (l : List Spot). l ++ after 0) g ∙ sym after-all }
 
   pub taken-count : {out : SpotBuffer} {i : ℕ} → Taken out i → out .n + length (after i) ≡ length (band c t (spotsOf list from n))
   taken-count {out} {i} r =
@@ -139,21 +141,25 @@ module _ (list : List ℕ) (from n c t : ℕ) where
     pub taken-room : b ≡ true → length (band c t (spotsOf list from n)) ≤ 64 → out .n < 64
     taken-room y few = let k = taken-count r in let g = ap (λ (x : List Spot). length x) (first-in y) in omega arith
 
-    pub taken-in : b ≡ true → {pushed new : SpotBuffer} → pushed .n ≡ out .n + 1 → held pushed ≡ held out ++ (s ∷ []) → new ≡ pushed → Taken new (i + 1)
-    taken-in y {pushed} {new} e g q =
+    pub taken-in : b ≡ true → length (band c t (spotsOf list from n)) ≤ 64 → {new : SpotBuffer} → new ≡ record { n = out .n + 1; spots = set (out .spots) (out .n) s } → Taken new (i + 1)
+    taken-in y few {new} q =
         subst (λ (x : SpotBuffer). Taken x (i + 1)) (sym q)
         (record {
           inside = omega arith;
-          counted = e ∙ omega (arith, r .counted, ap (λ (x : List Spot). length x) g, length-append (held out) (s ∷ []));
+          long = length-set (out .spots) (out .n) s ∙ r .long;
+          counted = omega (arith, r .counted, ap (λ (x : List Spot). length x) more, length-append (held out) (s ∷ []));
           whole =
-              ap (λ (x : List Spot). x ++ after (i + 1)) g ∙ append-snoc (held out) s (after (i + 1)) ∙ ap (λ (x : List Spot). held out ++ x) (sym (first-in y))
+              ap (λ (x : List Spot). x ++ after (i + 1)) more ∙ append-snoc (held out) s (after (i + 1)) ∙ ap (λ (x : List Spot). held out ++ x) (sym (first-in y))
               ∙ r .whole;
         })
+      where
+        more : take (out .n + 1) (set (out .spots) (out .n) s) ≡ held out ++ (s ∷ [])
+        more = take-push (out .spots) (out .n) s (omega (arith, taken-room y few, r .long))
 
     pub taken-out : b ≡ false → {new : SpotBuffer} → new ≡ out → Taken new (i + 1)
     taken-out y {new} q =
         subst (λ (x : SpotBuffer). Taken x (i + 1)) (sym q)
-        (record { inside = omega arith; counted = r .counted; whole = ap (λ (x : List Spot). held out ++ x) (sym (after-out i l (seen ∙ y))) ∙ r .whole })
+        (record { inside = omega arith; long = r .long; counted = r .counted; whole = ap (λ (x : List Spot). held out ++ x) (sym (after-out i l (seen ∙ y))) ∙ r .whole })
 
   pub taken-all : {out : SpotBuffer} {i : ℕ} → rising (keys (spotsOf list from n)) ≡ true → length (band c t (spotsOf list from n)) ≤ 64 → Taken out i → n ≤ i
       → Ordered out × (held out ≡ band c t (spotsOf list from n)) × (out .n ≤ 64)
@@ -165,13 +171,13 @@ module _ (list : List ℕ) (from n c t : ℕ) where
 -- ---- a cut between two
 
 -- none lies in an empty band
-band-none : (t : ℕ) (ss : List Spot) → length (band t t ss) ≡ 0
+band-none : (c t : ℕ) → t ≤ c → (ss : List Spot) → length (band c t ss) ≡ 0
 unfolding band
-band-none t [] = refl
-band-none t (s ∷ ss) = rw (nothing (rankKey (s .key))) (band-none t ss)
+band-none c t h [] = refl
+band-none c t h (s ∷ ss) = rw (nothing (rankKey (s .key))) (band-none c t h ss)
   where
-    nothing : (r : ℕ) → within t t r ≡ false
-    nothing r = ⊎-elim (λ (a : t ≤ r). within-high t t r a) (λ (a : r < t). within-low t t r a) (less-or-not t r)
+    nothing : (r : ℕ) → within c t r ≡ false
+    nothing r = ⊎-elim (λ (a : t ≤ r). within-high c t r a) (λ (a : r < t). within-low c t r (omega arith)) (less-or-not t r)
 
 module _ (list : List ℕ) (from n : ℕ) (limit : Limit) where
   abbrev taken : ℕ → ℕ
@@ -189,8 +195,15 @@ module _ (list : List ℕ) (from n : ℕ) (limit : Limit) (seg : Segment list fr
   keyed : every (within 0 allKeys) (keys (spotsOf list from n)) ≡ true
   keyed = spots-keyed list 12 n (12 * from)
 
-  pub cut-all : {r : ℕ} → r ≡ taken list from n limit 0 → r ≤ 64 → Cut list from n limit 0
-  cut-all e h = record { most = omega arith; least = inr refl; under = omega arith }
+  pub cut-all : {c r : ℕ} → c ≡ 0 → r ≡ taken list from n limit c → r ≤ 64 → Cut list from n limit c
+  cut-all z e h = record { most = omega arith; least = inr z; under = omega arith }
+
+  -- where some are taken the cut lies under the limit
+  pub cut-some : {c r : ℕ} → r ≡ taken list from n limit c → r ≤ 64 → 32 ≤ r → Cut list from n limit c
+  cut-some {c} {r} e h g = record { most = omega arith; least = inl (omega arith); under = ⊎-elim (λ (a : limitOf limit ≤ c). past a) (λ (a : c < limitOf limit). omega arith) (less-or-not (limitOf limit) c) }
+    where
+      past : limitOf limit ≤ c → c ≤ limitOf limit
+      past a = let z = band-none c (limitOf limit) a (spotsOf list from n) in let q : ⊥ = omega arith in absurd q
 
   pub between-first : {r : ℕ} → r ≡ taken list from n limit 0 → 64 < r → Between list from n limit 0 (limit .last)
   between-first {r} e h = go (limit .some) refl
@@ -198,14 +211,14 @@ module _ (list : List ℕ) (from n : ℕ) (limit : Limit) (seg : Segment list fr
       go : (b : Bool) → limit .some ≡ b → Between list from n limit 0 (limit .last)
       go false f =
           let z : limitOf limit ≡ 0 = ap (λ (b : Bool). cond b (suc (limit .last)) 0) f in
-          let g = ap (λ (t : ℕ). length (band 0 t (spotsOf list from n))) z ∙ band-none 0 (spotsOf list from n) in
+          let g = ap (λ (t : ℕ). length (band 0 t (spotsOf list from n))) z ∙ band-none 0 0 (omega arith) (spotsOf list from n) in
           let q : ⊥ = omega arith in
           absurd q
       go true f =
           let t = limitOf limit in
           let z : t ≡ suc (limit .last) = ap (λ (b : Bool). cond b (suc (limit .last)) 0) f in
           let s = band-step (limit .last) t 0 (spotsOf list from n) keyed (seg .rises) in
-          let g = ap (λ (x : ℕ). length (band (suc (limit .last)) x (spotsOf list from n))) z ∙ band-none (suc (limit .last)) (spotsOf list from n) in
+          let g = ap (λ (x : ℕ). length (band (suc (limit .last)) x (spotsOf list from n))) z ∙ band-none (suc (limit .last)) (suc (limit .last)) (omega arith) (spotsOf list from n) in
           let few : taken list from n limit (limit .last) ≤ 1 = omega arith in
           record { over = omega arith; short = omega arith; order = positive few; under = omega arith; near = omega arith }
         where

@@ -51,8 +51,65 @@ pub fn count_band(list: &[u8], from: usize, n: usize, cut: u64, limit: Limit) ->
     sum
 }
 
-// A cut by which the node takes 32 to 64 spots, or all: found by halving, so that it costs some ten passes.
-pub fn choose_cut(list: &[u8], from: usize, n: usize, limit: Limit) -> u64
+// Puts a rank key in its place among the highest 48, which stand rising, where it is higher than the least; that one falls out.
+fn admit(top: &mut [u64], r: u64)
+    requires { ⌜ length (now top) ≡ 48 ⌝ }
+    ensures { λ _. ⌜ length (now (top .exit)) ≡ 48 ⌝ }
+{
+    if r <= top[0] {
+        return;
+    }
+    let mut j = 0;
+    while j < 47 {
+        let next = top[j + 1];
+        if r <= next {
+            top[j] = r;
+            return;
+        }
+        top[j] = next;
+        j += 1;
+    }
+    top[47] = r;
+}
+
+// The 48th of the rank keys under the limit from the highest down, or 0 where they are 64 at most. Only a proposal: no proof rests on it.
+fn likely_cut(list: &[u8], from: usize, n: usize, limit: Limit) -> u64
+    requires { ⌜ Segment (now list) from n ⌝ }
+{
+    let mut top = [0u64; 48];
+    let mut all: usize = 0;
+    let mut i = 0;
+    while i < n {
+        let k = spot::read_key(list, 12 * (from + i));
+        if in_band(k, 0, limit) {
+            all += 1;
+            admit(&mut top, spot::rank_key(k));
+        }
+        i += 1;
+    }
+    if all <= 64 {
+        return 0;
+    }
+    top[0]
+}
+
+// Whether the cut is one by which the node takes 32 to 64 spots, or all.
+fn cut_fits(list: &[u8], from: usize, n: usize, limit: Limit, cut: u64) -> bool
+    requires { ⌜ Segment (now list) from n ⌝ }
+    ensures { λ r. ⌜ (r ≡ true → Cut (now (list .entry)) from n limit cut) ⌝ }
+{
+    let taken = count_band(list, from, n, cut, limit);
+    if 64 < taken {
+        return false;
+    }
+    if cut == 0 {
+        return true;
+    }
+    32 <= taken
+}
+
+// Such a cut found by halving, in as many passes as a rank key has bits at most.
+fn halved_cut(list: &[u8], from: usize, n: usize, limit: Limit) -> u64
     requires { ⌜ Segment (now list) from n ⌝ }
     ensures { λ r. ⌜ Cut (now (list .entry)) from n limit r ⌝ }
 {
@@ -76,6 +133,18 @@ pub fn choose_cut(list: &[u8], from: usize, n: usize, limit: Limit) -> u64
     lo
 }
 
+// A cut by which the node takes 32 to 64 spots, or all. The likely one fits always; that it does is not proved but tested, which costs one pass.
+pub fn choose_cut(list: &[u8], from: usize, n: usize, limit: Limit) -> u64
+    requires { ⌜ Segment (now list) from n ⌝ }
+    ensures { λ r. ⌜ Cut (now (list .entry)) from n limit r ⌝ }
+{
+    let cut = likely_cut(list, from, n, limit);
+    if cut_fits(list, from, n, limit, cut) {
+        return cut;
+    }
+    halved_cut(list, from, n, limit)
+}
+
 // The spots of the band, in place order.
 pub fn take_band(list: &[u8], from: usize, n: usize, cut: u64, limit: Limit) -> buffer::SpotBuffer
     requires { ⌜ Segment (now list) from n × (length (band cut (limitOf limit) (spotsOf (now list) from n)) ≤ 64) ⌝ }
@@ -86,7 +155,9 @@ pub fn take_band(list: &[u8], from: usize, n: usize, cut: u64, limit: Limit) -> 
     while i < n {
         let s = spot::read_spot(list, 12 * (from + i));
         if in_band(s.key, cut, limit) {
-            out = buffer::push(out, s);
+            let at = out.n;
+            out.spots[at] = s;
+            out.n = at + 1;
         }
         i += 1;
     }

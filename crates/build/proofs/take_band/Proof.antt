@@ -2,8 +2,9 @@
 -- Assumes nothing.
 use Rattle.build.proofs.Bands.{Taken, taken-none, taken-room, taken-in, taken-out, taken-all}
 use Rattle.build.specs.Building.{limitOf}
-use Prim.Native.Nat.{_-_}
+use Prim.Native.Nat.{_-_, _<_}
 use mathlib.Core.Logic.{⊎-elim}
+use Rattle.buffer.proofs.Lists.{length-image}
 use borrow.Author.Needs.{needs}
 use native.Mathlib.Omega.{arith}
 use Rattle.build.proofs.take_band.Statement.{statement}
@@ -19,7 +20,7 @@ empty-requires : tie.Need-empty-requires Inv-loop μ-loop
 empty-requires c κs = search needs
 
 loop-holds : tie.Need-loop-holds Inv-loop μ-loop
-loop-holds c = taken-none _ _ _ _ _ (c .empty .ensures .0) (c .empty .ensures .1)
+loop-holds c = taken-none _ _ _ _ _ (search (needs, length-image)) (c .empty .ensures .0) (c .empty .ensures .1)
 
 add-read-spot : tie.Need-add-read-spot Inv-loop μ-loop
 add-read-spot c = omega arith
@@ -33,11 +34,20 @@ read-spot-requires c κs = omega arith
 in-band-requires : tie.Need-in-band-requires Inv-loop μ-loop
 in-band-requires c κs = omega arith
 
-push-requires : tie.Need-push-requires Inv-loop μ-loop
-push-requires c κs =
+-- there is room for one more
+room : (c : tie.Then1 Inv-loop μ-loop) → c .before .before .before .before .loop .out .n < 64
+room c =
     let a = c .before .before .before .before .before .before .before .args in
-    let m = taken-room (a .list .now) (a .from) (a .n) (a .cut) (limitOf (a .limit)) (c .before .before .before .before .loop .inv) (c .before .before .before .loop-test .taken) (c .before .before .read-spot .ensures) (c .before .in-band .ensures) (c .if1 .taken) (c .before .before .before .before .before .before .before .pre .1) in
-    omega arith
+    taken-room (a .list .now) (a .from) (a .n) (a .cut) (limitOf (a .limit)) (c .before .before .before .before .loop .inv) (c .before .before .before .loop-test .taken) (c .before .before .read-spot .ensures) (c .before .in-band .ensures) (c .if1 .taken) (c .before .before .before .before .before .before .before .pre .1)
+
+mul-s : tie.Need-mul-s Inv-loop μ-loop
+mul-s c = let m = room c in omega arith
+
+element-set-from-s : tie.Need-element-set-from-s Inv-loop μ-loop
+element-set-from-s c = let m = room c in omega (arith, c .before .before .before .before .loop .inv .long)
+
+add-out : tie.Need-add-out Inv-loop μ-loop
+add-out c = let m = room c in omega arith
 
 add-i : tie.Need-add-i Inv-loop μ-loop
 add-i c = omega arith
@@ -50,7 +60,7 @@ loop-again c =
     let a = c .before .before .before .before .before .before .before .args in
     let r = c .before .before .before .before .loop .inv in
     let l = c .before .before .before .loop-test .taken in
-    ⊎-elim (λ w. taken-in (a .list .now) (a .from) (a .n) (a .cut) (limitOf (a .limit)) r l (c .before .before .read-spot .ensures) (c .before .in-band .ensures) (w .0 .taken) (w .1 .ensures .0) (w .1 .ensures .1) (w .2))
+    ⊎-elim (λ w. taken-in (a .list .now) (a .from) (a .n) (a .cut) (limitOf (a .limit)) r l (c .before .before .read-spot .ensures) (c .before .in-band .ensures) (w .0 .taken) (c .before .before .before .before .before .before .before .pre .1) (w .1))
     (λ w. taken-out (a .list .now) (a .from) (a .n) (a .cut) (limitOf (a .limit)) r l (c .before .before .read-spot .ensures) (c .before .in-band .ensures) (w .0 .left) (w .1))
     (c .if1 .came)
 
@@ -69,7 +79,9 @@ take-band-spec =
     mul-read-spot
     read-spot-requires
     in-band-requires
-    push-requires
+    mul-s
+    element-set-from-s
+    add-out
     add-i
     loop-less
     loop-again
