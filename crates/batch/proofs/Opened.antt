@@ -8,7 +8,7 @@ use mathlib.Core.List.{List, [], _∷_, _++_, List·Memᴰ, List·Memᴰ·not-ni
 use mathlib.Core.Option.{Option, none, some}
 use Prim.Native.Nat.{ℕ, zero, suc, _≤_, _<_}
 use native.Mathlib.Omega.{arith}
-use lib.ListN.{length, take, drop}
+use lib.ListN.{length, take, drop, length-take}
 use lib.Seq.{drop-at, length-take-le}
 use borrow.Author.Tests.{leb-true}
 use Rattle.octets.specs.Lists.{distinct}
@@ -124,12 +124,6 @@ open-spilled l m lo hi full r es b c f Spilled.none o = (r, o)
 open-spilled l m lo hi full r es b c f (Spilled.more q a s) o =
     open-spilled l m lo hi full (suc (rankKey (q .key))) es _ c f s (open-spill l m lo hi full r es b f o q (a .there) (a .least))
 
--- the first n of a list are at most n
-take-few : {A : Type 0} (n : ℕ) (l : List A) → length (take n l) ≤ n
-take-few zero l = omega arith
-take-few (suc n) [] = omega arith
-take-few (suc n) (x ∷ l) = let z = take-few n l in omega arith
-
 module _ (l : ℕ) (x : Store) (b : ℕ) (a : Asked) (lo hi : ℕ) (order : lo ≤ hi) (full : hi ≤ allKeys) (sound : Sound (suc l) x (part b a lo hi ∷ []))
     (room : ℕ) (n : NodeValue) (is : nodeIn room n ≡ x b) where
   -- what is found through it
@@ -153,7 +147,7 @@ module _ (l : ℕ) (x : Store) (b : ℕ) (a : Asked) (lo hi : ℕ) (order : lo �
       (λ (w : filled (x b) ≡ true).
       let g : 32 ≤ length (x b .points) = leb-true 32 (length (x b .points)) (all-at _ w 0) in
       let e : length (held (n .points)) ≡ length (x b .points) = ap (λ (v : Node). length (v .points)) is in
-      absurd (omega (arith, take-few (n .points .n) (n .points .spots))))
+      absurd (omega (arith, length-take (n .points .n) (n .points .spots))))
       (λ w. w)
       (node-facts l a (x b) ok .kind)
 

@@ -72,7 +72,7 @@ module _ (t : List ℕ) (b : ℕ) (s : List ℕ) (fits : b * 2048 + 2048 ≤ len
       ∙ part-part (z * 2048) 2048 (b * 2048) t (omega arith)
 
   -- what comes after the block
-  tail-same : drop (b * 2048 + 2048) (putBlock t b s) ≡ drop (b * 2048 + 2048) t
+  pub tail-same : drop (b * 2048 + 2048) (putBlock t b s) ≡ drop (b * 2048 + 2048) t
   tail-same =
       ap (drop (b * 2048 + 2048)) (sym (put-part-is t b s))
       ∙ drop-put (b * 2048) (b * 2048 + 2048) t s (omega arith) fits (whole ∙ sym (add-sub-cancel-left (b * 2048) 2048))

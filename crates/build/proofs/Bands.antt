@@ -15,11 +15,11 @@ use Rattle.octets.proofs.Records.{left, left-all, left-cons, left-none}
 use Rattle.spot.specs.declared.Spot.{Spot}
 use Rattle.spot.specs.Keys.{rankKey, within, allKeys}
 use Rattle.spot.specs.Spots.{keys, keyAt, spotAt}
-use Rattle.spot.proofs.Buffers.{keep-rises}
 use Rattle.spot.proofs.Card.{keyAt-lt}
-use Rattle.spot.proofs.Places.{within-yes, within-low, within-high}
+use Rattle.spot.proofs.Places.{within-yes}
 use Rattle.rebuild.specs.Build.{band}
-use Rattle.rebuild.proofs.Choose.{band-step, ends-apart}
+use Rattle.rebuild.proofs.Bands.{band-rises}
+use Rattle.rebuild.proofs.Choose.{band-none, band-step, ends-apart}
 use Rattle.buffer.specs.declared.SpotBuffer.{SpotBuffer}
 use Rattle.buffer.specs.Buffer.{held, Ordered}
 use Rattle.buffer.proofs.Lists.{take-push}
@@ -44,11 +44,6 @@ pub spots-keyed : (s : List ℕ) (w n at : ℕ) → every (within 0 allKeys) (ke
 unfolding spotAt
 spots-keyed s w zero at = refl
 spots-keyed s w (suc n) at = rw (within-yes 0 allKeys (keyAt s at) (omega arith) (keyAt-lt s at)) (spots-keyed s w n (at + w))
-
--- a band of rising spots rises
-pub band-rises : (c t : ℕ) (ss : List Spot) → rising (keys ss) ≡ true → rising (keys (band c t ss)) ≡ true
-unfolding band
-band-rises c t ss h = keep-rises (λ s. within c t (rankKey (s .key))) 0 ss h
 
 -- ---- one spot after the other
 
@@ -166,18 +161,9 @@ module _ (list : List ℕ) (from n c t : ℕ) where
   taken-all {out} {i} up few r h =
       let same : held out ≡ band c t (spotsOf list from n) = sym (append-nil (held out)) ∙ ap (λ (x : List Spot). held out ++ x) (sym (after-none i h)) ∙ r .whole in
       let k = taken-count r in
-      (record { fits = omega arith; up = ap (λ (x : List Spot). rising (keys x)) same ∙ band-rises c t (spotsOf list from n) up }, same, omega arith)
+      (record { fits = omega arith; up = ap (λ (x : List Spot). rising (keys x)) same ∙ band-rises c t 0 (spotsOf list from n) up }, same, omega arith)
 
 -- ---- a cut between two
-
--- none lies in an empty band
-band-none : (c t : ℕ) → t ≤ c → (ss : List Spot) → length (band c t ss) ≡ 0
-unfolding band
-band-none c t h [] = refl
-band-none c t h (s ∷ ss) = rw (nothing (rankKey (s .key))) (band-none c t h ss)
-  where
-    nothing : (r : ℕ) → within c t r ≡ false
-    nothing r = ⊎-elim (λ (a : t ≤ r). within-high c t r a) (λ (a : r < t). within-low c t r (omega arith)) (less-or-not t r)
 
 module _ (list : List ℕ) (from n : ℕ) (limit : Limit) where
   abbrev taken : ℕ → ℕ
@@ -203,7 +189,7 @@ module _ (list : List ℕ) (from n : ℕ) (limit : Limit) (seg : Segment list fr
   cut-some {c} {r} e h g = record { most = omega arith; least = inl (omega arith); under = ⊎-elim (λ (a : limitOf limit ≤ c). past a) (λ (a : c < limitOf limit). omega arith) (less-or-not (limitOf limit) c) }
     where
       past : limitOf limit ≤ c → c ≤ limitOf limit
-      past a = let z = band-none c (limitOf limit) a (spotsOf list from n) in let q : ⊥ = omega arith in absurd q
+      past a = let z = ap length (band-none c (limitOf limit) a (spotsOf list from n)) in let q : ⊥ = omega arith in absurd q
 
   pub between-first : {r : ℕ} → r ≡ taken list from n limit 0 → 64 < r → Between list from n limit 0 (limit .last)
   between-first {r} e h = go (limit .some) refl
@@ -211,14 +197,14 @@ module _ (list : List ℕ) (from n : ℕ) (limit : Limit) (seg : Segment list fr
       go : (b : Bool) → limit .some ≡ b → Between list from n limit 0 (limit .last)
       go false f =
           let z : limitOf limit ≡ 0 = ap (λ (b : Bool). cond b (suc (limit .last)) 0) f in
-          let g = ap (λ (t : ℕ). length (band 0 t (spotsOf list from n))) z ∙ band-none 0 0 (omega arith) (spotsOf list from n) in
+          let g = ap (λ (t : ℕ). length (band 0 t (spotsOf list from n))) z ∙ ap length (band-none 0 0 (omega arith) (spotsOf list from n)) in
           let q : ⊥ = omega arith in
           absurd q
       go true f =
           let t = limitOf limit in
           let z : t ≡ suc (limit .last) = ap (λ (b : Bool). cond b (suc (limit .last)) 0) f in
           let s = band-step (limit .last) t 0 (spotsOf list from n) keyed (seg .rises) in
-          let g = ap (λ (x : ℕ). length (band (suc (limit .last)) x (spotsOf list from n))) z ∙ band-none (suc (limit .last)) (suc (limit .last)) (omega arith) (spotsOf list from n) in
+          let g = ap (λ (x : ℕ). length (band (suc (limit .last)) x (spotsOf list from n))) z ∙ ap length (band-none (suc (limit .last)) (suc (limit .last)) (omega arith) (spotsOf list from n)) in
           let few : taken list from n limit (limit .last) ≤ 1 = omega arith in
           record { over = omega arith; short = omega arith; order = positive few; under = omega arith; near = omega arith }
         where

@@ -8,9 +8,7 @@ use Prim.Native.Nat.{ℕ, suc, _+_, _-_, _*_, _≤_, _<_, max}
 use native.Mathlib.Omega.{arith}
 use lib.ListN.{length}
 use Rattle.octets.proofs.Records.{length-records}
-use Rattle.octets.proofs.Tests.{keep-length}
 use Rattle.spot.specs.declared.Spot.{Spot}
-use Rattle.spot.specs.Keys.{rankKey, within}
 use Rattle.spot.specs.Spots.{spotAt}
 use Rattle.block.specs.declared.Entry.{Entry}
 use Rattle.block.specs.declared.Asked.the-variants.{Child}
@@ -21,15 +19,11 @@ use Rattle.node.specs.declared.Entries.{Entries}
 use Rattle.node.specs.Memory.{entriesOf, EntryFits, EntriesFit}
 use Rattle.rebuild.specs.Build.{leaves, nodes, fansOk, shapeOf, band, builtNode, firstKey, Built, BuildPost}
 use Rattle.rebuild.proofs.Built.{nodes-some}
-use Rattle.rebuild.proofs.Steps.{leaf-built, node-built}
+use Rattle.rebuild.proofs.Steps.{band-length, leaf-built, node-built}
 use Rattle.build.specs.declared.Limit.{Limit}
 use Rattle.build.specs.Building.{spotsOf, limitOf, Cut, Buildable, Own, OwnPut}
 use Rattle.build.proofs.Segments.{shape-step, shape-leaf, shape-length, Under, under}
 use Rattle.build.proofs.Children.{Children, children-shares}
-
-band-length : (c t : ℕ) (ys : List Spot) → length (band c t ys) ≤ length ys
-unfolding band
-band-length c t ys = keep-length (λ s. within c t (rankKey (s .key))) ys
 
 -- a block that is one of the table's has its bytes in it
 block-inside : (bytes b k : ℕ) → b + k ≤ blocksOf bytes → 1 ≤ k → b * 2048 + 2048 ≤ bytes

@@ -4,11 +4,11 @@ use mathlib.Core.Path.{_≡_, refl, ap, sym, _∙_}
 use mathlib.Core.Logic.{inl, ⊎-elim}
 use mathlib.Core.Bool.{Bool, true, false, not, _||_, or-true, or-false}
 use mathlib.Core.List.{List, _∷_, _++_, append-nil}
-use Prim.Native.Nat.{ℕ, zero, suc, _+_, _-_, _*_, _/_, _%_, _≤_, _<_}
+use Prim.Native.Nat.{ℕ, zero, suc, _+_, _-_, _*_, _≤_, _<_}
 use native.Mathlib.Nat.{zero-add, suc-add}
 use native.Mathlib.Omega.{arith}
 use lib.ListN.{length, take, drop, replicate, drop-of-length-le, length-replicate}
-use lib.Seq.{drop-set-lt, drop-drop, drop-at, take-at, length-take-le}
+use lib.Seq.{drop-drop, drop-at, take-at, length-take-le}
 use lib.Dec.{leb, ltb, eqb}
 use borrow.Author.Tests.{eq-eqb, ne-eqb, le-leb, lt-ltb, le-ltb, lt-leb, leb-true}
 use borrow.Rule.Slice.PartMut.{midOf, postOf, putMid, drop-put, mid-len}
@@ -16,7 +16,7 @@ use Rattle.octets.specs.Lists.{every}
 use Rattle.octets.specs.Bitmap.{bit, setBit}
 use Rattle.octets.specs.Bytes.{be, putBe}
 use Rattle.octets.proofs.Bits.{setBit-length}
-use Rattle.octets.proofs.Bytes.{put-length, be-put-same, be-put-other, be-left, be-take}
+use Rattle.octets.proofs.Bytes.{put-length, drop-put-be, be-put-same, be-put-other, be-left, be-take}
 use Rattle.octets.proofs.Order.{same-or-not, less-or-not, ltb-same}
 use Rattle.octets.proofs.Tests.{all-at, all-cons, all-nil}
 use Rattle.octets.proofs.UpTo.{every-upTo}
@@ -59,12 +59,6 @@ marked-all m {m′} {i} {z} r e =
     up-to b = ⊎-elim (λ (h : b ≤ z). lt-ltb b i (omega arith) ∙ sym (le-leb b z h)) (λ (h : z < b). le-ltb b i (omega arith) ∙ sym (lt-leb b z h)) (less-or-not b z)
 
 -- ---- the numbers
-
-drop-put-be : (n : ℕ) (s : List ℕ) (i v k : ℕ) → i + n ≤ k → drop k (putBe n s i v) ≡ drop k s
-unfolding putBe
-drop-put-be zero s i v k h = refl
-drop-put-be (suc n) s i v k h =
-    drop-set-lt k (putBe n s i (v / 256)) (i + n) (v % 256) (omega arith) ∙ drop-put-be n s i (v / 256) k (omega arith)
 
 zeros-drop : (k m : ℕ) → drop k (zeros (k + m)) ≡ zeros m
 zeros-drop zero m = ap (λ (j : ℕ). zeros j) (zero-add m)

@@ -17,6 +17,7 @@ use Rattle.block.specs.declared.Entry.{Entry}
 use Rattle.block.specs.Node.{openBelow, firstOpen}
 use Rattle.block.specs.NodeRules.{zeroFirst, lows}
 use Rattle.block.specs.Table.{blocksOf}
+use Rattle.block.proofs.Views.{open-zero}
 use Rattle.node.specs.declared.Entries.{Entries}
 use Rattle.node.specs.declared.NodeValue.{NodeValue}
 use Rattle.node.specs.Memory.{entriesOf, EntryFits, EntriesFit, Storable, Stored}
@@ -76,10 +77,6 @@ open-fits (x ∷ es) h e i =
   where
     first : EntryFits (openBelow x)
     first = let f = h x (List·Memᴰ·head refl) in record { block = f .block; size = f .size; top = f .top; bottom = f .bottom }
-
-open-zero : (es : List Entry) → zeroFirst (lows (firstOpen es)) ≡ true
-open-zero [] = refl
-open-zero (x ∷ es) = refl
 
 module _ (level : ℕ) (es opened-es : Entries) (points inserts : SpotBuffer) (deletes : KeyBuffer) (count : opened-es .n ≡ es .n) (open-is : entriesOf opened-es ≡ firstOpen (entriesOf es))
     (no-inserts : inserts .n ≡ 0) (no-deletes : deletes .n ≡ 0) where

@@ -4,7 +4,7 @@ use mathlib.Core.Path.{_≡_, refl, ap, sym, subst, _∙_}
 use mathlib.Core.Bool.{true, _&&_}
 use mathlib.Core.List.{List, [], _∷_, _++_}
 use Prim.Native.Nat.{ℕ, zero, suc, _+_, _-_, _*_, _≤_, max}
-use native.Mathlib.Nat.{one-le-mul, mul-comm, mul-assoc, mul-le-mul}
+use native.Mathlib.Nat.{mul-comm, mul-assoc, mul-le-mul}
 use native.Mathlib.Omega.{arith}
 use lib.ListN.{length}
 use lib.Dec.{leb}
@@ -16,6 +16,7 @@ use Rattle.octets.proofs.Tests.{and-left, and-right, and-both}
 use Rattle.spot.specs.Spots.{keys, spotAt}
 use Rattle.spot.proofs.Buffers.{keys-append}
 use Rattle.rebuild.specs.Build.{leaves, nodes, fansOk, shapeOf}
+use Rattle.rebuild.proofs.Made.{leaves-some}
 use Rattle.build.specs.Building.{spotsOf, Segment}
 
 -- ---- a part of a segment
@@ -64,12 +65,6 @@ fans-root (f ∷ fs) h =
     let a = leb-true 4 f (and-left (leb 4 f) (leb f 8 && fansOk 4 fs) h) in
     and-both (leb 2 f) (leb f 8 && fansOk 4 fs) (le-leb 2 f (omega arith)) (and-right (leb 4 f) (leb f 8 && fansOk 4 fs) h)
 
-leaves-some : (fs : List ℕ) → fansOk 4 fs ≡ true → 1 ≤ leaves fs
-leaves-some [] h = omega arith
-leaves-some (f ∷ fs) h =
-    let a = leb-true 4 f (and-left (leb 4 f) (leb f 8 && fansOk 4 fs) h) in
-    one-le-mul {a = f} {b = leaves fs} (omega arith) (leaves-some fs (and-right (leb f 8) (fansOk 4 fs) (and-right (leb 4 f) (leb f 8 && fansOk 4 fs) h)))
-
 -- n spots in block b and those after it, for `fan` children of a shape
 pub record Under (fan : ℕ) (fs : List ℕ) (n b room : ℕ) : Type 0 where
   pub two : 2 ≤ fan
@@ -90,7 +85,7 @@ under fan fs n b room ok enough space first last blocks =
     let two = leb-true 2 fan (and-left (leb 2 fan) (leb fan 8 && fansOk 4 fs) ok) in
     let later = and-right (leb 2 fan) (leb fan 8 && fansOk 4 fs) ok in
     let fans = and-right (leb fan 8) (fansOk 4 fs) later in
-    let some = leaves-some fs fans in
+    let some = leaves-some fs 4 (omega arith) fans in
     let many : 2 * 1 ≤ fan * leaves fs = mul-le-mul {n₁ = 2} {m₁ = 1} {n₂ = fan} {m₂ = leaves fs} two some in
     let cm : fan * leaves fs ≡ leaves fs * fan = mul-comm fan (leaves fs) in
     let scaled : 32 * leaves fs * fan ≡ 32 * (fan * leaves fs) = mul-assoc 32 (leaves fs) fan ∙ ap (λ (i : ℕ). 32 * i) (sym cm) in

@@ -1,4 +1,4 @@
--- The buffers of a node after one change, and after a batch of them.
+-- The buffers of a node after one change, and after a batch of them; and the node with them.
 -- Assumes nothing.
 use mathlib.Core.Path.{_≡_, refl, sym, ap, _∙_}
 use mathlib.Core.Bool.{false}
@@ -16,7 +16,9 @@ use Rattle.spot.specs.Spots.{keys, put}
 use Rattle.spot.specs.Sorted.{only, but, insertKey}
 use Rattle.spot.proofs.Buffers.{keys-only}
 use Rattle.buffer.specs.Buffer.{blank}
+use Rattle.node.specs.declared.NodeValue.{NodeValue}
 use Rattle.update.specs.Held.{Held, insertOne, deleteOne, insertAll, deleteAll}
+use Rattle.edit.specs.Edits.{heldIn, Tidy, Edited}
 
 -- P, I and D as one
 abbrev pub buffers : List Spot → List Spot → List ℕ → Held
@@ -85,3 +87,33 @@ module _ (r : ℕ) (l : List ℕ) (n : ℕ) (h : n ≤ length l) (b : Held) wher
   pub deletes-more : (i : ℕ) {c d : Held} → 0 < i → i ≤ n → c ≡ deleteAll r (drop i (take n l)) b → d ≡ deleteOne r (getD l (i - 1) 0) c
       → d ≡ deleteAll r (drop (i - 1) (take n l)) b
   deletes-more i g k e f = f ∙ ap (deleteOne r (getD l (i - 1) 0)) e ∙ ap (λ (ks : List ℕ). deleteAll r ks b) (sym (rest-more l n i 0 h g k))
+
+-- ---- a node edited: not at all, once more, and by other names for the same
+
+pub edited-none : {n : NodeValue} {b : Held} {p i d : ℕ} → heldIn n ≡ b → Tidy n → n .points .n ≤ p → n .inserts .n ≤ i → n .deletes .n ≤ d → Edited n n b p i d
+edited-none h t p i d = record { holds = h; tidy = t; entries = refl; level = refl; points = p; inserts = i; deletes = d }
+
+module _ {n x : NodeValue} {b : Held} {p i d : ℕ} (e : Edited n x b p i d) {p′ i′ d′ : ℕ} (hp : p ≤ p′) (hi : i ≤ i′) (hd : d ≤ d′) where
+  pub edited-same : {c : Held} → b ≡ c → Edited n x c p′ i′ d′
+  edited-same h =
+      record {
+        holds = e .holds ∙ h;
+        tidy = e .tidy;
+        entries = e .entries;
+        level = e .level;
+        points = omega (arith, e .points);
+        inserts = omega (arith, e .inserts);
+        deletes = omega (arith, e .deletes);
+      }
+
+  pub edited-more : {m : NodeValue} {a c : Held} {q j k : ℕ} → Edited m n a q j k → heldIn x ≡ c → Edited m x c p′ i′ d′
+  edited-more f h = let r = edited-same (sym (e .holds) ∙ h) in
+      record {
+        holds = h;
+        tidy = r .tidy;
+        entries = r .entries ∙ f .entries;
+        level = r .level ∙ f .level;
+        points = r .points;
+        inserts = r .inserts;
+        deletes = r .deletes;
+      }

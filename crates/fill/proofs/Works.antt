@@ -3,10 +3,10 @@
 use mathlib.Core.Path.{_≡_, sym, ap, _∙_, subst, subst⁻¹}
 use mathlib.Core.Logic.{_⊎_, inl, inr, ⊎-elim}
 use mathlib.Core.Bool.{true, false, true≢false}
-use mathlib.Core.List.{List, [], _∷_, _++_, List·Memᴰ, List·Memᴰ·tail, List·Memᴰ·cases-cons, Memᴰ·append-left, Memᴰ·append-right, List·Memᴰ·append-cases}
-use Prim.Native.Nat.{ℕ, zero, suc, _≤_, _<_}
+use mathlib.Core.List.{List, _∷_, _++_, List·Memᴰ, List·Memᴰ·tail, List·Memᴰ·cases-cons, Memᴰ·append-left, Memᴰ·append-right, List·Memᴰ·append-cases}
+use Prim.Native.Nat.{ℕ, suc, _≤_, _<_}
 use native.Mathlib.Omega.{arith}
-use lib.ListN.{length, take, drop}
+use lib.ListN.{length, take, drop, length-take}
 use Rattle.block.specs.declared.Entry.{Entry}
 use Rattle.block.specs.Table.{blocksOf}
 use Rattle.block.specs.Node.{storeOf}
@@ -27,9 +27,7 @@ use Rattle.fill.specs.Filling.{Inside, Workable, RoundPost, GoesOn, Repl
 
 -- a first part is no longer than asked
 pub few : {A : Type 0} (i : ℕ) (l : List A) → length (take i l) ≤ i
-few zero l = omega arith
-few (suc i) [] = omega arith
-few (suc i) (x ∷ xs) = let z = few i xs in omega arith
+few i l = omega (arith, length-take i l)
 
 -- one entry for another: what is there then
 one-more : (us vs : List Entry) (e e′ : Entry) {d : Entry} → List·Memᴰ d (us ++ (e′ ∷ vs)) → (d ≡ e′) ⊎ List·Memᴰ d (us ++ (e ∷ vs))

@@ -5,16 +5,16 @@ use mathlib.Core.Logic.{⊎-elim}
 use mathlib.Core.Bool.{Bool, true, false, cond}
 use mathlib.Core.List.{List, [], _++_, append-nil}
 use Prim.Native.Nat.{ℕ, zero, suc, _+_, _*_, _-_, _/_, _≤_, _<_}
-use native.Mathlib.Nat.{add-sub-cancel-left}
 use native.Mathlib.Omega.{arith}
 use lib.ListN.{length, getD, take, drop, replicate, getD-replicate, length-replicate, drop-of-length-le, List·getD-eq-default}
-use lib.Seq.{take-add, take-all, drop-drop}
-use borrow.Rule.Slice.PartMut.{midOf, putMid, drop-put}
+use lib.Seq.{take-add, take-all}
+use borrow.Rule.Slice.PartMut.{midOf, putMid}
 use Rattle.octets.specs.Bitmap.{bit, setBit}
 use Rattle.octets.proofs.Order.{same-or-not, less-or-not}
+use Rattle.octets.proofs.Parts.{drop-more}
 use Rattle.octets.proofs.Bits.{bit-cong, bit-past, setBit-length, setBit-same, setBit-other}
 use Rattle.block.specs.Table.{block, blocksOf, putBlock}
-use Rattle.block.proofs.Frames.{block-length, put-length, part-is, put-part-is, block-put-same, block-put-other}
+use Rattle.block.proofs.Frames.{block-length, put-length, part-is, put-part-is, tail-same, block-put-same, block-put-other}
 use Rattle.journal.specs.Journal.{before, Undoable, Kept, Undone}
 
 -- ---- steps
@@ -62,17 +62,6 @@ module _ (t s map : List ℕ) (b : ℕ) where
 
 -- ---- the two steps of a call
 
--- a block put in changes nothing from its end on
-put-after : (s : List ℕ) (b : ℕ) (x : List ℕ) (n : ℕ) → b * 2048 + 2048 ≤ length s → length x ≡ 2048 → b * 2048 + 2048 ≤ n → drop n (putBlock s b x) ≡ drop n s
-put-after s b x n fits whole h =
-    let e : ℕ = b * 2048 + 2048 in
-    let k : e + (n - e) ≡ n = omega arith in
-    let from : (y : List ℕ) → drop n y ≡ drop (n - e) (drop e y) = λ y. ap (λ (m : ℕ). drop m y) (sym k) ∙ sym (drop-drop (n - e) e y) in
-    let same : drop e (putBlock s b x) ≡ drop e s =
-    ap (drop e) (sym (put-part-is s b x)) ∙ drop-put (b * 2048) e s x (omega arith) fits (whole ∙ sym (add-sub-cancel-left (b * 2048) 2048))
-    in
-    from (putBlock s b x) ∙ ap (drop (n - e)) same ∙ sym (from s)
-
 -- a block copied from one table to another
 pub copied-is : (t s : List ℕ) (b : ℕ) → b * 2048 + 2048 ≤ length t → b * 2048 + 2048 ≤ length s
     → putMid (b * 2048) (b * 2048 + 2048 - b * 2048) t
@@ -101,7 +90,7 @@ module _ (t s map : List ℕ) (u : Undoable t s map) (b : ℕ) (h : b < blocksOf
         table = refl;
         scratch = put-length s b (block t b) room sized;
         mapped = setBit-length map b;
-        rest = put-after s b (block t b) (length t) room sized fits;
+        rest = drop-more (putBlock s b (block t b)) s (b * 2048 + 2048) (length t) fits (tail-same s b (block t b) room sized);
       }
     where
       room : b * 2048 + 2048 ≤ length s

@@ -8,7 +8,7 @@ use Prim.Native.Nat.{ℕ, zero, suc, _+_, _*_, _≤_, _<_}
 use native.Mathlib.Nat.{mul-zero, mul-suc}
 use native.Mathlib.Omega.{arith}
 use lib.Dec.{eqb, leb, ltb}
-use borrow.Author.Tests.{eqb-true, lt-ltb}
+use borrow.Author.Tests.{eqb-true}
 use Rattle.octets.specs.Lists.{has, records, rising}
 use Rattle.octets.proofs.Sets.{not-has-mem}
 use Rattle.spot.specs.declared.Spot.{Spot}
@@ -22,16 +22,15 @@ use Rattle.block.proofs.Shut.{all2}
 use Rattle.tree.specs.Lookup.{orElse, nodeWord}
 use Rattle.visit.specs.declared.Span.{Span}
 use Rattle.visit.specs.Visit.{keysFrom, belowIn, endOf}
+use Rattle.tree.proofs.Says.{else-cond}
+use Rattle.visit.proofs.Spans.{before-end}
+use Rattle.visit.proofs.Counts.{spot-key}
 use Rattle.visit.proofs.Runs.{Runs}
 use Rattle.visit.proofs.Search.{run-has-none, run-has}
 use Rattle.lookup.specs.declared.Found.{Found}
 use Rattle.lookup.specs.Words.{foundIn}
 
 -- ---- a range
-
-before-end : (endless : Bool) (x hi : ℕ) → x < allKeys → endless || ltb x hi ≡ ltb x (cond endless allKeys hi)
-before-end true x hi h = sym (lt-ltb x allKeys h)
-before-end false x hi h = refl
 
 pub holds-is : (s : Span) (k : ℕ) → k < allKeys → leb (s .lo) k && (s .endless || ltb k (s .hi)) ≡ within (s .lo) (endOf s) k
 unfolding within
@@ -48,10 +47,6 @@ record-in f w (suc n) at zero h =
 record-in f w (suc n) at (suc i) h =
     let e : at + w + w * i ≡ at + w * suc i = omega (arith, mul-suc w i) in
     List·Memᴰ·tail (subst (λ (j : ℕ). List·Memᴰ (f j) (records f w n (at + w))) e (record-in f w n (at + w) i (omega arith)))
-
-spot-key : (t : List ℕ) (i : ℕ) → spotAt t i .key ≡ keyAt t i
-unfolding spotAt
-spot-key t i = refl
 
 module _ (t : List ℕ) (n at k : ℕ) (up : rising (keysFrom t 12 n at) ≡ true) where
   abbrev spots : List Spot
@@ -83,10 +78,6 @@ module _ (t : List ℕ) (n at k : ℕ) (up : rising (keysFrom t 12 n at) ≡ tru
 
 -- ---- a node
 
-else-cond : (b : Bool) (a : ℕ) (o : Option ℕ) → orElse (cond b (some a) none) o ≡ cond b (some a) o
-else-cond true a o = refl
-else-cond false a o = refl
-
 -- what is found in a run is what the node has
 module _ (t : List ℕ) (b : ℕ) (h : Front) (r : Runs t b h) (k : ℕ) where
   pub points-find : {x : ℕ} {o : Option ℕ} → x ≡ pointsFrom version1 (h .c) → o ≡ find k (records (spotAt t) 12 (h .p) (b * 2048 + x)) → o ≡ find k (storeOf t b .points)
@@ -114,4 +105,4 @@ module _ (n : Node) (k : ℕ) (p : Found) (e : foundIn p ≡ find k (n .points))
   word-change y s d f g =
       point-is y ∙ ap (λ (o : Option ℕ). orElse o (cond (has k (n .deletes)) none below)) (sym f)
       ∙ ap (λ (z : Bool). orElse (foundIn s) (cond z none below)) (sym g)
-      ∙ else-cond (s .there) (s .track) (cond d none below)
+      ∙ sym (else-cond (s .there) (s .track) none (cond d none below))

@@ -7,7 +7,7 @@ use Prim.Native.Nat.{ℕ, zero, suc, _+_, _*_, _/_, _%_, _^_, _≤_, _<_}
 use native.Mathlib.Nat.{add-zero, add-suc, pow-suc, mul-assoc}
 use native.Mathlib.Omega.{arith}
 use lib.ListN.{length, getD, set, take, drop, length-set, length-append, length-drop, take-append-drop, List·getD-append}
-use lib.Seq.{getD-set-same, getD-set-other, getD-take, getD-drop, getD-append-add, drop-cons, take-suc, set-at, length-take-le}
+use lib.Seq.{getD-set-same, getD-set-other, getD-take, getD-drop, getD-append-add, drop-cons, drop-set-lt, take-suc, set-at, length-take-le}
 use Rattle.octets.specs.Bytes.{be, bytesOf, putBe}
 
 -- ---- reading
@@ -71,6 +71,13 @@ put-other zero s i v j h = refl
 put-other (suc n) s i v j h =
     getD-set-other (putBe n s i (v / 256)) (i + n) j (v % 256) 0 (⊎-elim (λ l e. omega arith) (λ l e. omega arith) h)
     ∙ put-other n s i (v / 256) j (⊎-elim (λ l. inl l) (λ l. inr (omega arith)) h)
+
+-- so are all those behind them
+pub drop-put-be : (n : ℕ) (s : List ℕ) (i v k : ℕ) → i + n ≤ k → drop k (putBe n s i v) ≡ drop k s
+unfolding putBe
+drop-put-be zero s i v k h = refl
+drop-put-be (suc n) s i v k h =
+    drop-set-lt k (putBe n s i (v / 256)) (i + n) (v % 256) (omega arith) ∙ drop-put-be n s i (v / 256) k (omega arith)
 
 -- a number that stands apart from the written one is as it was
 pub be-put-other : (m n : ℕ) (s : List ℕ) (i v j : ℕ) → (j + m ≤ i) ⊎ (i + n ≤ j) → be m (putBe n s i v) j ≡ be m s j

@@ -1,12 +1,12 @@
--- Numbers written in a part of a list that was lent and came back, `putMid a k s ..`, said of the whole list.
+-- Numbers written in a part of a list that was lent and came back, `putMid a k s ..`, said of the whole list; and what lies behind a place.
 -- Assumes nothing.
 use mathlib.Core.Path.{_≡_, sym, ap, _∙_}
 use mathlib.Core.List.{List, [], _∷_, _++_}
-use Prim.Native.Nat.{ℕ, zero, suc, _+_, _/_, _%_, _≤_, _<_}
+use Prim.Native.Nat.{ℕ, zero, suc, _+_, _-_, _/_, _%_, _≤_, _<_}
 use native.Mathlib.Nat.{suc-add, zero-add}
 use native.Mathlib.Omega.{arith}
-use lib.ListN.{length, set, take}
-use lib.Seq.{set-append-left, length-take-le}
+use lib.ListN.{length, set, take, drop}
+use lib.Seq.{set-append-left, length-take-le, drop-drop}
 use borrow.Rule.Slice.PartMut.{midOf, postOf, putMid, put-same}
 use Rattle.octets.specs.Bytes.{putBe}
 use Rattle.octets.proofs.Bytes.{put-length}
@@ -23,6 +23,12 @@ module _ {A : Type 0} where
       ap (λ (z : List A). take a s ++ z) (sym (set-append-left p (postOf a k s) j v l))
       ∙ sym (set-append-right (take a s) (p ++ postOf a k s) j v)
       ∙ ap (λ (n : ℕ). set (putMid a k s p) (n + j) v) (length-take-le a s h)
+
+  -- what is the same behind a place is the same behind each later one
+  pub drop-more : (s u : List A) (a b : ℕ) → a ≤ b → drop a s ≡ drop a u → drop b s ≡ drop b u
+  drop-more s u a b h e =
+      let g : b ≡ a + (b - a) = omega arith in
+      ap (λ (i : ℕ). drop i s) g ∙ sym (drop-drop (b - a) a s) ∙ ap (drop (b - a)) e ∙ drop-drop (b - a) a u ∙ ap (λ (i : ℕ). drop i u) (sym g)
 
 -- a number written in the part is written in the whole
 pub put-part : (n a k : ℕ) (s : List ℕ) (i v : ℕ) → a ≤ length s → i + n ≤ length (midOf a k s)

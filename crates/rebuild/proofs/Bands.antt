@@ -38,7 +38,7 @@ find-band : (c t k : ℕ) (ys : List Spot) → find k (band c t ys) ≡ cond (wi
 unfolding band
 find-band c t k ys = find-only (λ j. within c t (rankKey j)) k ys
 
-band-rises : (c t a : ℕ) (ys : List Spot) → risingFrom a (keys ys) ≡ true → risingFrom a (keys (band c t ys)) ≡ true
+pub band-rises : (c t a : ℕ) (ys : List Spot) → risingFrom a (keys ys) ≡ true → risingFrom a (keys (band c t ys)) ≡ true
 unfolding band
 band-rises c t a ys h = keep-rises (λ s. within c t (rankKey (s .key))) a ys h
 

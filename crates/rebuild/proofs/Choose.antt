@@ -81,13 +81,14 @@ band-step c t a (s ∷ ss) keyed up =
     miss false true e h = absurd (true≢false (sym e))
     miss false false e h = h
 
-band-none : (t : ℕ) (ss : List Spot) → band t t ss ≡ []
+-- none lies in an empty band
+pub band-none : (c t : ℕ) → t ≤ c → (ss : List Spot) → band c t ss ≡ []
 unfolding band
-band-none t [] = refl
-band-none t (s ∷ ss) = rw (nothing (rankKey (s .key))) (band-none t ss)
+band-none c t h [] = refl
+band-none c t h (s ∷ ss) = rw (nothing (rankKey (s .key))) (band-none c t h ss)
   where
-    nothing : (r : ℕ) → within t t r ≡ false
-    nothing r = ⊎-elim (λ (a : t ≤ r). within-high t t r a) (λ (a : r < t). within-low t t r a) (less-or-not t r)
+    nothing : (r : ℕ) → within c t r ≡ false
+    nothing r = ⊎-elim (λ (a : t ≤ r). within-high c t r a) (λ (a : r < t). within-low c t r (omega arith)) (less-or-not t r)
 
 -- where to cut
 pub record Choice (t : ℕ) (ys : List Spot) : Type 0 where
@@ -106,7 +107,7 @@ module _ (t : ℕ) (ys : List Spot) (up : rising (keys ys) ≡ true) (keyed : ev
 
   -- such a cut exists
   pub choose : Choice t ys
-  choose = choose-from t (omega arith) (let e = ap (λ (l : List Spot). length l) (band-none t ys) in omega (arith, e))
+  choose = choose-from t (omega arith) (let e = ap (λ (l : List Spot). length l) (band-none t t (omega arith) ys) in omega (arith, e))
 
 -- A search by halving ends: between a cut that takes too many and one that takes too few there is another.
 pub ends-apart : (t lo hi : ℕ) (ys : List Spot) → rising (keys ys) ≡ true → every (within 0 allKeys) (keys ys) ≡ true → lo < hi → 64 < length (band lo t ys)

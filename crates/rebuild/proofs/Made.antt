@@ -122,7 +122,8 @@ module _ (fs : List ℕ) (room c : ℕ) (some : 1 ≤ leaves fs) (deeper : (old 
             h;
       }
 
-leaves-some : (fs : List ℕ) (least : ℕ) → 1 ≤ least → fansOk least fs ≡ true → 1 ≤ leaves fs
+-- a shape has a leaf
+pub leaves-some : (fs : List ℕ) (least : ℕ) → 1 ≤ least → fansOk least fs ≡ true → 1 ≤ leaves fs
 leaves-some [] least h g = omega arith
 leaves-some (f ∷ fs) least h g =
     let a = leb-true least f (and-left (leb least f) (leb f 8 && fansOk 4 fs) g) in

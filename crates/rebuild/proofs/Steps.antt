@@ -23,7 +23,8 @@ use Rattle.rebuild.specs.Build.{firstKey, BuildPost, nodes, band, builtN
 use Rattle.rebuild.proofs.Built.{nodes-some, starts-some}
 use Rattle.rebuild.proofs.Kept.{Alike, shares-kept, built-kept}
 
-band-length : (c t : ℕ) (ys : List Spot) → length (band c t ys) ≤ length ys
+-- a band has no more spots than there are
+pub band-length : (c t : ℕ) (ys : List Spot) → length (band c t ys) ≤ length ys
 unfolding band
 band-length c t ys = keep-length (λ s. within c t (rankKey (s .key))) ys
 

@@ -2,7 +2,7 @@
 -- Assumes nothing.
 use mathlib.Core.Path.{_≡_, refl, sym, ap, ap₂, subst, _∙_}
 use mathlib.Core.Logic.{⊎-elim}
-use mathlib.Core.Bool.{Bool, true, false, cond, _&&_, _||_, and-true}
+use mathlib.Core.Bool.{Bool, true, _&&_, _||_, and-true}
 use mathlib.Core.List.{List, [], _∷_, _++_, List·Memᴰ, List·Memᴰ·head, List·Memᴰ·cases-cons, List·Memᴰ·append-cases, List·Memᴰ·eq-of-singleton, Memᴰ·append-right}
 use Prim.Native.Nat.{ℕ, suc, _+_, _-_, _*_, _≤_, _<_}
 use native.Mathlib.Omega.{arith}
@@ -13,11 +13,11 @@ use Rattle.octets.specs.Lists.{every, records, rest, rising}
 use Rattle.octets.specs.Bytes.{be}
 use Rattle.octets.proofs.Order.{stride}
 use Rattle.octets.proofs.Tests.{bool-ext, and-left, and-right, and-both, every-mem, every-make, every-append}
-use Rattle.octets.proofs.Records.{records-more, records-cong}
+use Rattle.octets.proofs.Records.{records-more}
 use Rattle.octets.proofs.Rising.{rising-rest, rising-least, rising-before}
-use Rattle.spot.specs.Keys.{allKeys, within}
+use Rattle.spot.specs.Keys.{within}
 use Rattle.spot.specs.Spots.{keys, keyAt}
-use Rattle.spot.proofs.Card.{keyAt-part, keyAt-lt}
+use Rattle.spot.proofs.Card.{keyAt-lt}
 use Rattle.spot.proofs.Places.{within-yes, within-from, within-to}
 use Rattle.spot.proofs.Buffers.{keys-records}
 use Rattle.block.specs.declared.Asked.the-variants.{Root}
@@ -33,7 +33,8 @@ use Rattle.block.proofs.Frames.{part-is}
 use Rattle.tree.specs.Sound.{inRange}
 use Rattle.visit.specs.declared.Span.{Span}
 use Rattle.visit.specs.Visit.{keysFrom, endOf, partOf}
-use Rattle.visit.proofs.Runs.{Ready, Runs, runs-of, points-ready, inserts-ready, deletes-ready}
+use Rattle.visit.proofs.Spans.{before-end}
+use Rattle.visit.proofs.Runs.{keys-run, Ready, Runs, runs-of, points-ready, inserts-ready, deletes-ready}
 use Rattle.query.proofs.Children.{lent, few-children}
 
 -- ---- keys that rise
@@ -82,10 +83,6 @@ module _ (f : ℕ → ℕ) (w at : ℕ) where
           (λ j. let e : x ≡ last = List·Memᴰ·eq-of-singleton j in omega arith)
           (List·Memᴰ·append-cases (records f w k at) (subst (λ (l : List ℕ). List·Memᴰ x l) more i))
 
-before-end : (endless : Bool) (x hi : ℕ) → x < allKeys → endless || ltb x hi ≡ ltb x (cond endless allKeys hi)
-before-end true x hi h = sym (lt-ltb x allKeys h)
-before-end false x hi h = refl
-
 pub keys-none : (t : List ℕ) (w n at lo hi : ℕ) → n ≡ 0 → true ≡ every (within lo hi) (keysFrom t w n at)
 keys-none t w n at lo hi e = ap (λ (k : ℕ). every (within lo hi) (keysFrom t w k at)) (sym e)
 
@@ -114,14 +111,6 @@ pub record Run (t : List ℕ) (w n at : ℕ) (ks : List ℕ) : Type 0 where
 
 ready : {t : List ℕ} {w n at : ℕ} {ks : List ℕ} → Ready t at w n → ks ≡ keysFrom t w n at → Run t w n at ks
 ready r e = record { asks = (r .0, omega (arith, r .1), r .2, r .3, r .4); same = e }
-
--- a run of keys in the block's bytes, and in the table
-run-part : (t : List ℕ) (b w n at : ℕ) → 8 ≤ w → at + w * n ≤ 2048 → keysFrom (block t b) w n at ≡ keysFrom t w n (b * 2048 + at)
-run-part t b w n at h l =
-    records-cong (keyAt (block t b)) (keyAt t) w n at (b * 2048 + at)
-    (λ i k.
-    let e : b * 2048 + (at + w * i) ≡ b * 2048 + at + w * i = omega arith in
-    keyAt-part (b * 2048) 2048 t (at + w * i) (omega (arith, stride w k)) ∙ ap (keyAt t) e)
 
 -- by the front that was read in the bytes lent
 module _ (t : List ℕ) (b : ℕ) (v : ValidBlock t b) {h : Front} (e : h ≡ frontOf (lent t b)) where
@@ -154,7 +143,7 @@ module _ (t : List ℕ) (b : ℕ) (v : ValidBlock t b) {h : Front} (e : h ≡ fr
       let f : h ≡ frontOf (block t b) = e ∙ ap frontOf (part-is t b) in
       let l : h .c ≤ 8 = omega (arith, few-children t b (v .level) (v .asked) (v .ok), ap (λ (x : Front). x .c) e) in
       let g : rest (lows (storeOf t b .entries)) ≡ keysFrom t 28 (h .c - 1) (b * 2048 + 40) =
-      lows-are ∙ ap (λ (x : Front). keysFrom (block t b) 28 (x .c - 1) 40) (sym f) ∙ run-part t b 28 (h .c - 1) 40 (omega arith) (omega arith)
+      lows-are ∙ ap (λ (x : Front). keysFrom (block t b) 28 (x .c - 1) 40) (sym f) ∙ sym (keys-run t b 28 (h .c - 1) 40 (omega arith) (omega arith))
       in
       record {
         asks = (

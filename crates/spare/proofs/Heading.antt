@@ -1,20 +1,20 @@
 -- Block 0 after an update: its numbers written, its map marked, and what it says then.
 -- Assumes nothing.
-use mathlib.Core.Path.{_≡_, refl, sym, ap, _∙_}
+use mathlib.Core.Path.{_≡_, sym, ap, _∙_}
 use mathlib.Core.Logic.{inl, ⊎-elim}
 use mathlib.Core.Bool.{true, false, not}
 use mathlib.Core.List.{List, _++_, List·Memᴰ}
-use Prim.Native.Nat.{ℕ, zero, suc, _+_, _-_, _*_, _/_, _%_, _≤_, _<_}
+use Prim.Native.Nat.{ℕ, _+_, _-_, _*_, _≤_, _<_}
 use native.Mathlib.Omega.{arith}
 use lib.ListN.{length, take, drop}
-use lib.Seq.{drop-set-lt, drop-drop, drop-at, take-at, length-take-le}
+use lib.Seq.{drop-drop, drop-at, take-at, length-take-le}
 use lib.Dec.{eqb}
 use borrow.Author.Tests.{eq-eqb, le-leb, lt-ltb}
 use borrow.Rule.Slice.PartMut.{midOf, postOf, putMid, drop-put, mid-len}
 use Rattle.octets.specs.Lists.{every}
 use Rattle.octets.specs.Bitmap.{bit}
 use Rattle.octets.specs.Bytes.{be, putBe}
-use Rattle.octets.proofs.Bytes.{put-length, be-put-same, be-put-other, be-left, be-take}
+use Rattle.octets.proofs.Bytes.{put-length, drop-put-be, be-put-same, be-put-other, be-left, be-take}
 use Rattle.octets.proofs.Sets.{in-or-not}
 use Rattle.octets.proofs.Tests.{all-cons, all-nil}
 use Rattle.octets.proofs.UpTo.{every-upTo}
@@ -27,12 +27,6 @@ use Rattle.block.proofs.Frames.{put-length as put-block-length, block-put-same,
 use Rattle.spare.specs.declared.Spare.{Spare}
 use Rattle.spare.specs.Spares.{takenOf, TakenFits, Marked, HeadTurned, HeadFits, Reheaded}
 use Rattle.spare.proofs.Taking.{taken-spare}
-
-drop-put-be : (n : ℕ) (s : List ℕ) (i v k : ℕ) → i + n ≤ k → drop k (putBe n s i v) ≡ drop k s
-unfolding putBe
-drop-put-be zero s i v k h = refl
-drop-put-be (suc n) s i v k h =
-    drop-set-lt k (putBe n s i (v / 256)) (i + n) (v % 256) (omega arith) ∙ drop-put-be n s i (v / 256) k (omega arith)
 
 -- ---- the block: three numbers and the map
 

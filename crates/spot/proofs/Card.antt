@@ -12,7 +12,7 @@ use lib.Seq.{getD-take, getD-drop, getD-append-add, length-take-le, take-at, dro
 use mir.Syntax.{w32}
 use mir.Val.{toZ, ofZ}
 use Rattle.octets.specs.Bytes.{be, bytesOf, putBe}
-use Rattle.octets.proofs.Bytes.{be-cong, be-lt, be-left, be-right, be-bytesOf, length-bytesOf, put-length, put-other, put-eq, be-put-same, be-put-other}
+use Rattle.octets.proofs.Bytes.{be-cong, be-lt, be-left, be-right, be-bytesOf, length-bytesOf, put-length, put-other, drop-put-be, put-eq, be-put-same, be-put-other}
 use Rattle.spot.specs.declared.Spot.{Spot}
 use Rattle.spot.specs.Keys.{word, allKeys, turned, biased, key}
 use Rattle.spot.specs.Spots.{keyAt, spotAt, keyBytes, spotBytes, putKey, putSpot}
@@ -192,6 +192,15 @@ unfolding putSpot
 putSpot-other s i x j h =
     put-other 4 (putKey s i (x .key)) (i + 8) (x .track) j (⊎-elim (λ l. inl (omega arith)) (λ l. inr (omega arith)) h)
     ∙ putKey-other s i (x .key) j (⊎-elim (λ l. inl l) (λ l. inr (omega arith)) h)
+
+-- so are all those behind them
+pub drop-putSpot : (s : List ℕ) (i : ℕ) (x : Spot) (k : ℕ) → i + 12 ≤ k → drop k (putSpot s i x) ≡ drop k s
+unfolding putSpot putKey
+drop-putSpot s i x k h =
+    let a : List ℕ = putBe 4 s i (turned (x .key / word)) in
+    drop-put-be 4 (putBe 4 a (i + 4) (turned (x .key % word))) (i + 8) (x .track) k (omega arith)
+    ∙ drop-put-be 4 a (i + 4) (turned (x .key % word)) k (omega arith)
+    ∙ drop-put-be 4 s i (turned (x .key / word)) k (omega arith)
 
 pub be-putSpot-other : (m : ℕ) (s : List ℕ) (i : ℕ) (x : Spot) (j : ℕ) → (j + m ≤ i) ⊎ (i + 12 ≤ j) → be m (putSpot s i x) j ≡ be m s j
 be-putSpot-other m s i x j h =

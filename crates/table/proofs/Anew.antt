@@ -22,6 +22,7 @@ use Rattle.block.specs.Table.{sizedFor, tableSized, capacity, blocksOf}
 use Rattle.block.specs.Header.{headOf}
 use Rattle.block.specs.Checks.{keysAt}
 use Rattle.block.proofs.Facts.{head-facts}
+use Rattle.tree.specs.Lookup.{live}
 use Rattle.tree.specs.Walk.{walkTable, isBroken, spots, liveSpots}
 use Rattle.tree.specs.Sound.{sound}
 use Rattle.tree.proofs.Tables.{sound-header, live-rises, count-finds, counted}
@@ -35,6 +36,7 @@ use Rattle.table.specs.Answers.{lengths, lent, lengthNumber, outcomes}
 use Rattle.table.specs.Updates.{scratchLeft, RebuildPost}
 use Rattle.table.specs.Anew.{Anew}
 use Rattle.table.proofs.Answering.{told-broken, told-whole}
+use Rattle.table.proofs.Changes.{number-is, update-short, update-lent}
 
 live-are : (t : List ℕ) → spots (walkTable t everything) ≡ liveSpots t
 unfolding liveSpots
@@ -131,36 +133,16 @@ module _ (t w w′ : List ℕ) (ok : Bool) (n r : ℕ) (z : tableSized (length t
 abbrev asked : List ℕ → List ℕ → ℕ
 asked t w = lengthNumber (lengths t [] [] w) rebuild
 
-number-is : {r : Answer} {n : ℕ} → r ≡ answer n 0 → r .number ≡ n
-number-is a = ap (λ (x : Answer). x .number) a
-
--- refused by the lengths: everything is as it was
-rebuild-refused : (t w : List ℕ) (r : Answer) (n : ℕ) → n ≢ 0 → asked t w ≡ n → scratchLeft (length t) n w ≡ w → r ≡ answer n 0 → RebuildPost t w r t w
-rebuild-refused t w r n some l left a =
-    record {
-      update =
-          record {
-            detail = ap (λ (x : Answer). x .detail) a;
-            refusals = λ h. number-is a ∙ sym l;
-            header = λ h. absurd (some (sym l ∙ h));
-            numbers = λ h. absurd (some (sym l ∙ h));
-            unchanged = λ h. refl;
-            sized = refl;
-            scratch = sym left ∙ ap (λ (i : ℕ). scratchLeft (length t) i w) (sym (number-is a));
-            number = λ s h. absurd (some (sym l ∙ h));
-            staysSound = λ s. s;
-            liveAfter = λ s h k. refl;
-          };
-      carriedOut = λ s h. absurd (some (sym (number-is a) ∙ h));
-    }
-
 pub rebuild-short : (t w : List ℕ) (r : Answer) → tableSized (length t) ≡ false → r ≡ answer 1 0 → RebuildPost t w r t w
-unfolding lengthNumber scratchLeft
-rebuild-short t w r e a = rebuild-refused t w r 1 (λ h. omega arith) (rw e) refl a
+rebuild-short t w r e a =
+    record { update = update-short rebuild 0 (live t) t w r e a; carriedOut = λ s h. let z : ⊥ = omega (arith, sym (number-is a) ∙ h) in absurd z }
 
 pub rebuild-lent : (t w : List ℕ) (r : Answer) → tableSized (length t) ≡ true → length w < length t → r ≡ answer 2 0 → RebuildPost t w r t w
-unfolding lengthNumber scratchLeft
-rebuild-lent t w r e h a = rebuild-refused t w r 2 (λ x. omega arith) (rw (e, lt-leb (length t) (length w) h)) refl a
+rebuild-lent t w r e h a =
+    record {
+      update = update-lent rebuild 0 (live t) t w r e (lt-leb (length t) (length w) h) a;
+      carriedOut = λ s y. let z : ⊥ = omega (arith, sym (number-is a) ∙ y) in absurd z;
+    }
 
 -- the lengths are right: laid out anew, or a rule is broken, and then the scratch is cleared
 module _ (t t′ w w′ w″ : List ℕ) (r : Answer) (ok : Bool) (e : tableSized (length t) ≡ true) (l : length t ≤ length w) (g : Anew t t′ w w′ ok)

@@ -11,7 +11,8 @@ use Rattle.spot.specs.Query.{query, topQuery, wants}
 use Rattle.block.specs.declared.Answer.{Answer}
 use Rattle.tree.specs.Lookup.{isLive}
 use Rattle.table.specs.Calls.{Call, format, add, withdraw, report, top, count, check, rebuild, Lengths}
-use Rattle.table.specs.Answers.{lengthNumber, addNumber, spotsAnswer}
+use Rattle.revise.specs.Numbers.{addNumber}
+use Rattle.table.specs.Answers.{lengthNumber, spotsAnswer}
 
 -- what it answers, hands out, and holds afterwards
 pub record KeyReply : Type 0 where

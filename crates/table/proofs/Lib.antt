@@ -7,3 +7,5 @@ pub mod Demand
 pub mod Worked
 pub mod Answering
 pub mod Anew
+pub mod Changes
+pub mod Topping

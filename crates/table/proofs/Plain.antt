@@ -20,7 +20,8 @@ use Rattle.spot.proofs.Orders.{report-wants, top-wants}
 use Rattle.block.specs.Table.{sizedFor, tableSized}
 use Rattle.tree.specs.Lookup.{isLive}
 use Rattle.table.specs.Calls.{Call, format, add, withdraw, report, top, count, check, rebuild, Lengths, argumentsFit}
-use Rattle.table.specs.Answers.{lengthNumber, addNumber, spotsAnswer, outputLeft}
+use Rattle.revise.specs.Numbers.{addNumber}
+use Rattle.table.specs.Answers.{lengthNumber, spotsAnswer, outputLeft}
 use Rattle.table.specs.Model.{PlainSpot, hasIdentity, placeBefore, rankHigher, ofPlaces, ofReport, chosen, insertBy, sortBy, listed, takenOut, broughtIn, highest, fourBytes, complement, asBytes, Reply, outputAfter, refuse, accept, badTable, badMap, shortScratch, full, handOut, reply}
 use Rattle.table.proofs.Keyed.{KeyReply, keyReply, replyTo, refusedOr, accepted, gives}
 use Rattle.table.proofs.Orders.{model-places, model-ranks, model-identity, four-bytes, key-bytes}

@@ -1,7 +1,7 @@
 -- "The five numbers": what a call answers, and what it leaves of the output and the read map.
 -- Assumes nothing.
 use Prim.Native.Nat.{ℕ, zero, suc, _*_, _/_}
-use mathlib.Core.Bool.{Bool, true, cond, not, _&&_}
+use mathlib.Core.Bool.{Bool, true, cond}
 use mathlib.Core.List.{List, [], _∷_, _++_}
 use lib.ListN.{length, drop}
 use lib.Dec.{ltb, leb, eqb}
@@ -9,7 +9,7 @@ use Rattle.spot.specs.Spots.{spotsBytes}
 use Rattle.spot.specs.declared.Spot.{Spot}
 use Rattle.block.specs.declared.Answer.{Answer}
 use Rattle.block.specs.Answers.{answer}
-use Rattle.block.specs.Table.{tableSized, capacity, mapBytes}
+use Rattle.block.specs.Table.{tableSized, mapBytes}
 use Rattle.tree.specs.ReadMap.{readMap}
 use Rattle.table.specs.Calls.{Call, format, add, withdraw, report, top, count, check, rebuild, Lengths}
 
@@ -35,10 +35,6 @@ lengthNumber l c = cond (tableSized (l .table)) (cond (lent l c) 0 2) 1
 unfoldable pub unlessRefused : ℕ → Answer → Answer
 unlessRefused zero r = r
 unlessRefused (suc n) r = answer (suc n) 0
-
--- 4: "Add: capacity live spots and the identity not live", or 0
-unfoldable pub addNumber : ℕ → ℕ → Bool → ℕ
-addNumber bytes spots there = cond (leb (capacity bytes) spots && not there) 4 0
 
 -- 5: "detail the number of spots: more spots than output length div 12", or 0 with the number of spots
 unfoldable pub spotsAnswer : ℕ → ℕ → Answer

@@ -5,3 +5,4 @@ pub mod Updates
 pub mod Anew
 pub mod Model
 pub mod History
+pub mod NoneGiven

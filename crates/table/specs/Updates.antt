@@ -4,19 +4,18 @@
 use mathlib.Core.Path.{_≡_}
 use mathlib.Core.Logic.{_≢_}
 use Prim.Native.Nat.{ℕ, zero, suc}
-use mathlib.Core.Bool.{Bool, true, false, cond, not}
-use mathlib.Core.List.{List, [], _∷_, _++_}
+use mathlib.Core.Bool.{true, false, cond}
+use mathlib.Core.List.{List, [], _++_}
 use mathlib.Core.Option.{Option, none, some}
 use lib.ListN.{length, drop, replicate}
-use lib.Dec.{ltb, eqb}
 use lib.IntN.{ℤ}
-use Rattle.octets.specs.Lists.{all, every, has}
+use Rattle.octets.specs.Lists.{every, has}
 use Rattle.spot.specs.Keys.{key}
 use Rattle.block.specs.Answers.{answer}
 use Rattle.block.specs.declared.Answer.{Answer}
 use Rattle.block.specs.Table.{tableSized, block}
 use Rattle.block.specs.Header.{headOf}
-use Rattle.block.specs.Node.{Node, storeOf}
+use Rattle.block.specs.Node.{storeOf}
 use Rattle.block.specs.HeaderRules.{headerOk}
 use Rattle.block.specs.Fresh.{formatted}
 use Rattle.tree.specs.Part.{whole}
@@ -24,8 +23,10 @@ use Rattle.tree.specs.Lookup.{live, isLive, withKey}
 use Rattle.tree.specs.Reach.{reach, settled}
 use Rattle.tree.specs.Walk.{liveCount}
 use Rattle.tree.specs.Sound.{sound}
+use Rattle.change.specs.Room.{roomy, rootOf}
+use Rattle.revise.specs.Numbers.{addNumber}
 use Rattle.table.specs.Calls.{Call, format, add, withdraw, rebuild}
-use Rattle.table.specs.Answers.{lengths, lengthNumber, unlessRefused, addNumber, outcomes}
+use Rattle.table.specs.Answers.{lengths, lengthNumber, unlessRefused, outcomes}
 
 -- "Format makes the empty table, one leaf and one level"
 pub record FormatPost (t : List ℕ) (r : Answer) (t′ : List ℕ) : Type 0 where
@@ -39,13 +40,6 @@ scratchLeft bytes (suc zero) w = w
 scratchLeft bytes (suc (suc zero)) w = w
 scratchLeft bytes (suc (suc (suc zero))) w = replicate bytes 0 ++ drop bytes w
 scratchLeft bytes (suc (suc (suc (suc n)))) w = w
-
--- "whose root is inner with over 32 spots in P, under 64 in I and under 16 identities in D"
-unfoldable pub roomy : Node → Bool
-roomy n = all (not (eqb (n .level) 0) ∷ ltb 32 (length (n .points)) ∷ ltb (length (n .inserts)) 64 ∷ ltb (length (n .deletes)) 16 ∷ [])
-
-unfoldable pub rootOf : List ℕ → Node
-rootOf t = storeOf t (headOf t .root)
 
 -- a call that changes the table. On a sound one the number is `due`, and where it is accepted `after` are the live spots.
 pub record UpdatePost (c : Call) (due : ℕ) (after : ℕ → Option ℕ) (t w : List ℕ) (r : Answer) (t′ w′ : List ℕ) : Type 0 where

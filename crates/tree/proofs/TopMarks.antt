@@ -3,10 +3,10 @@
 use mathlib.Core.Path.{_≡_, refl, ap, sym, subst, _∙_}
 use mathlib.Core.Logic.{⊎-elim}
 use mathlib.Core.Bool.{Bool, true, false, cond, true≢false}
-use mathlib.Core.List.{List, [], _∷_, _++_, List·Memᴰ}
+use mathlib.Core.List.{List, [], _∷_, _++_, List·Memᴰ, List·Memᴰ·head, Memᴰ·append-left, Memᴰ·append-right}
 use Prim.Native.Nat.{ℕ, zero, suc, _≤_, _<_}
 use native.Mathlib.Omega.{arith}
-use lib.ListN.{length, take}
+use lib.ListN.{length, take, drop, take-append-drop}
 use lib.IntN.{ℤ}
 use borrow.Author.Tests.{le-leb}
 use Rattle.octets.specs.Lists.{keep}
@@ -16,7 +16,7 @@ use Rattle.spot.specs.declared.Spot.{Spot}
 use Rattle.spot.specs.Keys.{rankKey, rankOf, word}
 use Rattle.spot.specs.Spots.{byRank}
 use Rattle.spot.specs.Query.{topQuery, wants}
-use Rattle.spot.proofs.Ranks.{rk, Falls, rank-falls, rank-keep, rank-length, ofRank}
+use Rattle.spot.proofs.Ranks.{rk, Falls, rank-falls, rank-keep, rank-length, byRank-from, ofRank}
 use Rattle.block.specs.Header.{headOf}
 use Rattle.tree.specs.Walk.{walkTable, blocksRead, spots, liveSpots}
 use Rattle.tree.specs.Top.{threshold, topWalk, topTable, enough}
@@ -24,6 +24,8 @@ use Rattle.tree.specs.Sound.{sound}
 use Rattle.tree.proofs.Tables.{report-finds, sound-header}
 use Rattle.tree.proofs.Tops.{ranked, ranked-high, top-finds}
 use Rattle.tree.proofs.TopSecond.{W, W-sub, best-blocks}
+use Rattle.tree.proofs.Sources.{table-source}
+use Rattle.tree.proofs.BestFirstParts.{rank-word, held-small}
 
 -- the last of a falling list is its lowest
 falls-last : (a : ℕ) (us : List Spot) (x : Spot) → Falls a (us ++ (x ∷ [])) → rk x ≤ a
@@ -52,13 +54,27 @@ keep-take f (suc n) (x ∷ xs) = go (f x) (keep-take f n xs)
     go false h = h
 
 module _ (t : List ℕ) (s : sound t ≡ true) (x1 x2 : ℤ) where
+  -- what is given are the highest of all that are wanted
+  given-are : (k : ℕ) (us : List Spot) (x : Spot) → spots (topTable t x1 x2 (suc k)) ≡ us ++ (x ∷ []) → take (suc k) (byRank (keep (wants (topQuery x1 x2 0)) (liveSpots t))) ≡ us ++ (x ∷ [])
+  given-are k us x e = sym (ap spots (top-finds t s x1 x2 (suc k) .1)) ∙ e
+
+  -- its keys stand on the table, so its ranks have 32 bits
+  given-rank : (k : ℕ) (us : List Spot) (x : Spot) → spots (topTable t x1 x2 (suc k)) ≡ us ++ (x ∷ []) → rankOf (x .key) < word
+  given-rank k us x e =
+      let q = topQuery x1 x2 0 in
+      let ss = keep (wants q) (liveSpots t) in
+      let first : List·Memᴰ x (take (suc k) (byRank ss)) = subst (List·Memᴰ x) (sym (given-are k us x e)) (Memᴰ·append-right us (List·Memᴰ·head refl)) in
+      let all : List·Memᴰ x ss = byRank-from ss (subst (List·Memᴰ x) (take-append-drop (suc k) (byRank ss)) (Memᴰ·append-left (drop (suc k) (byRank ss)) first)) in
+      let r = table-source t q x (subst (List·Memᴰ x) (sym (ap spots (report-finds t s q .1))) all) in
+      rank-word (x .key) (held-small t (r .block) (r .held))
+
   -- a Report from the rank of the last of k spots given finds k spots
   finds-given : (k : ℕ) (us : List Spot) (x : Spot) → spots (topTable t x1 x2 (suc k)) ≡ us ++ (x ∷ []) → length us ≡ k → suc k ≤ length (ranked t s x1 x2 (rankOf (x .key)))
   unfolding ranked
   finds-given k us x e n =
       let L = byRank (keep (wants (topQuery x1 x2 0)) (liveSpots t)) in
       let y = rankOf (x .key) in
-      let same : take (suc k) L ≡ us ++ (x ∷ []) = sym (ap spots (top-finds t s x1 x2 (suc k) .1)) ∙ e in
+      let same : take (suc k) L ≡ us ++ (x ∷ []) = given-are k us x e in
       let fall = falls-take (rank-falls (keep (wants (topQuery x1 x2 0)) (liveSpots t)) .0) (suc k) L (rank-falls (keep (wants (topQuery x1 x2 0)) (liveSpots t)) .1) in
       let high = all-high _ us x (subst (Falls _) same fall) in
       let few = keep-take (ofRank y) (suc k) L in
@@ -69,16 +85,16 @@ module _ (t : List ℕ) (s : sound t ≡ true) (x1 x2 : ℤ) where
       omega (arith, few, made, turn, n)
 
   -- where k were found: within the marks of the Report from the rank of the last
-  pub top-within : (k : ℕ) (us : List Spot) (x : Spot) → spots (topTable t x1 x2 (suc k)) ≡ us ++ (x ∷ []) → length us ≡ k → rankOf (x .key) < word
+  pub top-within : (k : ℕ) (us : List Spot) (x : Spot) → spots (topTable t x1 x2 (suc k)) ≡ us ++ (x ∷ []) → length us ≡ k
       → (b : ℕ) → List·Memᴰ b (blocksRead (topTable t x1 x2 (suc k))) → List·Memᴰ b (blocksRead (walkTable t (topQuery x1 x2 (rankOf (x .key)))))
   unfolding topTable topWalk threshold ranked W
-  top-within k us x e n low b i =
+  top-within k us x e n b i =
       let y = rankOf (x .key) in
       let z = threshold t x1 x2 (suc k) in
       let there : enough (suc k) (walkTable t (topQuery x1 x2 y)) ≡ true =
       ap (enough (suc k)) (report-finds t s (topQuery x1 x2 y) .1) ∙ le-leb (suc k) _ (finds-given k us x e n) in
       let under : y ≤ z =
-      ⊎-elim (λ (h : y ≤ z). h) (λ (h : z < y). absurd (true≢false (sym there ∙ largest-above (λ r. enough (suc k) (walkTable t (topQuery x1 x2 r))) word y h low)))
+      ⊎-elim (λ (h : y ≤ z). h) (λ (h : z < y). absurd (true≢false (sym there ∙ largest-above (λ r. enough (suc k) (walkTable t (topQuery x1 x2 r))) word y h (given-rank k us x e))))
       (less-or-not y z) in
       W-sub t s x1 x2 y z under b (rw (best-blocks t s x1 x2 (suc k) (walkTable t (topQuery x1 x2 z))) at i)
 

@@ -4,7 +4,7 @@ use mathlib.Core.Path.{_≡_, refl, sym, ap, ap₂, subst, _∙_}
 use mathlib.Core.Logic.{_⊎_, inl, inr, ⊎-elim}
 use mathlib.Core.Bool.{Bool, true, not, _&&_, _||_, or-assoc, or-comm}
 use mathlib.Core.List.{List, [], _∷_, _++_, List·Memᴰ, List·Memᴰ·head, List·Memᴰ·tail, List·Memᴰ·not-nil, List·Memᴰ·cases-cons, List·Memᴰ·append-cases, Memᴰ·append-left, Memᴰ·append-right}
-use Prim.Native.Nat.{ℕ, zero, suc, _+_, _*_, _/_, _≤_, _<_}
+use Prim.Native.Nat.{ℕ, zero, suc, _+_, _*_, _≤_, _<_}
 use native.Mathlib.Numerals.{add-one}
 use native.Mathlib.Omega.{arith}
 use lib.Dec.{leb, eqb}
@@ -34,6 +34,7 @@ use Rattle.block.proofs.Facts.{NodeFacts, node-facts}
 use Rattle.tree.specs.Part.{nextLow, parts}
 use Rattle.tree.specs.Walk.{topped, admits, takesKey, takes, finds}
 use Rattle.tree.specs.Trace.{namedBy}
+use Rattle.tree.proofs.Sources.{room-is}
 use Rattle.tree.proofs.Below.{tops-mem, some-point, has-insert, has-child}
 use Rattle.visit.specs.declared.Path.{Path}
 use Rattle.visit.specs.declared.Span.{Span}
@@ -212,10 +213,6 @@ entry-in t b i {e} h v =
     drop-mem (suc j) [] k = k
     drop-mem (suc j) (y ∷ l) k = List·Memᴰ·tail (drop-mem j l k)
 
-room-is : (t : List ℕ) (b : ℕ) → storeOf t b .room ≡ length t / 2048
-unfolding storeOf nodeOf nodeFrom
-room-is t b = refl
-
 -- a child that is read has points, stands in the table, and has a level below its parent's
 pub admitted-size : (q : Query) (b : ℕ) (e : Entry) (s : Span) → admits q (partOf b (Child e) s) ≡ true → e .size ≡ 0 → ⊥
 unfolding admits topped
@@ -225,8 +222,7 @@ module _ (t : List ℕ) (b level : ℕ) (a : Asked) (ok : nodeOk level a (storeO
   pub child-inside : (1 ≤ e .block) × (e .block * 2048 + 2048 ≤ length t)
   child-inside =
       let c = node-facts level a (storeOf t b) ok .child-blocks e i in
-      let r : storeOf t b .room ≡ length t / 2048 = room-is t b in
-      (c .0, omega (arith, c .1, r))
+      (c .0, omega (arith, c .1, room-is t b))
 
   pub child-level : 1 ≤ level
   child-level = ⊎-elim leaf (λ d. omega (arith, d)) (same-or-not level 0)

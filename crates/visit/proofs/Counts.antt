@@ -42,7 +42,7 @@ module _ (q : Query) (named : List ℕ) (k : ℕ) where
 
 -- ---- a run
 
-spot-key : (t : List ℕ) (i : ℕ) → spotAt t i .key ≡ keyAt t i
+pub spot-key : (t : List ℕ) (i : ℕ) → spotAt t i .key ≡ keyAt t i
 unfolding spotAt
 spot-key t i = refl
 
@@ -118,10 +118,9 @@ module _ (t : List ℕ) (at n : ℕ) (some : 0 < n) (up : rising (keysFrom t 12 
       in
       last-most (keysFrom t 12 (n - 1) at) (keyAt t (at + 12 * (n - 1))) (sym (ap rising e) ∙ up) (subst (λ (l : List ℕ). List·Memᴰ k l) e i)
 
-  pub count-near : {lo hi sum : ℕ} (q : Query) (p r : Path) → lo ≡ keyAt t at → hi ≡ keyAt t (at + 12 * (n - 1)) → Near t p lo hi r
-      → sum ≡ length (taken t at n q r) → sum ≡ length (taken t at n q p)
-  count-near {lo} {hi} q p r e g v c =
-      c ∙ ap length (keep-same (takes q (waitingAbove t r)) (takes q (waitingAbove t p)) (records (spotAt t) 12 n at) same)
+  -- the nodes above that are near the run take the same of it as all
+  pub near-same : {lo hi : ℕ} (q : Query) (p r : Path) → lo ≡ keyAt t at → hi ≡ keyAt t (at + 12 * (n - 1)) → Near t p lo hi r → taken t at n q r ≡ taken t at n q p
+  near-same {lo} {hi} q p r e g v = keep-same (takes q (waitingAbove t r)) (takes q (waitingAbove t p)) (records (spotAt t) 12 n at) same
     where
       same : (x : Spot) → List·Memᴰ x (records (spotAt t) 12 n at) → takes q (waitingAbove t r) x ≡ takes q (waitingAbove t p) x
       same x i =
@@ -129,6 +128,10 @@ module _ (t : List ℕ) (at n : ℕ) (some : 0 < n) (up : rising (keysFrom t 12 
           takes-is q (waitingAbove t r) (x .key)
           ∙ ap (λ (b : Bool). wantsKey q (x .key) && not b) (v .same (x .key) (omega (arith, run-from j)) (omega (arith, run-to j)))
           ∙ sym (takes-is q (waitingAbove t p) (x .key))
+
+  pub count-near : {lo hi sum : ℕ} (q : Query) (p r : Path) → lo ≡ keyAt t at → hi ≡ keyAt t (at + 12 * (n - 1)) → Near t p lo hi r
+      → sum ≡ length (taken t at n q r) → sum ≡ length (taken t at n q p)
+  count-near q p r e g v c = c ∙ ap length (near-same q p r e g v)
 
 -- ---- a node
 

@@ -6,7 +6,7 @@ use mathlib.Core.List.{List, [], _∷_, _++_}
 use Prim.Native.Nat.{ℕ, _+_, _*_, _≤_}
 use native.Mathlib.Omega.{arith}
 use lib.Dec.{leb}
-use lib.ListN.{length}
+use lib.ListN.{length, take, drop}
 use Rattle.octets.specs.Lists.{has, records, rising}
 use Rattle.octets.specs.Bytes.{be}
 use Rattle.octets.proofs.Order.{stride}
@@ -26,19 +26,20 @@ use Rattle.visit.specs.Visit.{waiting, keysFrom, anyFrom}
 -- ---- records of a block are records of the table
 
 module _ (t : List ℕ) (b : ℕ) where
-  keys-run : (w n x : ℕ) → 8 ≤ w → x + w * n ≤ 2048 → keysFrom t w n (b * 2048 + x) ≡ keysFrom (block t b) w n x
-  keys-run w n x g h =
-      records-cong (keyAt t) (keyAt (block t b)) w n (b * 2048 + x) x
+  -- of m bytes each, w apart
+  records-run : {A : Type 0} (f : List ℕ → ℕ → A) (m : ℕ) → ((a k : ℕ) (s : List ℕ) (i : ℕ) → i + m ≤ k → f (take k (drop a s)) i ≡ f s (a + i))
+      → (w n x : ℕ) → m ≤ w → x + w * n ≤ 2048 → records (f t) w n (b * 2048 + x) ≡ records (f (block t b)) w n x
+  records-run f m part w n x g h =
+      records-cong (f t) (f (block t b)) w n (b * 2048 + x) x
       (λ i l.
       let e : b * 2048 + x + w * i ≡ b * 2048 + (x + w * i) = omega arith in
-      ap (keyAt t) e ∙ sym (keyAt-part (b * 2048) 2048 t (x + w * i) (omega (arith, stride w l))))
+      ap (f t) e ∙ sym (part (b * 2048) 2048 t (x + w * i) (omega (arith, stride w l))))
+
+  pub keys-run : (w n x : ℕ) → 8 ≤ w → x + w * n ≤ 2048 → keysFrom t w n (b * 2048 + x) ≡ keysFrom (block t b) w n x
+  keys-run = records-run keyAt 8 keyAt-part
 
   spots-run : (n x : ℕ) → x + 12 * n ≤ 2048 → records (spotAt t) 12 n (b * 2048 + x) ≡ records (spotAt (block t b)) 12 n x
-  spots-run n x h =
-      records-cong (spotAt t) (spotAt (block t b)) 12 n (b * 2048 + x) x
-      (λ i l.
-      let e : b * 2048 + x + 12 * i ≡ b * 2048 + (x + 12 * i) = omega arith in
-      ap (spotAt t) e ∙ sym (spotAt-part (b * 2048) 2048 t (x + 12 * i) (omega (arith, stride 12 l))))
+  spots-run n x = records-run spotAt 12 spotAt-part 12 n x (omega arith)
 
 -- ---- the buffers of a node, from the numbers at its front
 

@@ -30,7 +30,7 @@ use Rattle.visit.specs.Visit.{endOf, partOf, entriesIn, childSpan}
 -- ---- tests of a span
 
 -- a key lies before the end of a span
-before-end : (endless : Bool) (x hi : ℕ) → x < allKeys → endless || ltb x hi ≡ ltb x (cond endless allKeys hi)
+pub before-end : (endless : Bool) (x hi : ℕ) → x < allKeys → endless || ltb x hi ≡ ltb x (cond endless allKeys hi)
 before-end true x hi h = sym (lt-ltb x allKeys h)
 before-end false x hi h = refl
 

@@ -1,6 +1,6 @@
 -- `edit::delete_all` meets its contract. The loop's invariant: the keys from index i on are deleted.
 -- Assumes nothing.
-use mathlib.Core.Path.{_≡_, refl, ap, _∙_}
+use mathlib.Core.Path.{_≡_, ap}
 use Prim.Native.Nat.{ℕ, _+_, _-_, _≤_}
 use native.Mathlib.Omega.{arith}
 use borrow.Author.Needs.{needs}
@@ -8,7 +8,7 @@ use lib.ListN.{length, drop}
 use Rattle.update.specs.Held.{deleteAll}
 use Rattle.buffer.specs.Buffer.{named}
 use Rattle.edit.specs.Edits.{heldIn, Edited}
-use Rattle.edit.proofs.Buffered.{deletes-none, deletes-more}
+use Rattle.edit.proofs.Buffered.{deletes-none, deletes-more, edited-none, edited-more, edited-same}
 use Rattle.edit.proofs.delete_all.Statement.{statement}
 use Rattle.edit.proofs.delete_all.Tie as tie
 
@@ -26,15 +26,7 @@ loop-holds : tie.Need-loop-holds Inv-loop μ-loop
 loop-holds c =
     let a = c .args in (
       omega arith,
-      record {
-        holds = deletes-none (a .r) (a .t2 .keys) (a .t2 .n) (omega (arith, long c)) (heldIn (a .n));
-        tidy = c .pre .0;
-        entries = refl;
-        level = refl;
-        points = omega arith;
-        inserts = omega arith;
-        deletes = omega arith;
-      },
+      edited-none (deletes-none (a .r) (a .t2 .keys) (a .t2 .n) (omega (arith, long c)) (heldIn (a .n))) (c .pre .0) (omega arith) (omega arith) (omega arith),
     )
 
 sub-i : tie.Need-sub-i Inv-loop μ-loop
@@ -62,32 +54,16 @@ loop-again c =
     let b = l .inv .1 in
     let x = c .delete-one .ensures in (
       omega arith,
-      record {
-        holds = deletes-more (a .r) (a .t2 .keys) (a .t2 .n) (omega (arith, long s)) (heldIn (a .n)) (l .i) (omega arith) (l .inv .0) (b .holds) (x .holds);
-        tidy = x .tidy;
-        entries = x .entries ∙ b .entries;
-        level = x .level ∙ b .level;
-        points = omega (arith, x .points, b .points);
-        inserts = omega (arith, x .inserts, b .inserts);
-        deletes = omega (arith, x .deletes, b .deletes);
-      },
+      edited-more x (omega (arith, b .points)) (omega (arith, b .inserts)) (omega (arith, b .deletes)) b
+          (deletes-more (a .r) (a .t2 .keys) (a .t2 .n) (omega (arith, long s)) (heldIn (a .n)) (l .i) (omega arith) (l .inv .0) (b .holds) (x .holds)),
     )
 
 returns : tie.Need-returns Inv-loop μ-loop
 returns c =
     let l = c .before .loop in
     let a = c .before .before .args in
-    let b = l .inv .1 in
     let e : l .i ≡ 0 = omega arith in
-    record {
-      holds = b .holds ∙ ap (λ (i : ℕ). deleteAll (a .r) (drop i (named (a .t2))) (heldIn (a .n))) e;
-      tidy = b .tidy;
-      entries = b .entries;
-      level = b .level;
-      points = b .points;
-      inserts = b .inserts;
-      deletes = omega (arith, b .deletes);
-    }
+    edited-same (l .inv .1) (omega arith) (omega arith) (omega arith) (ap (λ (i : ℕ). deleteAll (a .r) (drop i (named (a .t2))) (heldIn (a .n))) e)
 
 pub delete-all-spec : {M : Type 1} → statement M
 delete-all-spec =

@@ -1,0 +1,4 @@
+pub mod Rows
+pub mod Scans
+pub mod Picks
+pub mod Kids

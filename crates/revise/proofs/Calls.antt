@@ -1,0 +1,179 @@
+-- Add and Withdraw but for the lengths: one law for each way that they end.
+-- Assumes nothing.
+use mathlib.Core.Path.{_≡_, refl, ap, sym, subst, _∙_}
+use mathlib.Core.Logic.{_⊎_, inl, inr, ⊎-elim}
+use mathlib.Core.Bool.{Bool, true, false, not, true≢false, false≢true}
+use mathlib.Core.List.{List, [], _∷_}
+use mathlib.Core.Option.{Option, none, some}
+use Prim.Native.Nat.{ℕ, _+_, _-_, _≤_, _<_}
+use native.Mathlib.Omega.{arith}
+use lib.ListN.{length}
+use lib.Dec.{eqb}
+use borrow.Author.Tests.{eqb-true}
+use Rattle.octets.specs.Lists.{has}
+use Rattle.octets.proofs.Tests.{or-either}
+use Rattle.spot.specs.Query.{everything}
+use Rattle.spot.specs.declared.Spot.{Spot}
+use Rattle.block.specs.Table.{capacity}
+use Rattle.block.specs.Header.{headOf}
+use Rattle.block.specs.HeaderRules.{headerOk}
+use Rattle.block.proofs.Facts.{head-facts}
+use Rattle.tree.specs.Lookup.{live, isLive, withKey}
+use Rattle.tree.specs.Sound.{sound}
+use Rattle.tree.specs.Walk.{walkTable, isBroken, spots, liveSpots, liveCount}
+use Rattle.tree.proofs.Sources.{header-least}
+use Rattle.tree.proofs.Tables.{sound-header, count-finds}
+use Rattle.query.proofs.Roots.{sized-long}
+use Rattle.lookup.specs.Answers.{Says, LookupPost}
+use Rattle.lookup.specs.declared.Looked.{Looked}
+use Rattle.lookup.specs.declared.Looked.the-variants.{Live, Nothing, Broken}
+use Rattle.revise.specs.Numbers.{addNumber}
+use Rattle.revise.specs.Revising.{Lent, Leaves, Within, Revised}
+use Rattle.revise.proofs.Ends.{PutWithin, OutWithin}
+use Rattle.revise.proofs.Counts.{count-most, put-most, put-same, out-most, out-less, add-room, add-live, add-full}
+
+-- nothing is touched
+stays : (t w : List ℕ) (n : ℕ) → Leaves t t w w n
+stays t w n =
+    record { sized = refl; lentLength = refl; rest = refl; kept = λ h. refl; untouched = λ h. refl; light = λ s y b z o. refl }
+
+-- a rule is broken, which is so of no sound table
+revised-broken : (t w : List ℕ) (due : ℕ) (outcomes : List ℕ) (after : ℕ → Option ℕ) → has 3 outcomes ≡ true → (sound t ≡ true → ⊥) → Revised t t w w due outcomes after 3
+revised-broken t w due outcomes after m no-sound =
+    record {
+      leaves = stays t w 3;
+      header = λ h. refl;
+      numbers = m;
+      numberIs = λ s. absurd (no-sound s);
+      staysSound = λ s. s;
+      liveAfter = λ s h. absurd (no-sound s);
+    }
+
+-- the header shows it
+pub revised-header : (t w : List ℕ) (due : ℕ) (outcomes : List ℕ) (after : ℕ → Option ℕ) (b : Bool) → has 3 outcomes ≡ true → b ≡ headerOk (length t) (headOf t) → b ≡ false
+    → Revised t t w w due outcomes after 3
+revised-header t w due outcomes after b m e h =
+    revised-broken t w due outcomes after m (λ s. true≢false (sym (sound-header t s) ∙ sym e ∙ h))
+
+pub two-ways : (n : ℕ) → has n (0 ∷ 3 ∷ []) ≡ true → (n ≡ 0) ⊎ (n ≡ 3)
+two-ways n h =
+    ⊎-elim (λ e. inl (eqb-true n 0 e)) (λ m. ⊎-elim (λ e. inr (eqb-true n 3 e)) (λ (f : false ≡ true). absurd (false≢true f)) (or-either (eqb n 3) false m))
+    (or-either (eqb n 0) (has n (3 ∷ [])) h)
+
+-- 0 and 3 are among the outcomes
+zero-three : (n : ℕ) (outcomes : List ℕ) → has 0 outcomes ≡ true → has 3 outcomes ≡ true → has n (0 ∷ 3 ∷ []) ≡ true → has n outcomes ≡ true
+zero-three n outcomes a b h = ⊎-elim (λ e. ap (λ (i : ℕ). has i outcomes) e ∙ a) (λ e. ap (λ (i : ℕ). has i outcomes) e ∙ b) (two-ways n h)
+
+-- the bound is known, and the spots are no more
+pub revised-within : {t t′ w w′ : List ℕ} {bound m : ℕ} {after : ℕ → Option ℕ} {n : ℕ} (due : ℕ) (outcomes : List ℕ) → headerOk (length t) (headOf t) ≡ true
+    → has 0 outcomes ≡ true → has 3 outcomes ≡ true → (sound t ≡ true → due ≡ 0) → (sound t ≡ true → m ≤ bound)
+    → Within t t′ w w′ bound m after n → Revised t t′ w w′ due outcomes after n
+revised-within {n = n} due outcomes e a b d f g =
+    record {
+      leaves = g .leaves;
+      header = λ h. absurd (true≢false (sym e ∙ h));
+      numbers = zero-three n outcomes a b (g .numbers);
+      numberIs = λ s. g .accepted s (f s) ∙ sym (d s);
+      staysSound = λ s. g .staysSound s (f s);
+      liveAfter = λ s h. g .liveAfter s (f s);
+    }
+
+-- ---- as the code reads it
+
+pub lent-long : {t w : List ℕ} → Lent t w → 2048 ≤ length t
+lent-long {t} l = sized-long t (l .sized)
+
+pub bound-few : (t : List ℕ) {bound : ℕ} → headerOk (length t) (headOf t) ≡ true → bound ≡ headOf t .bound → bound ≤ capacity (length t)
+bound-few t ok e = omega (arith, e, head-facts (length t) (headOf t) ok .bound-most)
+
+-- a bound at capacity is not 0
+pub bound-some : (t : List ℕ) {bound : ℕ} → headerOk (length t) (headOf t) ≡ true → capacity (length t) ≤ bound → 1 ≤ bound
+bound-some t ok h = omega (arith, h, header-least t ok)
+
+-- ---- the lookup
+
+module _ {t : List ℕ} {k : ℕ} {r : Looked} (g : LookupPost t k r) where
+  pub looked-live : {a : ℕ} → r ≡ Live a → live t k ≡ some a
+  looked-live e = subst (λ (x : Looked). Says x (live t k)) e (g .says)
+
+  pub looked-none : r ≡ Nothing → live t k ≡ none
+  looked-none e = subst (λ (x : Looked). Says x (live t k)) e (g .says)
+
+-- ---- Add
+
+abbrev addDue : List ℕ → Spot → ℕ
+addDue t s = addNumber (length t) (liveCount t) (isLive (live t (s .key)))
+
+abbrev Added : List ℕ → List ℕ → List ℕ → List ℕ → Spot → ℕ → Type 0
+Added t t′ w w′ s n = Revised t t′ w w′ (addDue t s) (0 ∷ 3 ∷ 4 ∷ []) (withKey (s .key) (some (s .track)) (live t)) n
+
+live-counted : (t : List ℕ) → length (spots (walkTable t everything)) ≡ liveCount t
+unfolding liveCount liveSpots
+live-counted t = refl
+
+module _ (t w : List ℕ) (s : Spot) where
+  pub add-header : (b : Bool) → b ≡ headerOk (length t) (headOf t) → b ≡ false → Added t t w w s 3
+  add-header b e h = revised-header t w (addDue t s) _ _ b refl e h
+
+  pub add-lost : {r : Looked} → LookupPost t (s .key) r → r ≡ Broken → Added t t w w s 3
+  add-lost g e = revised-broken t w (addDue t s) _ _ refl (λ h. g .whole h e)
+
+  module _ {t′ w′ : List ℕ} {n : ℕ} (ok : headerOk (length t) (headOf t) ≡ true) where
+    -- the bound is below capacity
+    pub add-below : {bound : ℕ} → bound ≡ headOf t .bound → bound < capacity (length t) → PutWithin t t′ w w′ s (bound + 1) n → Added t t′ w w′ s n
+    add-below e l g =
+        revised-within (addDue t s) _ ok refl refl
+        (λ h. add-room (length t) (liveCount t) (isLive (live t (s .key))) (omega (arith, count-most t h)))
+        (λ h. omega (arith, put-most t h s, count-most t h)) g
+
+    -- one of its key goes out
+    pub add-replaced : {bound a : ℕ} → bound ≡ headOf t .bound → live t (s .key) ≡ some a → PutWithin t t′ w w′ s bound n → Added t t′ w w′ s n
+    add-replaced e l g =
+        revised-within (addDue t s) _ ok refl refl
+        (λ h. ap (λ (o : Option ℕ). addNumber (length t) (liveCount t) (isLive o)) l ∙ add-live (length t) (liveCount t))
+        (λ h. omega (arith, put-same t h s l, count-most t h)) g
+
+    -- the live spots are counted
+    pub add-counted : {all : ℕ} → all ≡ length (spots (walkTable t everything)) → all < capacity (length t) → PutWithin t t′ w w′ s (all + 1) n → Added t t′ w w′ s n
+    add-counted count l g =
+        revised-within (addDue t s) _ ok refl refl
+        (λ h. add-room (length t) (liveCount t) (isLive (live t (s .key))) (omega (arith, count, live-counted t)))
+        (λ h. omega (arith, put-most t h s, count, live-counted t)) g
+
+  -- there are as many as there may be
+  pub add-turned : {all : ℕ} → headerOk (length t) (headOf t) ≡ true → all ≡ length (spots (walkTable t everything)) → capacity (length t) ≤ all → live t (s .key) ≡ none
+      → Added t t w w s 4
+  add-turned ok count l e =
+      record {
+        leaves = stays t w 4;
+        header = λ h. absurd (true≢false (sym ok ∙ h));
+        numbers = refl;
+        numberIs = λ h. sym (ap (λ (o : Option ℕ). addNumber (length t) (liveCount t) (isLive o)) e ∙ add-full (length t) (liveCount t) (omega (arith, count, live-counted t)));
+        staysSound = λ h. h;
+        liveAfter = λ h z. let x : ⊥ = omega arith in absurd x;
+      }
+
+  -- the count found a broken rule
+  pub add-uncounted : (ok : Bool) → ok ≡ not (isBroken (walkTable t everything)) → ok ≡ false → Added t t w w s 3
+  add-uncounted ok e h = revised-broken t w (addDue t s) _ _ refl (λ g. true≢false (sym (ap (λ b. not (isBroken b)) (count-finds t g .1)) ∙ sym e ∙ h))
+
+-- ---- Withdraw
+
+abbrev Dropped : List ℕ → List ℕ → List ℕ → List ℕ → ℕ → ℕ → Type 0
+Dropped t t′ w w′ k n = Revised t t′ w w′ 0 (0 ∷ 3 ∷ []) (withKey k none (live t)) n
+
+module _ (t w : List ℕ) (k : ℕ) where
+  pub drop-header : (b : Bool) → b ≡ headerOk (length t) (headOf t) → b ≡ false → Dropped t t w w k 3
+  drop-header b e h = revised-header t w 0 _ _ b refl e h
+
+  pub drop-lost : {r : Looked} → LookupPost t k r → r ≡ Broken → Dropped t t w w k 3
+  drop-lost g e = revised-broken t w 0 _ _ refl (λ h. g .whole h e)
+
+  module _ {t′ w′ : List ℕ} {n bound : ℕ} (ok : headerOk (length t) (headOf t) ≡ true) (e : bound ≡ headOf t .bound) where
+    -- the bound stays
+    pub drop-any : OutWithin t t′ w w′ k bound n → Dropped t t′ w w′ k n
+    drop-any g = revised-within 0 _ ok refl refl (λ h. refl) (λ h. omega (arith, out-most t h k, count-most t h)) g
+
+    -- the bound falls
+    pub drop-live : {a : ℕ} → live t k ≡ some a → OutWithin t t′ w w′ k (bound - 1) n → Dropped t t′ w w′ k n
+    drop-live l g = revised-within 0 _ ok refl refl (λ h. refl) (λ h. omega (arith, out-less t h k l, count-most t h)) g

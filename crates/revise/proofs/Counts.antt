@@ -1,0 +1,121 @@
+-- The live spots of a sound table with one spot put in or taken out: what they find, and how many they are.
+-- Assumes nothing.
+use mathlib.Core.Path.{_≡_, refl, ap, ap₂, sym, _∙_}
+use mathlib.Core.Logic.{⊎-elim}
+use mathlib.Core.Bool.{Bool, true, false, cond, _&&_, _||_}
+use mathlib.Core.List.{List, [], _∷_}
+use mathlib.Core.Option.{Option, none, some}
+use Prim.Native.Nat.{ℕ, suc, _+_, _≤_, _<_}
+use native.Mathlib.Omega.{arith}
+use lib.Dec.{eqb, leb}
+use lib.ListN.{length}
+use borrow.Author.Tests.{eq-eqb, ne-eqb, le-leb, lt-leb}
+use Rattle.octets.specs.Lists.{rising}
+use Rattle.octets.proofs.Order.{same-or-not}
+use Rattle.spot.specs.declared.Spot.{Spot}
+use Rattle.spot.specs.Spots.{keys, find, put, without}
+use Rattle.spot.proofs.Canon.{canon, find-without, without-rises, length-put, length-without}
+use Rattle.block.specs.Table.{capacity}
+use Rattle.block.specs.Header.{headOf}
+use Rattle.tree.specs.Lookup.{orElse, live, withKey}
+use Rattle.tree.specs.Sound.{sound}
+use Rattle.tree.specs.Walk.{liveSpots, liveCount}
+use Rattle.tree.proofs.Tables.{Shaped, tree-rises, tree-finds, live-rises, live-finds, counted}
+use Rattle.tree.proofs.Says.{find-replaced, replaced-rises}
+use Rattle.batch.specs.Batches.{batchSays}
+use Rattle.revise.specs.Numbers.{addNumber}
+
+-- the list ys rises and finds what shall be live after a change to t, if t is sound
+pub record Planned (t : List ℕ) (ys : List Spot) (after : ℕ → Option ℕ) : Type 0 where
+  pub up : sound t ≡ true → rising (keys ys) ≡ true
+  pub finds : sound t ≡ true → (k : ℕ) → find k ys ≡ after k
+
+pub planned-put : (t : List ℕ) (s : Spot) → Planned t (put s (without (s .key) (liveSpots t))) (withKey (s .key) (some (s .track)) (live t))
+unfolding withKey
+planned-put t s =
+    record {
+      up = λ h. replaced-rises s (liveSpots t) (live-rises t h);
+      finds = λ h k. find-replaced k s (liveSpots t) ∙ ap (cond (eqb k (s .key)) (some (s .track))) (live-finds t h k);
+    }
+
+pub planned-out : (t : List ℕ) (j : ℕ) → Planned t (without j (liveSpots t)) (withKey j none (live t))
+unfolding withKey
+planned-out t j =
+    record {
+      up = λ h. without-rises 0 j (liveSpots t) (live-rises t h);
+      finds = λ h k. find-without k j (liveSpots t) ∙ ap (cond (eqb k j) none) (live-finds t h k);
+    }
+
+-- a table in which this is live has these spots
+pub spots-are : {t t′ : List ℕ} {ys : List Spot} {after : ℕ → Option ℕ} → Planned t ys after → sound t ≡ true → Shaped t′ → ((k : ℕ) → live t′ k ≡ after k) → liveSpots t′ ≡ ys
+spots-are {t} {t′} {ys} p h g l = canon 0 (liveSpots t′) ys (tree-rises t′ g) (p .up h) (λ k. tree-finds t′ g k ∙ l k ∙ sym (p .finds h k))
+
+-- what a batch of one says
+one-in : (b : Bool) (a : ℕ) (d : Option ℕ) → orElse (cond b (some a) none) d ≡ cond b (some a) d
+one-in true a d = refl
+one-in false a d = refl
+
+one-out : (b : Bool) (d : Option ℕ) → cond (b || false) none d ≡ cond b none d
+one-out true d = refl
+one-out false d = refl
+
+pub says-put : {ss : List Spot} {ks : List ℕ} (s : Spot) (before : ℕ → Option ℕ) → ss ≡ s ∷ [] → ks ≡ [] → (k : ℕ)
+    → batchSays ss ks k (before k) ≡ withKey (s .key) (some (s .track)) before k
+unfolding withKey
+says-put s before e f k = ap₂ (λ ss ks. batchSays ss ks k (before k)) e f ∙ one-in (eqb k (s .key)) (s .track) (before k)
+
+pub says-out : {ss : List Spot} {ks : List ℕ} (j : ℕ) (before : ℕ → Option ℕ) → ss ≡ [] → ks ≡ j ∷ [] → (k : ℕ)
+    → batchSays ss ks k (before k) ≡ withKey j none before k
+unfolding withKey
+says-out j before e f k = ap₂ (λ ss ks. batchSays ss ks k (before k)) e f ∙ one-out (eqb k j) (before k)
+
+-- ---- how many they are
+
+-- a key that is there is one of them
+out-fewer : (k a : ℕ) (xs : List Spot) → rising (keys xs) ≡ true → find k xs ≡ some a → length xs ≡ suc (length (without k xs))
+out-fewer k a xs u e =
+    let s : Spot = record { key = k; track = a } in
+    let same : (j : ℕ) → find j xs ≡ cond (eqb j k) (some a) (find j xs) =
+    λ j. ⊎-elim (λ (g : j ≡ k). ap (λ (i : ℕ). find i xs) g ∙ e ∙ sym (rw (eq-eqb j k g))) (λ (g : j ≡ k → ⊥). rw (ne-eqb j k g)) (same-or-not j k) in
+    ap length (canon 0 xs (put s (without k xs)) u (replaced-rises s xs u) (λ j. same j ∙ sym (find-replaced j s xs))) ∙ length-put s (without k xs)
+
+live-are : (t : List ℕ) → liveCount t ≡ length (liveSpots t)
+unfolding liveCount
+live-are t = refl
+
+module _ (t : List ℕ) (h : sound t ≡ true) where
+  pub count-most : liveCount t ≤ headOf t .bound
+  count-most = omega (arith, live-are t, counted t h)
+
+  module _ (s : Spot) where
+    pub put-most : length (put s (without (s .key) (liveSpots t))) ≤ liveCount t + 1
+    put-most = omega (arith, live-are t, length-put s (without (s .key) (liveSpots t)), length-without (s .key) (liveSpots t))
+
+    pub put-same : {a : ℕ} → live t (s .key) ≡ some a → length (put s (without (s .key) (liveSpots t))) ≡ liveCount t
+    put-same {a} e =
+        omega (arith, live-are t, length-put s (without (s .key) (liveSpots t)), out-fewer (s .key) a (liveSpots t) (live-rises t h) (live-finds t h (s .key) ∙ e))
+
+  module _ (k : ℕ) where
+    pub out-most : length (without k (liveSpots t)) ≤ liveCount t
+    out-most = omega (arith, live-are t, length-without k (liveSpots t))
+
+    pub out-less : {a : ℕ} → live t k ≡ some a → length (without k (liveSpots t)) + 1 ≤ liveCount t
+    out-less {a} e = omega (arith, live-are t, out-fewer k a (liveSpots t) (live-rises t h) (live-finds t h k ∙ e))
+
+-- ---- the number of Add
+
+pub add-room : (bytes spots : ℕ) (there : Bool) → spots < capacity bytes → addNumber bytes spots there ≡ 0
+unfolding addNumber
+add-room bytes spots there h = rw (lt-leb (capacity bytes) spots h)
+
+pub add-live : (bytes spots : ℕ) → addNumber bytes spots true ≡ 0
+unfolding addNumber
+add-live bytes spots = go (leb (capacity bytes) spots)
+  where
+    go : (b : Bool) → cond {A = ℕ} (b && false) 4 0 ≡ 0
+    go true = refl
+    go false = refl
+
+pub add-full : (bytes spots : ℕ) → capacity bytes ≤ spots → addNumber bytes spots false ≡ 4
+unfolding addNumber
+add-full bytes spots h = rw (le-leb (capacity bytes) spots h)

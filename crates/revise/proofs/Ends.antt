@@ -1,0 +1,134 @@
+-- One change in the tree, or where that does not go laid out anew: one law for each way that this ends.
+-- Assumes nothing.
+use mathlib.Core.Path.{_≡_, refl, ap, sym, subst, _∙_}
+use mathlib.Core.Logic.{_≢_}
+use mathlib.Core.Bool.{Bool, true, false, true≢false}
+use mathlib.Core.List.{List, [], _∷_}
+use mathlib.Core.Option.{Option, none, some}
+use Prim.Native.Nat.{ℕ, _≤_}
+use native.Mathlib.Omega.{arith}
+use lib.ListN.{length}
+use lib.Dec.{leb}
+use borrow.Author.Tests.{le-leb}
+use Rattle.spot.specs.Spots.{put, without}
+use Rattle.spot.specs.declared.Spot.{Spot}
+use Rattle.block.specs.Table.{tableSized, capacity}
+use Rattle.tree.specs.Lookup.{live, withKey}
+use Rattle.tree.specs.Sound.{sound}
+use Rattle.tree.specs.Walk.{liveSpots}
+use Rattle.tree.proofs.Tables.{sound-from}
+use Rattle.rebuild.proofs.Rebuilt.{rebuilt-live, rebuilt-sound}
+use Rattle.batch.specs.Batches.{batchSays}
+use Rattle.change.specs.Changing.{ChangedBy}
+use Rattle.renew.specs.Renewed.{Renewed}
+use Rattle.revise.specs.Revising.{Lent, Leaves, Within}
+use Rattle.revise.proofs.Counts.{Planned, planned-put, planned-out, spots-are, says-put, says-out}
+
+module _ {t t₁ w w₁ : List ℕ} {ss : List Spot} {ks : List ℕ} {bound : ℕ} {r : Bool} (g : ChangedBy t t₁ w w₁ ss ks bound r) {ys : List Spot} {after : ℕ → Option ℕ}
+    (p : Planned t ys after) where
+  -- the tree took it
+  pub within-tree : r ≡ true → ((k : ℕ) → batchSays ss ks k (live t k) ≡ after k) → Within t t₁ w w₁ bound (length ys) after 0
+  within-tree e says =
+      record {
+        leaves =
+            record {
+              sized = g .sized;
+              lentLength = g .lentLength;
+              rest = g .rest;
+              kept = λ n. absurd (n refl);
+              untouched = λ n. let z : ⊥ = omega arith in absurd z;
+              light = λ s y. g .light y;
+            };
+        numbers = refl;
+        accepted = λ s f. refl;
+        staysSound = λ s f. sound-from t₁ (g .shaped e s) (omega (arith, f, ap length (spots s), g .boundIs e));
+        liveAfter = λ s f. lives s;
+      }
+    where
+      lives : sound t ≡ true → (k : ℕ) → live t₁ k ≡ after k
+      lives s k = g .liveIs e s k ∙ says k
+
+      spots : sound t ≡ true → liveSpots t₁ ≡ ys
+      spots s = spots-are p s (g .shaped e s) (lives s)
+
+  -- it did not, and the table is as it was
+  module _ (e : r ≡ false) {t₂ w₂ : List ℕ} {fits q : Bool} (a : Renewed t t₂ w₁ w₂ ys fits q) where
+    leaves-anew : {n : ℕ} → (n ≢ 0 → t₂ ≡ t) → n ≢ 4 → Leaves t t₂ w w₂ n
+    leaves-anew k d =
+        record {
+          sized = a .sized;
+          lentLength = a .lent ∙ g .lentLength;
+          rest = a .rest ∙ g .rest;
+          kept = k;
+          untouched = λ n. absurd (d n);
+          light = λ s y. absurd (true≢false (sym (g .ready s y) ∙ e));
+        }
+
+    pub within-anew : q ≡ true → Within t t₂ w w₂ bound (length ys) after 0
+    within-anew y =
+        record {
+          leaves = leaves-anew (λ n. absurd (n refl)) (λ n. omega arith);
+          numbers = refl;
+          accepted = λ s f. refl;
+          staysSound = λ s f. rebuilt-sound t₂ ys (a .built y);
+          liveAfter = λ s f k. rebuilt-live t₂ ys (a .built y) k ∙ p .finds s k;
+        }
+
+    pub within-broken : q ≡ false → (length ys ≤ bound → fits ≡ true) → Within t t₂ w w₂ bound (length ys) after 3
+    within-broken y room =
+        record {
+          leaves = leaves-anew (λ n. a .kept y) (λ n. omega arith);
+          numbers = refl;
+          accepted = λ s f. absurd (stuck s f);
+          staysSound = λ s f. absurd (stuck s f);
+          liveAfter = λ s f. absurd (stuck s f);
+        }
+      where
+        stuck : sound t ≡ true → length ys ≤ bound → ⊥
+        stuck s f = true≢false (sym (a .whole s (room f)) ∙ y)
+
+-- the change may be followed by a renewal
+pub lent-again : {t t₁ w w₁ : List ℕ} {ss : List Spot} {ks : List ℕ} {bound : ℕ} {r : Bool} → Lent t w → ChangedBy t t₁ w w₁ ss ks bound r
+    → (tableSized (length t₁) ≡ true) × (length t₁ ≤ length w₁)
+lent-again l g = (ap tableSized (g .sized) ∙ l .sized, omega (arith, g .sized, g .lentLength, l .room))
+
+-- ---- a spot put in
+
+abbrev withSpot : Spot → List ℕ → List Spot
+withSpot s t = put s (without (s .key) (liveSpots t))
+
+abbrev pub PutWithin : List ℕ → List ℕ → List ℕ → List ℕ → Spot → ℕ → ℕ → Type 0
+PutWithin t t′ w w′ s bound n = Within t t′ w w′ bound (length (put s (without (s .key) (liveSpots t)))) (withKey (s .key) (some (s .track)) (live t)) n
+
+module _ {t t₁ w w₁ : List ℕ} {ss : List Spot} {ks : List ℕ} {bound : ℕ} {r : Bool} (s : Spot) (g : ChangedBy t t₁ w w₁ ss ks bound r) where
+  pub put-tree : ss ≡ s ∷ [] → ks ≡ [] → r ≡ true → PutWithin t t₁ w w₁ s bound 0
+  put-tree e f y = within-tree g (planned-put t s) y (says-put s (live t) e f)
+
+  module _ (n : r ≡ false) {t₂ w₂ : List ℕ} {q : Bool} (a : Renewed t₁ t₂ w₁ w₂ (withSpot s t₁) (leb (length (withSpot s t₁)) (capacity (length t₁))) q) where
+    as-was : Renewed t t₂ w₁ w₂ (withSpot s t) (leb (length (withSpot s t)) (capacity (length t))) q
+    as-was = subst (λ (x : List ℕ). Renewed x t₂ w₁ w₂ (withSpot s x) (leb (length (withSpot s x)) (capacity (length x))) q) (g .kept n) a
+
+    pub put-anew : q ≡ true → PutWithin t t₂ w w₂ s bound 0
+    put-anew y = within-anew g (planned-put t s) n as-was y
+
+    pub put-broken : bound ≤ capacity (length t) → q ≡ false → PutWithin t t₂ w w₂ s bound 3
+    put-broken few y = within-broken g (planned-put t s) n as-was y (λ h. le-leb (length (withSpot s t)) (capacity (length t)) (omega arith))
+
+-- ---- a key taken out
+
+abbrev pub OutWithin : List ℕ → List ℕ → List ℕ → List ℕ → ℕ → ℕ → ℕ → Type 0
+OutWithin t t′ w w′ k bound n = Within t t′ w w′ bound (length (without k (liveSpots t))) (withKey k none (live t)) n
+
+module _ {t t₁ w w₁ : List ℕ} {ss : List Spot} {ks : List ℕ} {bound : ℕ} {r : Bool} (k : ℕ) (g : ChangedBy t t₁ w w₁ ss ks bound r) where
+  pub out-tree : ss ≡ [] → ks ≡ k ∷ [] → r ≡ true → OutWithin t t₁ w w₁ k bound 0
+  out-tree e f y = within-tree g (planned-out t k) y (says-out k (live t) e f)
+
+  module _ (n : r ≡ false) {t₂ w₂ : List ℕ} {q : Bool} (a : Renewed t₁ t₂ w₁ w₂ (without k (liveSpots t₁)) true q) where
+    out-was : Renewed t t₂ w₁ w₂ (without k (liveSpots t)) true q
+    out-was = subst (λ (x : List ℕ). Renewed x t₂ w₁ w₂ (without k (liveSpots x)) true q) (g .kept n) a
+
+    pub out-anew : q ≡ true → OutWithin t t₂ w w₂ k bound 0
+    out-anew y = within-anew g (planned-out t k) n out-was y
+
+    pub out-broken : q ≡ false → OutWithin t t₂ w w₂ k bound 3
+    out-broken y = within-broken g (planned-out t k) n out-was y (λ h. refl)

@@ -1,0 +1,71 @@
+-- `revise::take_within` meets its contract: one delete in the tree, or all laid out anew without it.
+-- Assumes nothing.
+use Rattle.revise.proofs.Ends.{lent-again, out-tree, out-anew, out-broken}
+use mathlib.Core.List.{List, [], _∷_, _++_}
+use Prim.Native.Nat.{ℕ}
+use mathlib.Core.Path.{ap, _∙_}
+use borrow.Author.Needs.{needs}
+use native.Mathlib.Omega.{arith}
+use Rattle.revise.proofs.take_within.Statement.{statement}
+use Rattle.revise.proofs.take_within.Tie as tie
+
+empty-requires : tie.Need-empty-requires
+empty-requires c κs = search needs
+
+empty-keys-requires : tie.Need-empty-keys-requires
+empty-keys-requires c κs = search needs
+
+push-key-requires : tie.Need-push-key-requires
+push-key-requires c κs = search needs
+
+change-requires : tie.Need-change-requires
+change-requires c κs = record { header = c .before .before .before .before .before .before .before .pre .1; lent = c .before .before .before .before .before .before .before .pre .0 .room; few = c .before .before .before .before .before .before .before .pre .2; one = omega (arith, c .before .before .push-key .ensures .0, c .before .before .before .before .empty .ensures .0, c .before .before .before .empty-keys .ensures .0) }
+
+same-length : tie.Need-same-length
+same-length c = search needs
+
+same-length-2 : tie.Need-same-length-2
+same-length-2 c = search needs
+
+returns : tie.Need-returns
+returns c = out-tree (c .before .before .before .before .before .before .before .before .before .before .before .before .before .args .k) (c .before .before .before .before .before .change .ensures) (c .before .before .before .before .before .before .before .before .before .before .empty .ensures .1) (c .before .before .before .before .before .before .before .before .push-key .ensures .1 ∙ ap (λ (l : List ℕ). l ++ (c .before .before .before .before .before .before .before .before .before .before .before .before .before .args .k ∷ [])) (c .before .before .before .before .before .before .before .before .before .empty-keys .ensures .1)) (c .if1 .taken)
+
+without-key-requires : tie.Need-without-key-requires
+without-key-requires c κs = lent-again (c .before .before .before .before .before .before .before .before .before .before .before .before .before .before .before .pre .0) (c .before .before .before .before .before .before .before .change .ensures)
+
+same-length-3 : tie.Need-same-length-3
+same-length-3 c = search needs
+
+same-length-4 : tie.Need-same-length-4
+same-length-4 c = search needs
+
+returns-2 : tie.Need-returns-2
+returns-2 c = out-anew (c .before .before .before .before .before .before .before .before .before .before .before .before .before .before .before .before .before .before .before .before .before .args .k) (c .before .before .before .before .before .before .before .before .before .before .before .before .before .change .ensures) (c .before .before .before .before .before .before .before .before .if1 .left) (c .before .before .before .before .before .without-key .ensures) (c .if2 .taken)
+
+same-length-5 : tie.Need-same-length-5
+same-length-5 c = search needs
+
+same-length-6 : tie.Need-same-length-6
+same-length-6 c = search needs
+
+returns-3 : tie.Need-returns-3
+returns-3 c = out-broken (c .before .before .before .before .before .before .before .before .before .before .before .before .before .before .before .before .before .before .before .before .before .args .k) (c .before .before .before .before .before .before .before .before .before .before .before .before .before .change .ensures) (c .before .before .before .before .before .before .before .before .if1 .left) (c .before .before .before .before .before .without-key .ensures) (c .if2 .left)
+
+pub take-within-spec : {M : Type 1} → statement M
+take-within-spec =
+    tie.close
+    (tie.spec
+    empty-requires
+    empty-keys-requires
+    push-key-requires
+    change-requires
+    same-length
+    same-length-2
+    returns
+    without-key-requires
+    same-length-3
+    same-length-4
+    returns-2
+    same-length-5
+    same-length-6
+    returns-3)

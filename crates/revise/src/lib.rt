@@ -1,0 +1,108 @@
+// One spot put in or taken out: first in the tree, and where that does not go, by laying the live spots out anew.
+ghost use mathlib.Core.Path.{_≡_};
+ghost use mathlib.Core.Bool.{true};
+ghost use mathlib.Core.List.{[], _∷_};
+ghost use mathlib.Core.Option.{none, some};
+ghost use Prim.Native.Nat.{_≤_};
+ghost use lib.ListN.{length};
+ghost use Rattle.spot.specs.Spots.{put, without};
+ghost use Rattle.block.specs.Table.{capacity};
+ghost use Rattle.block.specs.Header.{headOf};
+ghost use Rattle.block.specs.HeaderRules.{headerOk};
+ghost use Rattle.revise.specs.Numbers.{addNumber};
+ghost use Rattle.tree.specs.Lookup.{live, isLive, withKey};
+ghost use Rattle.tree.specs.Walk.{liveSpots, liveCount};
+ghost use Rattle.revise.specs.Revising.{Lent, Within, Revised};
+
+// The spot put in, where the live spots are then no more than the bound.
+fn put_within(table: &mut [u8], scratch: &mut [u8], s: spot::Spot, bound: u64) -> u32
+    requires { ⌜ Lent (now table) (now scratch) × (headerOk (length (now table)) (headOf (now table)) ≡ true) × (bound ≤ capacity (length (now table))) ⌝ }
+    ensures { λ r. ⌜ Within (now (table .entry)) (now (table .exit)) (now (scratch .entry)) (now (scratch .exit)) bound (length (put s (without (s .key) (liveSpots (now (table .entry)))))) (withKey (s .key) (some (s .track)) (live (now (table .entry)))) r ⌝ }
+{
+    let one = buffer::push(buffer::empty(), s);
+    let none = buffer::empty_keys();
+    if change::change(table, scratch, one, none, bound) {
+        return 0;
+    }
+    if renew::with_spot(table, scratch, s) {
+        return 0;
+    }
+    3
+}
+
+// The spot put in, where the bound is at capacity and its key is not live: the live spots are counted.
+fn put_counted(table: &mut [u8], scratch: &mut [u8], s: spot::Spot) -> u32
+    requires { ⌜ Lent (now table) (now scratch) × (headerOk (length (now table)) (headOf (now table)) ≡ true) × (live (now table) (s .key) ≡ none) ⌝ }
+    ensures { λ r. ⌜ Revised (now (table .entry)) (now (table .exit)) (now (scratch .entry)) (now (scratch .exit)) (addNumber (length (now (table .entry))) (liveCount (now (table .entry))) (isLive (live (now (table .entry)) (s .key)))) (0 ∷ 3 ∷ 4 ∷ []) (withKey (s .key) (some (s .track)) (live (now (table .entry)))) r ⌝ }
+{
+    let mut seen = [0u8; 512];
+    let everything = spot::Query {
+        from: 0,
+        last: 18446744073709551615,
+        least: 0,
+    };
+    let all = query::count_table(table, &mut seen, everything);
+    if !all.ok {
+        return 3;
+    }
+    if block::capacity_of(table.len()) <= all.spots {
+        return 4;
+    }
+    put_within(table, scratch, s, all.spots as u64 + 1)
+}
+
+// Add: 4 where the table holds as many spots as it may and the key is not live. Below that the bound grows by one without a look.
+pub fn put_spot(table: &mut [u8], scratch: &mut [u8], s: spot::Spot) -> u32
+    requires { ⌜ Lent (now table) (now scratch) ⌝ }
+    ensures { λ r. ⌜ Revised (now (table .entry)) (now (table .exit)) (now (scratch .entry)) (now (scratch .exit)) (addNumber (length (now (table .entry))) (liveCount (now (table .entry))) (isLive (live (now (table .entry)) (s .key)))) (0 ∷ 3 ∷ 4 ∷ []) (withKey (s .key) (some (s .track)) (live (now (table .entry)))) r ⌝ }
+{
+    if !block::header_ok(table) {
+        return 3;
+    }
+    let most = block::capacity_of(table.len()) as u64;
+    let bound = block::bound_of(table);
+    if bound < most {
+        return put_within(table, scratch, s, bound + 1);
+    }
+    match lookup::look_up(table, s.key) {
+        lookup::Looked::Broken => 3,
+        lookup::Looked::Live(_) => put_within(table, scratch, s, bound),
+        lookup::Looked::Nothing => put_counted(table, scratch, s),
+    }
+}
+
+// The spot of a key taken out, where the live spots are then no more than the bound.
+fn take_within(table: &mut [u8], scratch: &mut [u8], k: u64, bound: u64) -> u32
+    requires { ⌜ Lent (now table) (now scratch) × (headerOk (length (now table)) (headOf (now table)) ≡ true) × (bound ≤ capacity (length (now table))) ⌝ }
+    ensures { λ r. ⌜ Within (now (table .entry)) (now (table .exit)) (now (scratch .entry)) (now (scratch .exit)) bound (length (without k (liveSpots (now (table .entry))))) (withKey k none (live (now (table .entry)))) r ⌝ }
+{
+    let none = buffer::empty();
+    let one = buffer::push_key(buffer::empty_keys(), k);
+    if change::change(table, scratch, none, one, bound) {
+        return 0;
+    }
+    if renew::without_key(table, scratch, k) {
+        return 0;
+    }
+    3
+}
+
+// Withdraw: at capacity the key is looked up, so that the bound falls with a live one and the next Add need not count.
+pub fn take_key(table: &mut [u8], scratch: &mut [u8], k: u64) -> u32
+    requires { ⌜ Lent (now table) (now scratch) ⌝ }
+    ensures { λ r. ⌜ Revised (now (table .entry)) (now (table .exit)) (now (scratch .entry)) (now (scratch .exit)) 0 (0 ∷ 3 ∷ []) (withKey k none (live (now (table .entry)))) r ⌝ }
+{
+    if !block::header_ok(table) {
+        return 3;
+    }
+    let most = block::capacity_of(table.len()) as u64;
+    let bound = block::bound_of(table);
+    if bound < most {
+        return take_within(table, scratch, k, bound);
+    }
+    match lookup::look_up(table, k) {
+        lookup::Looked::Broken => 3,
+        lookup::Looked::Live(_) => take_within(table, scratch, k, bound - 1),
+        lookup::Looked::Nothing => take_within(table, scratch, k, bound),
+    }
+}

@@ -1,0 +1,136 @@
+-- The posts of Add and Withdraw: one law for each way that they end.
+-- Assumes nothing.
+use mathlib.Core.Path.{_≡_, refl, ap, ap₂, sym, subst, _∙_}
+use mathlib.Core.Logic.{_⊎_, ⊎-elim, _≢_}
+use mathlib.Core.Bool.{true, false}
+use mathlib.Core.List.{List, [], _∷_, _++_}
+use mathlib.Core.Option.{Option, none, some}
+use Prim.Native.Nat.{ℕ, _<_}
+use native.Mathlib.Omega.{arith}
+use lib.Dec.{leb}
+use lib.IntN.{ℤ}
+use lib.ListN.{length, drop, replicate}
+use borrow.Author.Tests.{ne-eqb, le-leb, lt-leb}
+use Rattle.octets.specs.Lists.{has}
+use Rattle.spot.specs.Keys.{key}
+use Rattle.block.specs.Answers.{answer}
+use Rattle.block.specs.declared.Answer.{Answer}
+use Rattle.block.specs.Table.{tableSized}
+use Rattle.tree.specs.Lookup.{live, isLive, withKey}
+use Rattle.tree.specs.Walk.{liveCount}
+use Rattle.revise.specs.Numbers.{addNumber}
+use Rattle.revise.specs.Revising.{Lent, Revised}
+use Rattle.revise.proofs.Calls.{two-ways}
+use Rattle.table.specs.Calls.{Call, add, withdraw}
+use Rattle.table.specs.Answers.{lengths, lent, lengthNumber, outcomes}
+use Rattle.table.specs.Updates.{scratchLeft, UpdatePost, ChangePost, AddPost, WithdrawPost}
+
+-- ---- any call that changes the table
+
+pub number-is : {r : Answer} {n : ℕ} → r ≡ answer n 0 → r .number ≡ n
+number-is a = ap (λ (x : Answer). x .number) a
+
+module _ (c : Call) (due : ℕ) (after : ℕ → Option ℕ) (t w : List ℕ) (r : Answer) where
+  -- refused by the lengths: everything is as it was
+  pub update-refused : (n : ℕ) → n ≢ 0 → lengthNumber (lengths t [] [] w) c ≡ n → scratchLeft (length t) n w ≡ w → r ≡ answer n 0 → UpdatePost c due after t w r t w
+  update-refused n nonzero l left a =
+      record {
+        detail = ap (λ (x : Answer). x .detail) a;
+        refusals = λ h. number-is a ∙ sym l;
+        header = λ h. absurd (nonzero (sym l ∙ h));
+        numbers = λ h. absurd (nonzero (sym l ∙ h));
+        unchanged = λ h. refl;
+        sized = refl;
+        scratch = sym left ∙ ap (λ (i : ℕ). scratchLeft (length t) i w) (sym (number-is a));
+        number = λ s h. absurd (nonzero (sym l ∙ h));
+        staysSound = λ s. s;
+        liveAfter = λ s h. absurd (nonzero (sym (number-is a) ∙ h));
+      }
+
+  pub update-short : tableSized (length t) ≡ false → r ≡ answer 1 0 → UpdatePost c due after t w r t w
+  unfolding lengthNumber scratchLeft
+  update-short e a = update-refused 1 (λ h. omega arith) (rw e) refl a
+
+  -- the scratch is too short
+  pub update-lent : tableSized (length t) ≡ true → lent (lengths t [] [] w) c ≡ false → r ≡ answer 2 0 → UpdatePost c due after t w r t w
+  unfolding lengthNumber scratchLeft
+  update-lent e h a = update-refused 2 (λ x. omega arith) (rw (e, h)) refl a
+
+  -- the lengths are right
+  module _ {t′ w₁ : List ℕ} {n : ℕ} (l : Lent t w) (asks : lent (lengths t [] [] w) c ≡ leb (length t) (length w)) (g : Revised t t′ w w₁ due (outcomes c) after n) (a : r ≡ answer n 0) where
+    fine : lengthNumber (lengths t [] [] w) c ≡ 0
+    unfolding lengthNumber
+    fine = rw (l .sized, asks, le-leb (length t) (length w) (l .room))
+
+    revised-post : {w′ : List ℕ} → w′ ≡ scratchLeft (length t) n w → ChangePost c due after t w r t′ w′
+    revised-post left =
+        record {
+          update =
+              record {
+                detail = ap (λ (x : Answer). x .detail) a;
+                refusals = λ h. absurd (h fine);
+                header = λ h b. number-is a ∙ g .header b;
+                numbers = λ h. ap (λ (x : Answer). has (x .number) (outcomes c)) a ∙ g .numbers;
+                unchanged = λ h. g .leaves .kept (λ e. h (number-is a ∙ e));
+                sized = g .leaves .sized;
+                scratch = left ∙ ap (λ (i : ℕ). scratchLeft (length t) i w) (sym (number-is a));
+                number = λ s h. number-is a ∙ g .numberIs s;
+                staysSound = g .staysSound;
+                liveAfter = λ s h. g .liveAfter s (sym (number-is a) ∙ h);
+              };
+          light = g .leaves .light;
+        }
+
+    -- the scratch is cleared then
+    pub change-ends : {w′ : List ℕ} → (n ≡ 0) ⊎ (n ≡ 3) → w′ ≡ replicate (length t) 0 ++ drop (length t) w₁ → ChangePost c due after t w r t′ w′
+    unfolding scratchLeft
+    change-ends {w′} ends cleared =
+        revised-post
+        (cleared ∙ ap (λ (x : List ℕ). replicate (length t) 0 ++ x) (g .leaves .rest) ∙
+        sym (⊎-elim (λ e. ap (λ (i : ℕ). scratchLeft (length t) i w) e) (λ e. ap (λ (i : ℕ). scratchLeft (length t) i w) e) ends))
+
+    -- full: it was not touched
+    pub change-full : n ≡ 4 → ChangePost c due after t w r t′ w₁
+    unfolding scratchLeft
+    change-full e = revised-post (g .leaves .untouched e ∙ sym (ap (λ (i : ℕ). scratchLeft (length t) i w) e))
+
+three-ways : (n : ℕ) → n ≢ 4 → has n (0 ∷ 3 ∷ 4 ∷ []) ≡ true → (n ≡ 0) ⊎ (n ≡ 3)
+three-ways n d h = two-ways n (rw (ne-eqb n 4 d) at h)
+
+-- the identity's key, as the code has it
+pub key-is : (place rank a b : ℤ) {k : ℕ} → a ≡ place → b ≡ rank → k ≡ key a b → k ≡ key place rank
+key-is place rank a b p q e = e ∙ ap₂ key p q
+
+-- ---- Add
+
+module _ (place rank : ℤ) (track : ℕ) (t w : List ℕ) (r : Answer) where
+  pub add-short : tableSized (length t) ≡ false → r ≡ answer 1 0 → AddPost place rank track t w r t w
+  add-short e a = record { update = update-short (add place rank track) _ _ t w r e a; light = λ s y b z o. refl }
+
+  pub add-lent : tableSized (length t) ≡ true → length w < length t → r ≡ answer 2 0 → AddPost place rank track t w r t w
+  add-lent e h a = record { update = update-lent (add place rank track) _ _ t w r e (lt-leb (length t) (length w) h) a; light = λ s y b z o. refl }
+
+  module _ {t′ w₁ : List ℕ} {n k : ℕ} (l : Lent t w) (e : k ≡ key place rank)
+      (g : Revised t t′ w w₁ (addNumber (length t) (liveCount t) (isLive (live t k))) (0 ∷ 3 ∷ 4 ∷ []) (withKey k (some track) (live t)) n) where
+    of-key : Revised t t′ w w₁ (addNumber (length t) (liveCount t) (isLive (live t (key place rank)))) (0 ∷ 3 ∷ 4 ∷ []) (withKey (key place rank) (some track) (live t)) n
+    of-key = subst (λ (i : ℕ). Revised t t′ w w₁ (addNumber (length t) (liveCount t) (isLive (live t i))) (0 ∷ 3 ∷ 4 ∷ []) (withKey i (some track) (live t)) n) e g
+
+    pub add-full : n ≡ 4 → r ≡ answer 4 0 → AddPost place rank track t w r t′ w₁
+    add-full f a = change-full (add place rank track) _ _ t w r l refl of-key (a ∙ ap (λ (i : ℕ). answer i 0) (sym f)) f
+
+    pub add-ends : {w′ : List ℕ} → r ≡ answer n 0 → n ≢ 4 → w′ ≡ replicate (length t) 0 ++ drop (length t) w₁ → AddPost place rank track t w r t′ w′
+    add-ends a d cleared = change-ends (add place rank track) _ _ t w r l refl of-key a (three-ways n d (g .numbers)) cleared
+
+-- ---- Withdraw
+
+module _ (place rank : ℤ) (t w : List ℕ) (r : Answer) where
+  pub withdraw-short : tableSized (length t) ≡ false → r ≡ answer 1 0 → WithdrawPost place rank t w r t w
+  withdraw-short e a = record { update = update-short (withdraw place rank) _ _ t w r e a; light = λ s y b z o. refl }
+
+  pub withdraw-lent : tableSized (length t) ≡ true → length w < length t → r ≡ answer 2 0 → WithdrawPost place rank t w r t w
+  withdraw-lent e h a = record { update = update-lent (withdraw place rank) _ _ t w r e (lt-leb (length t) (length w) h) a; light = λ s y b z o. refl }
+
+  pub withdraw-ends : {t′ w₁ w′ : List ℕ} {n k : ℕ} → Lent t w → k ≡ key place rank → Revised t t′ w w₁ 0 (0 ∷ 3 ∷ []) (withKey k none (live t)) n → r ≡ answer n 0
+      → w′ ≡ replicate (length t) 0 ++ drop (length t) w₁ → WithdrawPost place rank t w r t′ w′
+  withdraw-ends {t′} {w₁} {w′} {n} {k} l e g a cleared =
+      change-ends (withdraw place rank) _ _ t w r l refl (subst (λ (i : ℕ). Revised t t′ w w₁ 0 (0 ∷ 3 ∷ []) (withKey i none (live t)) n) e g) a (two-ways n (g .numbers)) cleared

@@ -1,0 +1,64 @@
+-- `table::top_none` meets its contract.
+-- Assumes nothing.
+use Rattle.table.proofs.Topping.{map-none}
+use Rattle.table.proofs.Answering.{map-is}
+use Rattle.query.proofs.Roots.{sized-long}
+use Rattle.tree.proofs.MapBits.{zeros-length}
+use borrow.Author.Tests.{not-true, not-false}
+use denote.Ref.{now}
+use mathlib.Core.Logic.{inl, inr}
+use mathlib.Core.Path.{refl, sym, _∙_}
+use borrow.Author.Needs.{needs}
+use native.Mathlib.Omega.{arith}
+use Rattle.table.proofs.top_none.Statement.{statement}
+use Rattle.table.proofs.top_none.Tie as tie
+
+header-ok-requires : tie.Need-header-ok-requires
+header-ok-requires c κs = sized-long (now (c .before .before .args .table)) (c .before .before .pre .0)
+
+refuse-requires : tie.Need-refuse-requires
+refuse-requires c κs = search needs
+
+returns : tie.Need-returns
+returns c = inl (sym (c .before .before .header-ok .ensures) ∙ not-true _ (c .before .if1 .taken), c .refuse .ensures, refl)
+
+slice-aggregate-set-bit : tie.Need-slice-aggregate-set-bit
+slice-aggregate-set-bit c = search needs
+
+set-bit-requires : tie.Need-set-bit-requires
+set-bit-requires c κs = search needs
+
+slice-aggregate-copy : tie.Need-slice-aggregate-copy
+slice-aggregate-copy c = search needs
+
+copy-requires : tie.Need-copy-requires
+copy-requires c κs = (omega (arith, c .before .before .before .set-bit .kept .0, zeros-length 512), omega (arith, c .before .before .before .before .before .before .before .before .before .pre .1))
+
+refuse-requires-2 : tie.Need-refuse-requires-2
+refuse-requires-2 c κs = search needs
+
+same-length : tie.Need-same-length
+same-length c = search needs
+
+returns-2 : tie.Need-returns-2
+returns-2 c =
+    inr (
+      sym (c .before .before .before .before .before .before .before .before .before .before .header-ok .ensures) ∙ not-false _ (c .before .before .before .before .before .before .before .before .before .if1 .left),
+      c .refuse2 .ensures,
+      map-is _ (now (c .before .before .before .before .before .before .before .before .before .before .before .before .before .args .read-map)) _ _ (c .before .before .before .before .before .before .before .set-bit .kept .0 ∙ zeros-length 512) (c .before .before .before .before .before .before .before .before .before .before .before .before .before .pre .1) (c .before .before .before .before .before .before .before .set-bit .ensures ∙ map-none) (c .before .before .before .copy .ensures),
+    )
+
+pub top-none-spec : {M : Type 1} → statement M
+top-none-spec =
+    tie.close
+    (tie.spec
+    header-ok-requires
+    refuse-requires
+    returns
+    slice-aggregate-set-bit
+    set-bit-requires
+    slice-aggregate-copy
+    copy-requires
+    refuse-requires-2
+    same-length
+    returns-2)

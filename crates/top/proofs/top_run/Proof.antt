@@ -1,0 +1,93 @@
+-- `top::top_run` meets its contract: few slots are enough, or all are taken.
+-- Assumes nothing.
+use Rattle.top.proofs.Sweeps.{run-some, run-again, zeroed}
+use Rattle.tree.proofs.MapBits.{zeros-length}
+use borrow.Author.Tests.{not-true}
+use Prim.Native.Nat.{ℕ, zero}
+use lib.ListN.{length, replicate, length-replicate}
+use mathlib.Core.Path.{ap, sym, _∙_}
+use borrow.Author.Needs.{needs}
+use native.Mathlib.Omega.{arith}
+use Rattle.top.proofs.top_run.Statement.{statement}
+use Rattle.top.proofs.top_run.Tie as tie
+
+slice-aggregate-look : tie.Need-slice-aggregate-look
+slice-aggregate-look c = search needs
+
+slice-aggregate-look-2 : tie.Need-slice-aggregate-look-2
+slice-aggregate-look-2 c = search needs
+
+slice-aggregate-look-3 : tie.Need-slice-aggregate-look-3
+slice-aggregate-look-3 c = search needs
+
+slice-aggregate-look-4 : tie.Need-slice-aggregate-look-4
+slice-aggregate-look-4 c = search needs
+
+look-requires : tie.Need-look-requires
+look-requires c κs =
+    let p = c .before .before .before .before .before .before .before .before .before .pre in
+    record {
+      x1 = p .x1;
+      x2 = p .x2;
+      asks = p .asks;
+      sized = p .sized;
+      clear = p .clear;
+      some = p .some;
+      fits = p .fits;
+      slots = omega (arith, length-replicate 64 (replicate {A = ℕ} 6 0));
+      pathed = length-replicate 64 (replicate {A = ℕ} 8 0) ∙ sym (length-replicate 64 (replicate {A = ℕ} 6 0));
+      head = length-replicate 64 (replicate {A = ℕ} 3 0) ∙ sym (length-replicate 64 (replicate {A = ℕ} 6 0));
+      cells = omega (arith, length-replicate 512 zero, length-replicate 64 (replicate {A = ℕ} 6 0));
+    }
+
+same-length : tie.Need-same-length
+same-length c = search needs
+
+same-length-2 : tie.Need-same-length-2
+same-length-2 c = search needs
+
+returns : tie.Need-returns
+returns c = run-some (not-true _ (c .if1 .taken)) (c .before .before .before .before .before .before .before .before .before .before .look .ensures)
+
+zero-requires : tie.Need-zero-requires
+zero-requires c κs = omega (arith, c .before .before .before .before .before .before .before .before .before .before .before .look .kept .1 .0, ap length (c .before .before .before .before .before .before .before .before .before .before .before .before .before .before .before .before .before .before .before .before .before .pre .clear) ∙ zeros-length 512)
+
+wide-run-requires : tie.Need-wide-run-requires
+wide-run-requires c κs =
+    let p = c .before .before .before .before .before .before .before .before .before .before .before .before .before .before .before .before .before .before .before .before .before .before .before .before .before .before .pre in
+    record {
+      x1 = p .x1;
+      x2 = p .x2;
+      asks = p .asks;
+      sized = p .sized;
+      clear = zeroed (c .before .before .before .before .before .before .before .before .before .before .before .before .before .before .before .before .look .last .1 .0) (c .before .before .before .before .before .before .before .before .before .before .before .before .before .before .before .before .look .kept .1 .0 ∙ ap length (p .clear) ∙ zeros-length 512) (c .before .before .before .before .zero .ensures);
+      some = p .some;
+      fits = omega (arith, c .before .before .before .before .before .before .before .before .before .before .before .before .before .before .before .before .look .kept .1 .1 .1 .1 .0, p .fits);
+    }
+
+same-length-3 : tie.Need-same-length-3
+same-length-3 c = search needs
+
+same-length-4 : tie.Need-same-length-4
+same-length-4 c = search needs
+
+returns-2 : tie.Need-returns-2
+returns-2 c = run-again (c .before .before .before .before .before .before .before .before .before .before .before .before .before .before .before .before .before .before .before .before .before .look .kept .1 .1 .1 .1 .0) (c .before .before .before .before .wide-run .ensures)
+
+pub top-run-spec : {M : Type 1} → statement M
+top-run-spec =
+    tie.close
+    (tie.spec
+    slice-aggregate-look
+    slice-aggregate-look-2
+    slice-aggregate-look-3
+    slice-aggregate-look-4
+    look-requires
+    same-length
+    same-length-2
+    returns
+    zero-requires
+    wide-run-requires
+    same-length-3
+    same-length-4
+    returns-2)

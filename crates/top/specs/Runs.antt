@@ -1,0 +1,197 @@
+-- What the functions of Top are handed and hand back.
+-- Assumes nothing.
+use mathlib.Core.Path.{_≡_}
+use Prim.Native.Nat.{ℕ, suc, _+_, _*_, _≤_, _<_}
+use mathlib.Core.Bool.{Bool, true, false}
+use mathlib.Core.Logic.{_⊎_}
+use mathlib.Core.List.{List, [], _∷_, _++_, List·Memᴰ}
+use lib.ListN.{length, take, drop, getD, replicate}
+use lib.IntN.{ℤ}
+use Rattle.octets.specs.Bitmap.{bit, setBit}
+use Rattle.spot.specs.Keys.{rankOf}
+use Rattle.spot.specs.Spots.{spotsBytes}
+use Rattle.spot.specs.Query.{topQuery}
+use Rattle.spot.specs.declared.Spot.{Spot}
+use Rattle.spot.specs.declared.Query.{Query}
+use Rattle.block.specs.declared.Asked.{Asked}
+use Rattle.block.specs.declared.Asked.the-variants.{Root}
+use Rattle.block.specs.Table.{tableSized, blocksOf}
+use Rattle.octets.specs.Lists.{has}
+use Rattle.block.specs.Node.{storeOf}
+use Rattle.block.specs.NodeRules.{nodeOk}
+use Rattle.tree.specs.Walk.{broken, finds}
+use Rattle.tree.specs.Top.{topWalk}
+use Rattle.tree.specs.ReadMap.{readMap}
+use Rattle.tree.proofs.BestFirstTree.{rootOf}
+use Rattle.tree.proofs.BestFirstTop.{Done}
+use Rattle.visit.specs.Visit.{above, waitingAbove, ceiling, Ancestors}
+use Rattle.front.specs.declared.Slot.{Slot}
+use Rattle.front.specs.Frontier.{slotAt, headAt, kidEntry, kidSpan, Best, Cells}
+use Rattle.top.specs.declared.Fresh.{Fresh}
+use Rattle.top.specs.declared.Search.{Search}
+use Rattle.top.specs.declared.TopTally.{TopTally}
+use Rattle.top.specs.Reading.{pendOf, Standing, Going, Under}
+
+abbrev pub cellAt : List ℕ → ℕ → ℕ
+cellAt kids c = getD kids c 0
+
+-- ---- a node is read
+
+-- a node to be read, and room for a slot
+pub record Readable (t seen : List ℕ) (rows paths heads : List (List ℕ)) (kids : List ℕ) (n : ℕ) (s : Slot) (a : Asked) : Type 0 where
+  pub inside : s .block * 2048 + 2048 ≤ length t
+  pub near : s .block < 4096
+  pub mapped : length seen ≡ 512
+  pub few : n < 4096
+  pub row : n < length rows
+  pub pathed : n < length paths
+  pub head : n < length heads
+  pub cells : 8 * n + 8 ≤ length kids
+  pub ancestors : Ancestors t (s .path) (ceiling a)
+  pub deep : s .path .n + s .level ≤ 6
+
+-- the frontier with the node in slot n
+pub record Added (t : List ℕ) (q : Query) (seen seen' : List ℕ) (rows rows' paths paths' heads heads' : List (List ℕ)) (kids kids' : List ℕ) (n : ℕ) (s : Slot) (a : Asked) : Type 0 where
+  pub new : bit seen (s .block) ≡ false
+  pub ok : nodeOk (s .level) a (storeOf t (s .block)) ≡ true
+  pub marked : seen' ≡ setBit seen (s .block)
+  pub slots : (j : ℕ) → j < n → slotAt rows' paths' j ≡ slotAt rows paths j
+  pub slotted : slotAt rows' paths' n ≡ s
+  pub headsKept : (j : ℕ) → j < n → headAt heads' j ≡ headAt heads j
+  pub headed : Best 18446744073709551615 (finds q (waitingAbove t (s .path)) (storeOf t (s .block))) (headAt heads' n)
+  pub cells : Cells t (s .block) (s .span) q (8 * n) kids kids'
+
+pub record NodeRead (t : List ℕ) (q : Query) (seen seen' : List ℕ) (rows rows' paths paths' heads heads' : List (List ℕ)) (kids kids' : List ℕ) (n : ℕ) (s : Slot) (a : Asked) (r : Bool) : Type 0 where
+  pub broken : r ≡ false → (bit seen (s .block) ≡ true) ⊎ (nodeOk (s .level) a (storeOf t (s .block)) ≡ false)
+  pub added : r ≡ true → Added t q seen seen' rows rows' paths paths' heads heads' kids kids' n s a
+
+-- the root's slot
+pub record Rooted (t : List ℕ) (s : Slot) : Type 0 where
+  pub same : pendOf t s Root ≡ rootOf t
+  pub inside : s .block * 2048 + 2048 ≤ length t
+  pub near : s .block < 4096
+  pub ancestors : Ancestors t (s .path) (ceiling Root)
+  pub deep : s .path .n + s .level ≤ 6
+
+-- the slot of the i-th child of s
+pub record Follows (t : List ℕ) (s : Slot) (i : ℕ) (r : Fresh) : Type 0 where
+  pub entry : r .entry ≡ kidEntry t (s .block) i
+  pub block : r .slot .block ≡ kidEntry t (s .block) i .block
+  pub level : suc (r .slot .level) ≡ s .level
+  pub span : r .slot .span ≡ kidSpan t (s .block) (s .span) i
+  pub longer : r .slot .path .n ≡ s .path .n + 1
+  pub path : above (r .slot .path) ≡ above (s .path) ++ (s .block ∷ [])
+
+-- ---- spots are given
+
+-- the first spots given, as many as there is room for, and what lies behind them
+abbrev pub written : ℕ → List Spot → List ℕ → List ℕ
+written room given base = spotsBytes (take room given) ++ drop (12 * length (take room given)) base
+
+-- the next spot of slot j is now one under the rank key r
+pub record Moved (t : List ℕ) (q : Query) (rows paths heads heads' : List (List ℕ)) (j r : ℕ) : Type 0 where
+  pub others : (s : ℕ) → (s ≡ j → ⊥) → headAt heads' s ≡ headAt heads s
+  pub next : Under r (finds q (waitingAbove t (slotAt rows paths j .path)) (storeOf t (slotAt rows paths j .block))) (headAt heads' j)
+
+pub record Givable (t out : List ℕ) (rows paths heads : List (List ℕ)) (n room : ℕ) : Type 0 where
+  pub row : n ≤ length rows
+  pub pathed : n ≤ length paths
+  pub head : n ≤ length heads
+  pub stands : (s : ℕ) → s < n → Standing t (slotAt rows paths s)
+  pub fits : 12 * room ≤ length out
+
+-- Top on its way, with these spots given and written, of which there are `count`
+pub record Sofar (t : List ℕ) (x1 x2 : ℤ) (k room : ℕ) (rows paths heads : List (List ℕ)) (cell : ℕ → ℕ) (n : ℕ) (base out blocks : List ℕ) (count : ℕ) : Type 0 where
+  pub given : List Spot
+  pub going : Going t x1 x2 k (slotAt rows paths) (headAt heads) cell n given blocks
+  pub counted : count ≡ length given
+  pub output : out ≡ written room given base
+  pub fits : 12 * room ≤ length base
+
+-- from one such state to another
+abbrev pub Passes : List ℕ → Query → ℕ → ℕ → List (List ℕ) → List (List ℕ) → List (List ℕ) → List (List ℕ) → ℕ → ℕ → List ℕ → List ℕ → ℕ → ℕ → Type 0
+Passes t q k room rows paths heads heads' n floor out out' count count' =
+    (x1 x2 : ℤ) (cell : ℕ → ℕ) (base blocks : List ℕ) → q ≡ topQuery x1 x2 0 → ((c : ℕ) → c < 8 * n → cell c ≤ floor)
+    → Sofar t x1 x2 k room rows paths heads cell n base out blocks count
+    → Sofar t x1 x2 k room rows paths heads' cell n base out' blocks count'
+
+-- the spots above the floor are given, or k
+pub record Gave (t : List ℕ) (q : Query) (k room : ℕ) (rows paths heads heads' : List (List ℕ)) (n floor : ℕ) (out out' : List ℕ) (count r : ℕ) : Type 0 where
+  pub passes : Passes t q k room rows paths heads heads' n floor out out' count r
+  pub ends : (k ≤ r) ⊎ ((s : ℕ) → s < n → headAt heads' s .there ≡ true → rankOf (headAt heads' s .spot .key) < floor)
+
+-- ---- the whole of it
+
+-- the map has just the bits of these blocks
+pub record Seen (seen blocks : List ℕ) : Type 0 where
+  pub sized : length seen ≡ 512
+  pub bytes : (i : ℕ) → getD seen i 0 < 256
+  pub bits : (b : ℕ) → bit seen b ≡ has b blocks
+
+-- Top on its way, with the map of the blocks read
+pub record Swept (t : List ℕ) (x1 x2 : ℤ) (k room : ℕ) (base seen out : List ℕ) (rows paths heads : List (List ℕ)) (kids : List ℕ) (n count : ℕ) : Type 0 where
+  pub blocks : List ℕ
+  pub sofar : Sofar t x1 x2 k room rows paths heads (cellAt kids) n base out blocks count
+  pub seenIs : Seen seen blocks
+
+-- the root is read
+pub record Sweepable (t : List ℕ) (q : Query) (seen out : List ℕ) (rows paths heads : List (List ℕ)) (kids : List ℕ) (k room : ℕ) : Type 0 where
+  pub x1 : ℤ
+  pub x2 : ℤ
+  pub asks : q ≡ topQuery x1 x2 0
+  pub few : blocksOf (length t) ≤ 4096
+  pub fits : 12 * room ≤ length out
+  pub slots : 1 ≤ length rows
+  pub pathed : length paths ≡ length rows
+  pub head : length heads ≡ length rows
+  pub cells : length kids ≡ 8 * length rows
+  pub begun : (y1 y2 : ℤ) → q ≡ topQuery y1 y2 0 → Swept t y1 y2 k room out seen out rows paths heads kids 1 0
+
+pub record Searchable (t : List ℕ) (q : Query) (seen out : List ℕ) (rows paths heads : List (List ℕ)) (kids : List ℕ) (k room : ℕ) : Type 0 where
+  pub x1 : ℤ
+  pub x2 : ℤ
+  pub asks : q ≡ topQuery x1 x2 0
+  pub sized : tableSized (length t) ≡ true
+  pub clear : seen ≡ replicate 512 0
+  pub some : 0 < k
+  pub fits : 12 * room ≤ length out
+  pub slots : 1 ≤ length rows
+  pub pathed : length paths ≡ length rows
+  pub head : length heads ≡ length rows
+  pub cells : length kids ≡ 8 * length rows
+
+-- Top is at its end: what it gives and what it reads are the definition's
+pub record Ended (t : List ℕ) (x1 x2 : ℤ) (k room : ℕ) (base seen' out' : List ℕ) (spots : ℕ) : Type 0 where
+  pub given : List Spot
+  pub blocks : List ℕ
+  pub done : Done t x1 x2 k given blocks
+  pub places : (b : ℕ) → List·Memᴰ b blocks → b < blocksOf (length t)
+  pub counted : spots ≡ length given
+  pub few : spots ≤ k
+  pub output : out' ≡ written room given base
+  pub map : seen' ≡ readMap blocks
+
+-- the search of a table with `cap` slots: it is short only where they are fewer than a table may need
+pub record Searched (t : List ℕ) (q : Query) (k room cap : ℕ) (out seen' out' : List ℕ) (r : Search) : Type 0 where
+  pub short : r .short ≡ true → cap ≤ 4095
+  pub fails : (x1 x2 : ℤ) → q ≡ topQuery x1 x2 0 → r .short ≡ false → r .ok ≡ false → topWalk t x1 x2 k ≡ broken
+  pub ends : (x1 x2 : ℤ) → q ≡ topQuery x1 x2 0 → r .ok ≡ true → Ended t x1 x2 k room out seen' out' (r .spots)
+
+pub record Runnable (t : List ℕ) (q : Query) (seen out : List ℕ) (k room : ℕ) : Type 0 where
+  pub x1 : ℤ
+  pub x2 : ℤ
+  pub asks : q ≡ topQuery x1 x2 0
+  pub sized : tableSized (length t) ≡ true
+  pub clear : seen ≡ replicate 512 0
+  pub some : 0 < k
+  pub fits : 12 * room ≤ length out
+
+-- Top of a table: a rule is broken where the definition's walk is, else what is given, written and read is the definition's
+pub record TopRun (t : List ℕ) (q : Query) (k room : ℕ) (out seen' out' : List ℕ) (r : TopTally) : Type 0 where
+  pub fails : (x1 x2 : ℤ) → q ≡ topQuery x1 x2 0 → r .ok ≡ false → topWalk t x1 x2 k ≡ broken
+  pub ends : (x1 x2 : ℤ) → q ≡ topQuery x1 x2 0 → r .ok ≡ true → Ended t x1 x2 k room out seen' out' (r .spots)
+
+-- the same, with any bytes behind the spots written
+pub record TopFront (t : List ℕ) (q : Query) (k room : ℕ) (out seen' out' : List ℕ) (r : TopTally) : Type 0 where
+  pub fails : (x1 x2 : ℤ) → q ≡ topQuery x1 x2 0 → r .ok ≡ false → topWalk t x1 x2 k ≡ broken
+  pub ends : (x1 x2 : ℤ) → q ≡ topQuery x1 x2 0 → r .ok ≡ true → (base : List ℕ) × (length base ≡ length out) × Ended t x1 x2 k room base seen' out' (r .spots)
