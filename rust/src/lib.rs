@@ -1,5 +1,6 @@
 //! Safe functions over the proved spot table. Tables, outputs and maps are plain slices that the caller lends.
 
+pub mod histories;
 pub mod plain;
 pub mod reference;
 
@@ -22,6 +23,19 @@ extern "C" {
         read_map: *mut u8,
         read_map_len: usize,
     ) -> u64;
+    fn spot_top(
+        table: *const u8,
+        len: usize,
+        x1: i32,
+        x2: i32,
+        k: u32,
+        output: *mut u8,
+        output_len: usize,
+        read_map: *mut u8,
+        read_map_len: usize,
+    ) -> u64;
+    fn spot_add(table: *mut u8, len: usize, work: *mut u8, work_len: usize, place: i32, rank: i32, track: u32) -> u64;
+    fn spot_withdraw(table: *mut u8, len: usize, work: *mut u8, work_len: usize, place: i32, rank: i32) -> u64;
     fn spot_rebuild(table: *mut u8, len: usize, work: *mut u8, work_len: usize) -> u64;
 }
 
@@ -78,6 +92,25 @@ pub fn report(table: &[u8], x1: i32, x2: i32, y: i32, output: &mut [u8], read_ma
     Answer::unpack(unsafe {
         spot_report(table.as_ptr(), table.len(), x1, x2, y, output.as_mut_ptr(), output.len(), read_map.as_mut_ptr(), read_map.len())
     })
+}
+
+/// Of the live spots with x1 ≤ place ≤ x2 the k highest in rank order, highest first; the read map marks the blocks read.
+pub fn top(table: &[u8], x1: i32, x2: i32, k: u32, output: &mut [u8], read_map: &mut [u8]) -> Answer {
+    Answer::unpack(unsafe {
+        spot_top(table.as_ptr(), table.len(), x1, x2, k, output.as_mut_ptr(), output.len(), read_map.as_mut_ptr(), read_map.len())
+    })
+}
+
+/// Puts the spot in, in the place of one of the same place and rank, with a work area of at least the table's length.
+pub fn add(table: &mut [u8], work: &mut [u8], spot: Spot) -> Answer {
+    Answer::unpack(unsafe {
+        spot_add(table.as_mut_ptr(), table.len(), work.as_mut_ptr(), work.len(), spot.place, spot.rank, spot.track)
+    })
+}
+
+/// Takes out the spot of this place and rank, if there is one, with a work area of at least the table's length.
+pub fn withdraw(table: &mut [u8], work: &mut [u8], place: i32, rank: i32) -> Answer {
+    Answer::unpack(unsafe { spot_withdraw(table.as_mut_ptr(), table.len(), work.as_mut_ptr(), work.len(), place, rank) })
 }
 
 /// Lays the live spots out anew, with a work area of at least the table's length.

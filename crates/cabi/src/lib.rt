@@ -1,8 +1,8 @@
 // The calls for C and Rust: a slice is a pointer and a length, the answer is number · 2^32 + detail.
 ghost use mathlib.Core.Path.{_≡_};
 ghost use Prim.Native.Nat.{_+_, _*_};
-ghost use Rattle.table.specs.Queries.{ReportPost, CountPost, CheckPost};
-ghost use Rattle.table.specs.Updates.{FormatPost, RebuildPost};
+ghost use Rattle.table.specs.Queries.{ReportPost, TopPost, CountPost, CheckPost};
+ghost use Rattle.table.specs.Updates.{FormatPost, AddPost, WithdrawPost, RebuildPost};
 ghost use Rattle.cabi.specs.Packed.{Packed};
 
 fn pack(a: block::Answer) -> u64
@@ -44,6 +44,40 @@ pub extern "C" fn spot_report(
     ensures { λ r. ⌜ Packed r (λ a. ReportPost x1 x2 y (now (table .entry)) (now (output .entry)) (now («read_map» .entry)) a (now (output .exit)) (now («read_map» .exit))) ⌝ }
 {
     pack(table::report(table, x1, x2, y, output, read_map))
+}
+
+#[no_mangle]
+pub extern "C" fn spot_top(
+    table: &[u8],
+    x1: i32,
+    x2: i32,
+    k: u32,
+    output: &mut [u8],
+    read_map: &mut [u8],
+) -> u64
+    ensures { λ r. ⌜ Packed r (λ a. TopPost x1 x2 k (now (table .entry)) (now (output .entry)) (now («read_map» .entry)) a (now (output .exit)) (now («read_map» .exit))) ⌝ }
+{
+    pack(table::top(table, x1, x2, k, output, read_map))
+}
+
+#[no_mangle]
+pub extern "C" fn spot_add(
+    table: &mut [u8],
+    scratch: &mut [u8],
+    place: i32,
+    rank: i32,
+    track: u32,
+) -> u64
+    ensures { λ r. ⌜ Packed r (λ a. AddPost place rank track (now (table .entry)) (now (scratch .entry)) a (now (table .exit)) (now (scratch .exit))) ⌝ }
+{
+    pack(table::add(table, scratch, place, rank, track))
+}
+
+#[no_mangle]
+pub extern "C" fn spot_withdraw(table: &mut [u8], scratch: &mut [u8], place: i32, rank: i32) -> u64
+    ensures { λ r. ⌜ Packed r (λ a. WithdrawPost place rank (now (table .entry)) (now (scratch .entry)) a (now (table .exit)) (now (scratch .exit))) ⌝ }
+{
+    pack(table::withdraw(table, scratch, place, rank))
 }
 
 #[no_mangle]

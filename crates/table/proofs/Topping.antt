@@ -23,7 +23,7 @@ use Rattle.block.specs.declared.Answer.{Answer}
 use Rattle.block.specs.Answers.{answer}
 use Rattle.block.specs.Header.{headOf}
 use Rattle.block.specs.HeaderRules.{headerOk}
-use Rattle.block.specs.Table.{tableSized, blocksOf}
+use Rattle.block.specs.Table.{tableSized, sizedFor, blocksOf}
 use Rattle.tree.specs.Walk.{Walk, broken, walked, isBroken, spots, blocksRead}
 use Rattle.tree.specs.Top.{topWalk, best, topTable}
 use Rattle.tree.specs.ReadMap.{readMap}
@@ -120,7 +120,7 @@ module _ (x1 x2 : ℤ) (k : ℕ) (t out map : List ℕ) where
         }
 
     few-blocks : blocksOf (length t) ≤ 4096
-    unfolding tableSized
+    unfolding sizedFor
     few-blocks = leb-true _ _ (all-at _ e 2)
 
     -- accepted

@@ -1,0 +1,30 @@
+-- `cabi::spot_add` meets its contract, by that of `table::add`.
+-- Assumes nothing.
+use mir.ValLaws.{toZ-ofZ}
+use mir.Syntax.{w32}
+use borrow.Author.Needs.{needs}
+use Rattle.cabi.proofs.spot_add.Statement.{statement}
+use Rattle.cabi.proofs.spot_add.Tie as tie
+
+add-requires : tie.Need-add-requires
+add-requires c κs = search needs
+
+pack-requires : tie.Need-pack-requires
+pack-requires c κs = search needs
+
+same-length : tie.Need-same-length
+same-length c = search needs
+
+same-length-2 : tie.Need-same-length-2
+same-length-2 c = search needs
+
+returns : tie.Need-returns
+returns c =
+    record {
+      answer = c .before .before .before .before .before .add .result;
+      is = c .pack .ensures;
+      keeps = rw (toZ-ofZ w32 (c .before .before .before .before .before .before .before .before .before .before .args .place) (c .before .before .before .before .before .before .before .before .before .before .fits .place), toZ-ofZ w32 (c .before .before .before .before .before .before .before .before .before .before .args .rank) (c .before .before .before .before .before .before .before .before .before .before .fits .rank)) at (c .before .before .before .before .before .add .ensures);
+    }
+
+pub spot-add-spec : {M : Type 1} → statement M
+spot-add-spec = tie.close (tie.spec add-requires pack-requires same-length same-length-2 returns)

@@ -1,0 +1,32 @@
+-- `cabi::spot_top` meets its contract, by that of `table::top`.
+-- Assumes nothing.
+use mir.Syntax.{w32}
+use mir.ValLaws.{toZ-ofZ}
+use borrow.Author.Needs.{needs}
+use Rattle.cabi.proofs.spot_top.Statement.{statement}
+use Rattle.cabi.proofs.spot_top.Tie as tie
+
+top-requires : tie.Need-top-requires
+top-requires c κs = search needs
+
+pack-requires : tie.Need-pack-requires
+pack-requires c κs = search needs
+
+same-length : tie.Need-same-length
+same-length c = search needs
+
+same-length-2 : tie.Need-same-length-2
+same-length-2 c = search needs
+
+returns : tie.Need-returns
+returns c =
+    record {
+      answer = c .before .before .before .before .before .top .result;
+      is = c .pack .ensures;
+      keeps =
+          rw (toZ-ofZ w32 (c .before .before .before .before .before .before .before .before .before .before .before .args .x1) (c .before .before .before .before .before .before .before .before .before .before .before .fits .x1), toZ-ofZ w32 (c .before .before .before .before .before .before .before .before .before .before .before .args .x2) (c .before .before .before .before .before .before .before .before .before .before .before .fits .x2)) at (c .before .before .before .before .before .top .ensures);
+    }
+
+pub spot-top-spec : {M : Type 1} → statement M
+spot-top-spec =
+    tie.close (tie.spec top-requires pack-requires same-length same-length-2 returns)

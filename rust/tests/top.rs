@@ -1,0 +1,122 @@
+//! Top against the plain list and against the blocks that a Report at the last rank reads, on sound tables with and without waiting changes, and on damaged ones.
+
+use spot_table::reference::{make, read_by_report, some_spots, Made, Random};
+use spot_table::*;
+
+fn marks(map: &[u8]) -> Vec<usize> {
+    (0..4096).filter(|b| map[b / 8] >> (b % 8) & 1 == 1).collect()
+}
+
+fn ask(table: &[u8], x1: i32, x2: i32, k: u32, room: usize) -> (Answer, Vec<u8>, Vec<u8>) {
+    let (mut out, mut map) = (vec![0xEE; room], vec![0xDD; 512]);
+    let a = top(table, x1, x2, k, &mut out, &mut map);
+    (a, out, map)
+}
+
+/// The k highest of the range, highest first, by a plain sort.
+fn due(made: &Made, x1: i32, x2: i32, k: usize) -> Vec<Spot> {
+    let mut all: Vec<Spot> =
+        made.live.iter().filter(|(key, _)| x1 <= key.0 && key.0 <= x2).map(|(key, t)| Spot { place: key.0, rank: key.1, track: *t }).collect();
+    all.sort_by_key(|s| std::cmp::Reverse((s.rank, s.place)));
+    all.truncate(k);
+    all
+}
+
+fn places(random: &mut Random) -> (i32, i32) {
+    let x1 = random.below(6000) as i32 - 3000;
+    match random.below(8) {
+        0 => (i32::MIN, i32::MAX),
+        1 => (x1 + 5, x1),
+        _ => (x1, x1 + random.below(5000) as i32),
+    }
+}
+
+#[test]
+fn lengths() {
+    let mut table = vec![0u8; 2048 * 9];
+    format(&mut table);
+    for n in [0, 511, 513] {
+        let (mut out, mut map) = (vec![8u8; 12], vec![9u8; n]);
+        assert_eq!(top(&table, 0, 1, 1, &mut out, &mut map), Answer::new(2, 0));
+        assert!(map.iter().all(|x| *x == 9) && out.iter().all(|x| *x == 8));
+    }
+    let (a, out, map) = ask(&table[1..], 0, 1, 1, 12);
+    assert!(a == Answer::new(1, 0) && out == [0xEE; 12] && map == [0xDD; 512]);
+    let (a, _, map) = ask(&table, i32::MIN, i32::MAX, 3, 0);
+    assert_eq!((a, marks(&map)), (Answer::new(0, 0), vec![0, 1]));
+    let (a, _, map) = ask(&table, i32::MIN, i32::MAX, 0, 0);
+    assert_eq!((a, marks(&map)), (Answer::new(0, 0), vec![0]));
+}
+
+#[test]
+fn highest_first() {
+    let mut random = Random(0x1234567);
+    for round in 0..60 {
+        let blocks = [9, 12, 32, 100, 300, 1000][round % 6];
+        let n = random.below(16 * (blocks - 1)) + 1;
+        // few ranks, so that many are equal
+        let ranks = [1, 3, 40, 3000][random.below(4)];
+        let spots = some_spots(n, 5000 + n, ranks, &mut random);
+        let made = make(blocks, &spots, round % 3 != 0, &mut random);
+        assert_eq!(check(&made.table), Answer::new(0, 1), "round {round}");
+        for _ in 0..40 {
+            let (x1, x2) = places(&mut random);
+            let k = match random.below(6) {
+                0 => 0,
+                1 => u32::MAX,
+                2 => random.below(n + 2) as u32,
+                _ => 1 + random.below(70) as u32,
+            };
+            let want = due(&made, x1, x2, k as usize);
+            let room = 12 * want.len() + random.below(24);
+            let (a, out, map) = ask(&made.table, x1, x2, k, room);
+            assert_eq!(a, Answer::new(0, want.len() as u32), "round {round}: {x1} {x2} {k}");
+            assert_eq!(spot_table::spots(&out, want.len()), want, "round {round}: {x1} {x2} {k}");
+            assert!(out[12 * want.len()..].iter().all(|x| *x == 0xEE));
+            let y = if want.len() == k as usize { want.last().map_or(i32::MIN, |s| s.rank) } else { i32::MIN };
+            let mut read: Vec<usize> = if k == 0 { vec![] } else { read_by_report(&made.table, x1, x2, y).into_iter().collect() };
+            read.insert(0, 0);
+            read.dedup();
+            assert_eq!(marks(&map), read, "round {round}: {x1} {x2} {k}");
+            if !want.is_empty() {
+                let (a, out, map) = ask(&made.table, x1, x2, k, 12 * want.len() - 1);
+                assert_eq!(a, Answer::new(5, want.len() as u32));
+                assert!(out.iter().all(|x| *x == 0xEE) && map.iter().all(|x| *x == 0xDD));
+            }
+        }
+    }
+}
+
+#[test]
+fn damaged() {
+    let mut random = Random(77);
+    for round in 0..400 {
+        let blocks = [9, 32, 200][round % 3];
+        let spots = some_spots(random.below(16 * (blocks - 1)) + 1, 5000, 3000, &mut random);
+        let mut made = make(blocks, &spots, round % 2 == 0, &mut random);
+        for _ in 0..1 + random.below(6) {
+            // mostly in the front of a block, where the numbers stand
+            let b = random.below(blocks);
+            let at = if random.below(3) == 0 { random.below(2048) } else { random.below(300) };
+            made.table[2048 * b + at] = random.next() as u8;
+        }
+        for _ in 0..10 {
+            let (x1, x2) = places(&mut random);
+            let k = if random.below(4) == 0 { u32::MAX } else { random.below(200) as u32 };
+            let (a, out, map) = ask(&made.table, x1, x2, k, 12 * 100);
+            match a.number {
+                0 => {
+                    assert!(a.detail <= k && map[0] & 1 == 1);
+                    for s in spot_table::spots(&out, a.detail as usize) {
+                        assert!(x1 <= s.place && s.place <= x2);
+                    }
+                    assert!(out[12 * a.detail as usize..].iter().all(|x| *x == 0xEE));
+                }
+                number => {
+                    assert!(number == 3 && a.detail == 0 || number == 5 && a.detail > 100);
+                    assert!(out.iter().all(|x| *x == 0xEE) && map.iter().all(|x| *x == 0xDD));
+                }
+            }
+        }
+    }
+}

@@ -1,0 +1,139 @@
+//! Add and Withdraw against a sorted map, the plain implementation of soundness, and the rule on what a roomy root lets change.
+
+use spot_table::histories::{next, spot, Change, Kind, Live, KINDS};
+use spot_table::reference::{make, some_spots, sound, Node, Random};
+use spot_table::*;
+
+fn call(c: Change, table: &mut [u8], work: &mut [u8]) -> Answer {
+    match c {
+        Change::Add(k, t) => add(table, work, spot(k, t)),
+        Change::Withdraw(k) => withdraw(table, work, k.0, k.1),
+    }
+}
+
+fn root(table: &[u8]) -> usize {
+    (table[6] as usize) << 8 | table[7] as usize
+}
+
+fn roomy(table: &[u8]) -> bool {
+    let n = Node::read(&table[BLOCK * root(table)..][..BLOCK]);
+    n.level > 0 && n.points.len() > 32 && n.inserts.len() < 64 && n.deletes.len() < 16
+}
+
+/// One history; every so many calls the table is read as a whole.
+fn history(kind: Kind, blocks: usize, fill: usize, calls: usize, look: usize, random: &mut Random) {
+    let capacity = 16 * (blocks - 1);
+    let mut table = vec![random.next() as u8; BLOCK * blocks];
+    let mut work = vec![random.next() as u8; BLOCK * blocks + 7];
+    assert_eq!(format(&mut table), Answer::new(0, 0));
+    let mut live = Live::new();
+    for step in 0..calls {
+        let c = next(kind, step, &live, capacity, fill, random);
+        let before = table.clone();
+        let spare = work.clone();
+        let light = roomy(&table);
+        let a = call(c, &mut table, &mut work);
+        if live.apply(c, capacity) {
+            assert_eq!(a, Answer::new(0, 0), "{kind:?}, {blocks} blocks, call {step}: {c:?}");
+            assert!(work[..table.len()].iter().all(|x| *x == 0) && work[table.len()..] == spare[table.len()..]);
+        } else {
+            assert_eq!(a, Answer::new(4, 0), "{kind:?}, {blocks} blocks, call {step}: {c:?}");
+            assert!(table == before && work == spare);
+        }
+        if light {
+            let r = root(&before);
+            assert!((1..blocks).all(|b| b == r || table[BLOCK * b..][..BLOCK] == before[BLOCK * b..][..BLOCK]), "call {step}: a block beside the root changed");
+        }
+        if step % look == 0 || step + 1 == calls {
+            assert_eq!(sound(&table).as_ref(), Ok(&live.spots), "{kind:?}, {blocks} blocks, call {step}: {c:?}");
+            assert_eq!((check(&table), count(&table)), (Answer::new(0, 1), Answer::new(0, live.spots.len() as u32)));
+        }
+    }
+}
+
+#[test]
+fn small_tables() {
+    let mut random = Random(0x5107);
+    for kind in KINDS {
+        for blocks in [9, 10, 12, 32] {
+            let capacity = 16 * (blocks - 1);
+            for fill in [capacity / 3, capacity] {
+                history(kind, blocks, fill, 4000, 1, &mut random);
+            }
+        }
+    }
+}
+
+#[test]
+fn larger_tables() {
+    let mut random = Random(0x5108);
+    for kind in KINDS {
+        history(kind, 300, 16 * 299, 20000, 500, &mut random);
+        history(kind, 300, 2000, 6000, 500, &mut random);
+    }
+}
+
+/// Tables in arrangements that no history need bring about, with changes waiting in every inner node.
+#[test]
+fn any_sound_table() {
+    let mut random = Random(0x5109);
+    for round in 0..40 {
+        let blocks = [12, 32, 100, 300][round % 4];
+        let capacity = 16 * (blocks - 1);
+        let n = if round % 3 == 0 { capacity } else { random.below(capacity) };
+        let spots = some_spots(n, 1 + random.below(50000), 1 + random.below(30000), &mut random);
+        let made = make(blocks, &spots, true, &mut random);
+        let mut live = Live::new();
+        for (k, t) in &made.live {
+            live.apply(Change::Add(*k, *t), capacity);
+        }
+        let mut table = made.table;
+        let mut work = vec![1u8; table.len()];
+        for step in 0..600 {
+            let c = next(KINDS[round % 4], step, &live, capacity, live.spots.len() + 1, &mut random);
+            let a = call(c, &mut table, &mut work);
+            assert_eq!(a.number, if live.apply(c, capacity) { 0 } else { 4 });
+            if step % 20 == 0 {
+                assert_eq!(sound(&table).as_ref(), Ok(&live.spots), "round {round}, call {step}: {c:?}");
+            }
+        }
+    }
+}
+
+#[test]
+fn refusals() {
+    let mut random = Random(6);
+    let mut table = vec![3u8; BLOCK * 8];
+    let mut work = vec![4u8; BLOCK * 9];
+    assert_eq!(add(&mut table, &mut work, spot((0, 0), 0)), Answer::new(1, 0));
+    assert_eq!(withdraw(&mut table, &mut work, 0, 0), Answer::new(1, 0));
+    let mut table = vec![0u8; BLOCK * 9];
+    assert_eq!(format(&mut table).number, 0);
+    let was = table.clone();
+    assert_eq!(add(&mut table, &mut work[1..], spot((0, 0), 0)), Answer::new(2, 0));
+    assert_eq!(withdraw(&mut table, &mut work[1..], 0, 0), Answer::new(2, 0));
+    assert!(table == was && work.iter().all(|x| *x == 4));
+    let spots = some_spots(150, 500, 500, &mut random);
+    let made = make(12, &spots, true, &mut random);
+    for round in 0..4000 {
+        let mut table = made.table.clone();
+        for _ in 0..1 + random.below(3) {
+            let at = if round % 2 == 0 { random.below(BLOCK) } else { random.below(table.len()) };
+            table[at] ^= 1 << random.below(8);
+        }
+        let was = table.clone();
+        let wise = sound(&table).is_ok();
+        let mut work = vec![4u8; BLOCK * 12 + 3];
+        let k = (random.below(500) as i32, random.below(500) as i32);
+        let a = if round % 3 == 0 { add(&mut table, &mut work, spot(k, 9)) } else { withdraw(&mut table, &mut work, k.0, k.1) };
+        assert!(a.detail == 0 && [0, 3, 4].contains(&a.number) && !(wise && a.number == 3));
+        assert!(a.number == 0 || table == was);
+        let lent: u8 = if a.number == 4 { 4 } else { 0 };
+        assert!(work[..BLOCK * 12].iter().all(|x| *x == lent) && work[BLOCK * 12..].iter().all(|x| *x == 4));
+        if wise {
+            assert!(sound(&table).is_ok());
+        }
+    }
+    let mut noise: Vec<u8> = (0..BLOCK * 9).map(|_| random.next() as u8).collect();
+    assert_eq!(add(&mut noise, &mut work, spot((1, 2), 3)), Answer::new(3, 0));
+}
