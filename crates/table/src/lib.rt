@@ -107,9 +107,9 @@ fn top_none(table: &[u8], read_map: &mut [u8]) -> block::Answer
     if !block::header_ok(table) {
         return refuse(3);
     }
-    let mut seen = [0u8; 512];
-    octets::set_bit(&mut seen, 0);
-    octets::copy(&seen, read_map, 512);
+    let mut first = [0u8; 512];
+    octets::set_bit(&mut first, 0);
+    octets::copy(&first, read_map, 512);
     refuse(0)
 }
 
@@ -134,9 +134,9 @@ pub fn top(
         return top_none(table, read_map);
     }
     let q = spot::top_query(x1, x2, 0);
-    let mut seen = [0u8; 512];
+    let mut read = [0u8; 512];
     let mut few = [0u8; 768];
-    let all = top::top_run(table, &mut seen, q, k as usize, &mut few, 64);
+    let all = top::top_run(table, &mut read, q, k as usize, &mut few, 64);
     if !all.ok {
         return refuse(3);
     }
@@ -149,7 +149,7 @@ pub fn top(
     }
     if n <= 64 {
         octets::copy(&few, output, 12 * n);
-        octets::copy(&seen, read_map, 512);
+        octets::copy(&read, read_map, 512);
         return block::Answer {
             number: 0,
             detail: n as u32,

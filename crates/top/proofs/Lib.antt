@@ -6,3 +6,4 @@ pub mod Outs
 pub mod Slots
 pub mod Gives
 pub mod Sweeps
+pub mod Cleared

@@ -1,11 +1,11 @@
 -- `top::top_run` meets its contract: few slots are enough, or all are taken.
 -- Assumes nothing.
+use Rattle.top.proofs.Cleared.{look-ready}
 use Rattle.top.proofs.Sweeps.{run-some, run-again, zeroed}
 use Rattle.tree.proofs.MapBits.{zeros-length}
 use borrow.Author.Tests.{not-true}
-use Prim.Native.Nat.{ℕ, zero}
-use lib.ListN.{length, replicate, length-replicate}
-use mathlib.Core.Path.{ap, sym, _∙_}
+use lib.ListN.{length}
+use mathlib.Core.Path.{refl, ap, _∙_}
 use borrow.Author.Needs.{needs}
 use native.Mathlib.Omega.{arith}
 use Rattle.top.proofs.top_run.Statement.{statement}
@@ -24,21 +24,7 @@ slice-aggregate-look-4 : tie.Need-slice-aggregate-look-4
 slice-aggregate-look-4 c = search needs
 
 look-requires : tie.Need-look-requires
-look-requires c κs =
-    let p = c .before .before .before .before .before .before .before .before .before .pre in
-    record {
-      x1 = p .x1;
-      x2 = p .x2;
-      asks = p .asks;
-      sized = p .sized;
-      clear = p .clear;
-      some = p .some;
-      fits = p .fits;
-      slots = omega (arith, length-replicate 64 (replicate {A = ℕ} 6 0));
-      pathed = length-replicate 64 (replicate {A = ℕ} 8 0) ∙ sym (length-replicate 64 (replicate {A = ℕ} 6 0));
-      head = length-replicate 64 (replicate {A = ℕ} 3 0) ∙ sym (length-replicate 64 (replicate {A = ℕ} 6 0));
-      cells = omega (arith, length-replicate 512 zero, length-replicate 64 (replicate {A = ℕ} 6 0));
-    }
+look-requires c κs = look-ready 64 512 (omega arith) refl (c .before .before .before .before .before .before .before .before .before .pre)
 
 same-length : tie.Need-same-length
 same-length c = search needs

@@ -1,9 +1,10 @@
 -- `top::wide_run` meets its contract: a table needs no more slots.
 -- Assumes nothing.
+use Rattle.top.proofs.Cleared.{look-ready}
 use Rattle.top.proofs.Sweeps.{run-wide, searched-as}
-use Prim.Native.Nat.{ℕ, zero}
+use Prim.Native.Nat.{ℕ}
 use lib.ListN.{replicate, length-replicate}
-use mathlib.Core.Path.{sym, _∙_}
+use mathlib.Core.Path.{refl}
 use borrow.Author.Needs.{needs}
 use native.Mathlib.Omega.{arith}
 use Rattle.top.proofs.wide_run.Statement.{statement}
@@ -22,21 +23,7 @@ slice-aggregate-look-4 : tie.Need-slice-aggregate-look-4
 slice-aggregate-look-4 c = search needs
 
 look-requires : tie.Need-look-requires
-look-requires c κs =
-    let p = c .before .before .before .before .before .before .before .before .before .pre in
-    record {
-      x1 = p .x1;
-      x2 = p .x2;
-      asks = p .asks;
-      sized = p .sized;
-      clear = p .clear;
-      some = p .some;
-      fits = p .fits;
-      slots = omega (arith, length-replicate 4096 (replicate {A = ℕ} 6 0));
-      pathed = length-replicate 4096 (replicate {A = ℕ} 8 0) ∙ sym (length-replicate 4096 (replicate {A = ℕ} 6 0));
-      head = length-replicate 4096 (replicate {A = ℕ} 3 0) ∙ sym (length-replicate 4096 (replicate {A = ℕ} 6 0));
-      cells = omega (arith, length-replicate 32768 zero, length-replicate 4096 (replicate {A = ℕ} 6 0));
-    }
+look-requires c κs = look-ready 4096 32768 (omega arith) refl (c .before .before .before .before .before .before .before .before .before .pre)
 
 same-length : tie.Need-same-length
 same-length c = search needs
