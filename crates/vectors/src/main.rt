@@ -1,24 +1,61 @@
-// The scope paper's cases for the reading calls on freshly formatted tables, and damaged ones. Each answer is printed as its number and its detail.
+// The scope paper's cases, and damaged tables. Each answer is printed as its number and its detail, and below it its spots.
+ghost use Prim.Native.Nat.{_+_, _≤_};
+ghost use lib.ListN.{length};
 
-fn text(words: &[u8]) {
+fn say(words: &[u8]) {
     io::write_all(1, words);
 }
 
 fn show(name: &[u8], a: block::Answer) {
-    text(name);
-    text(b": ");
+    say(name);
+    say(b": ");
     io::print_decimal(1, a.number as u64);
-    text(b" ");
+    say(b" ");
     io::print_decimal(1, a.detail as u64);
-    text(b"\n");
+    say(b"\n");
+}
+
+fn print(out: &[u8], end: usize)
+    requires { ⌜ end ≤ length (now out) ⌝ }
+{
+    io::write_all(1, &out[0..end]);
+}
+
+fn show_spot(output: &[u8], at: usize)
+    requires { ⌜ at + 12 ≤ length (now output) ⌝ }
+{
+    let mut line = [0u8; 40];
+    let place = spot::read_i32(output, at);
+    let rank = spot::read_i32(output, at + 4);
+    let track = octets::read32(output, at + 8) as u32;
+    say(b"    ");
+    let end = text::write_spot_line(&mut line, 0, place, rank, track);
+    print(&line, end);
+}
+
+// An answer, and its spots where it has any.
+fn show_spots(name: &[u8], a: block::Answer, output: &[u8]) {
+    show(name, a);
+    if a.number != 0 {
+        return;
+    }
+    let n = a.detail as usize;
+    if output.len() / 12 < n {
+        return;
+    }
+    let mut i = 0;
+    while i < n {
+        show_spot(output, 12 * i);
+        i += 1;
+    }
 }
 
 // The number of blocks that a map marks.
 fn show_marks(map: &[u8]) {
     if map.len() == 512 {
-        text(b"  marked: ");
+        say(b"  marked: ");
         io::print_decimal(1, octets::ones(map) as u64);
-        text(b"\n");
+        say(b"\n");
     }
 }
 
@@ -80,7 +117,7 @@ fn a_byte_short() {
 
 fn nine_blocks() {
     let mut table = [165u8; 18432];
-    text(b"9 blocks that hold anything\n");
+    say(b"9 blocks that hold anything\n");
     look(&table);
     reports(&table);
     show(b"format, 9 blocks", table::format(&mut table));
@@ -94,7 +131,7 @@ fn block_too_many() {
     let mut table = [0u8; 18432];
     table::format(&mut table);
     table[12] = 7;
-    text(b"a block too many in use\n");
+    say(b"a block too many in use\n");
     look(&table);
     reports(&table);
 }
@@ -103,7 +140,7 @@ fn root_of_version_2() {
     let mut table = [0u8; 18432];
     table::format(&mut table);
     table[2050] = 2;
-    text(b"a root of version 2\n");
+    say(b"a root of version 2\n");
     look(&table);
     reports(&table);
 }
@@ -112,9 +149,177 @@ fn header_of_version_2() {
     let mut table = [0u8; 18432];
     table::format(&mut table);
     table[4] = 2;
-    text(b"block 0 of version 2\n");
+    say(b"block 0 of version 2\n");
     look(&table);
     reports(&table);
+}
+
+fn find(name: &[u8], table: &[u8], x1: i32, x2: i32, y: i32) {
+    let mut map = [0u8; 512];
+    let mut output = [0u8; 24];
+    let a = table::report(table, x1, x2, y, &mut output, &mut map);
+    show_spots(name, a, &output);
+}
+
+fn find_top(name: &[u8], table: &[u8], x1: i32, x2: i32, k: u32) {
+    let mut map = [0u8; 512];
+    let mut output = [0u8; 24];
+    let a = table::top(table, x1, x2, k, &mut output, &mut map);
+    show_spots(name, a, &output);
+}
+
+// The same calls with room for 12 bytes.
+fn find_in_12(table: &[u8]) {
+    let mut map = [0u8; 512];
+    let mut output = [0u8; 12];
+    let a = table::report(table, 0, 240, 7, &mut output, &mut map);
+    show_spots(b"  report, room for 12 bytes", a, &output);
+    show_marks(&map);
+    let b = table::top(table, 0, 240, 2, &mut output, &mut map);
+    show_spots(b"  top 2, room for 12 bytes", b, &output);
+    show_marks(&map);
+    let c = table::top(table, 0, 240, 1, &mut output, &mut map);
+    show_spots(b"  top 1, room for 12 bytes", c, &output);
+}
+
+fn fresh() {
+    let mut table = [165u8; 18432];
+    table::format(&mut table);
+    say(b"M1, a fresh table of 9 blocks\n  levels: ");
+    io::print_decimal(1, octets::byte_at(&table, 5));
+    say(b"\n");
+    look(&table);
+    find(b"  report", &table, -2147483648, 2147483647, -2147483648);
+    find_top(b"  top", &table, -2147483648, 2147483647, 4294967295);
+}
+
+fn add(name: &[u8], table: &mut [u8], scratch: &mut [u8], place: i32, rank: i32, track: u32) {
+    let a = table::add(table, scratch, place, rank, track);
+    show(name, a);
+}
+
+fn withdraw(name: &[u8], table: &mut [u8], scratch: &mut [u8], place: i32, rank: i32) {
+    let a = table::withdraw(table, scratch, place, rank);
+    show(name, a);
+}
+
+fn replaced(table: &mut [u8], scratch: &mut [u8]) {
+    say(b"M2, the same identity twice\n");
+    table::format(table);
+    add(b"  add", table, scratch, 0, 5, 1);
+    add(b"  add", table, scratch, 0, 5, 2);
+    find(b"  report", table, 0, 0, 5);
+    look(table);
+}
+
+fn withdrawn_twice(table: &mut [u8], scratch: &mut [u8]) {
+    say(b"M3, withdrawn twice\n");
+    table::format(table);
+    add(b"  add", table, scratch, 0, 5, 1);
+    withdraw(b"  withdraw", table, scratch, 0, 5);
+    withdraw(b"  withdraw", table, scratch, 0, 5);
+    find(b"  report", table, -2147483648, 2147483647, -2147483648);
+    look(table);
+}
+
+fn two_spots(table: &mut [u8], scratch: &mut [u8]) {
+    table::format(table);
+    table::add(table, scratch, 0, 7, 1);
+    table::add(table, scratch, 240, 7, 2);
+}
+
+fn equal_ranks(table: &[u8]) {
+    say(b"M4, equal ranks\n");
+    find_top(b"  top 1", table, 0, 240, 1);
+    say(b"M5, x1 above x2\n");
+    find(b"  report", table, 240, 0, 7);
+}
+
+fn short_outputs(table: &[u8]) {
+    say(b"M7, room for 12 bytes and for 24\n");
+    find_in_12(table);
+    find(b"  report", table, 0, 240, 7);
+    find_top(b"  top 2", table, 0, 240, 2);
+    say(b"M8, k = 0\n");
+    find_top(b"  top 0", table, 0, 240, 0);
+    look(table);
+}
+
+// The same place with the first rank as well.
+fn first_rank(table: &mut [u8], scratch: &mut [u8]) {
+    table::add(table, scratch, 0, -2147483648, 2);
+    find(b"  report, the last rank", table, 0, 0, 2147483647);
+    find(b"  report, the first rank", table, 0, 0, -2147483648);
+}
+
+fn last_rank(table: &mut [u8], scratch: &mut [u8]) {
+    say(b"M6, the last rank\n");
+    table::format(table);
+    table::add(table, scratch, 0, 2147483647, 1);
+    find(b"  report, the last rank", table, 0, 0, 2147483647);
+    first_rank(table, scratch);
+}
+
+// Adds of n spots, of which the number refused is returned.
+fn add_many(table: &mut [u8], scratch: &mut [u8], n: u64) -> u64
+    requires { ⌜ n ≤ 65536 ⌝ }
+{
+    let mut refused = 0;
+    let mut i = 0;
+    while i < n {
+        let place = spot::unbias(2147483648 + i * 77 % 1024);
+        let rank = spot::unbias(2147483648 + i * 31 % 64);
+        let a = table::add(table, scratch, place, rank, i as u32);
+        refused = std::num::wrapping_add_u64(refused, a.number as u64);
+        i += 1;
+    }
+    refused
+}
+
+fn fill(table: &mut [u8], scratch: &mut [u8]) {
+    say(b"128 spots in 9 blocks\n  refused: ");
+    table::format(table);
+    io::print_decimal(1, add_many(table, scratch, 128));
+    say(b"\n");
+    look(table);
+}
+
+fn turned_away(table: &mut [u8], scratch: &mut [u8]) {
+    add(b"  add, a new identity", table, scratch, -1, 0, 7);
+    find(b"  report, the new one", table, -1, -1, 0);
+    add(b"  add, a present one", table, scratch, 77, 31, 4294967295);
+    find(b"  report, the present one", table, 77, 77, 31);
+    look(table);
+}
+
+fn made_room(table: &mut [u8], scratch: &mut [u8]) {
+    withdraw(b"  withdraw", table, scratch, 0, 0);
+    add(b"  add, a new identity", table, scratch, -1, 0, 7);
+    add(b"  add, another", table, scratch, -1, 1, 8);
+    find(b"  report, the new ones", table, -1, -1, -2147483648);
+    look(table);
+}
+
+fn full(table: &mut [u8], scratch: &mut [u8]) {
+    fill(table, scratch);
+    turned_away(table, scratch);
+    made_room(table, scratch);
+}
+
+fn few_spots(table: &mut [u8], scratch: &mut [u8]) {
+    replaced(table, scratch);
+    withdrawn_twice(table, scratch);
+    two_spots(table, scratch);
+    equal_ranks(table);
+    short_outputs(table);
+    last_rank(table, scratch);
+}
+
+fn nine_blocks_used() {
+    let mut table = [165u8; 18432];
+    let mut scratch = [165u8; 18432];
+    few_spots(&mut table, &mut scratch);
+    full(&mut table, &mut scratch);
 }
 
 fn main() {
@@ -124,6 +329,8 @@ fn main() {
     block_too_many();
     root_of_version_2();
     header_of_version_2();
+    fresh();
+    nine_blocks_used();
     let mut larger = [165u8; 65536];
     show(b"format, 32 blocks", table::format(&mut larger));
     look(&larger);

@@ -1,0 +1,31 @@
+-- `bench::write_spots` meets its contract.
+-- Assumes nothing.
+use borrow.Author.Needs.{needs}
+use Rattle.bench.proofs.Lines.{all}
+use Rattle.bench.proofs.write_spots.Statement.{statement}
+use Rattle.bench.proofs.write_spots.Tie as tie
+
+cast-write-count-line : tie.Need-cast-write-count-line
+cast-write-count-line c = search needs
+
+write-count-line-requires : tie.Need-write-count-line-requires
+write-count-line-requires c κs = search needs
+
+write-lines-requires : tie.Need-write-lines-requires
+write-lines-requires c κs = search needs
+
+same-length : tie.Need-same-length
+same-length c = search needs
+
+returns : tie.Need-returns
+returns c = all (c .before .before .before .before .before .before .before .before .before .before .args .output .now) (c .before .before .before .before .before .before .before .before .before .before .args .n) (c .before .before .before .before .before .before .before .before .before .before .pre .0) (c .before .before .before .before .before .before .write-count-line .ensures) (c .before .before .write-lines .ensures)
+
+pub write-spots-spec : {M : Type 1} → statement M
+write-spots-spec =
+    tie.close
+    (tie.spec
+    cast-write-count-line
+    write-count-line-requires
+    write-lines-requires
+    same-length
+    returns)
