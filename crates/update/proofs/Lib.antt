@@ -15,6 +15,5 @@ pub mod Count
 pub mod TakeTop
 pub mod Taken
 pub mod Settle
-pub mod Halves
 pub mod Again
 pub mod Rounds
