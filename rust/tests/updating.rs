@@ -32,6 +32,7 @@ fn history(kind: Kind, blocks: usize, fill: usize, calls: usize, look: usize, ra
         let before = table.clone();
         let spare = work.clone();
         let light = roomy(&table);
+        let nothing = matches!(c, Change::Withdraw(k) if !live.spots.contains_key(&k));
         let a = call(c, &mut table, &mut work);
         if live.apply(c, capacity) {
             assert_eq!(a, Answer::new(0, 0), "{kind:?}, {blocks} blocks, call {step}: {c:?}");
@@ -40,6 +41,8 @@ fn history(kind: Kind, blocks: usize, fill: usize, calls: usize, look: usize, ra
             assert_eq!(a, Answer::new(4, 0), "{kind:?}, {blocks} blocks, call {step}: {c:?}");
             assert!(table == before && work == spare);
         }
+        assert_eq!(u32::from_be_bytes(table[8..12].try_into().unwrap()), live.spots.len() as u32, "the figure in block 0, call {step}: {c:?}");
+        assert!(!nothing || table == before, "call {step}: {c:?} wrote, though nothing was there");
         if light {
             let r = root(&before);
             assert!((1..blocks).all(|b| b == r || table[BLOCK * b..][..BLOCK] == before[BLOCK * b..][..BLOCK]), "call {step}: a block beside the root changed");

@@ -5,16 +5,17 @@ use mathlib.Core.Path.{_≡_, refl, sym, ap, subst, _∙_}
 use mathlib.Core.Logic.{_⊎_, inl, inr, ⊎-elim}
 use mathlib.Core.Bool.{true}
 use mathlib.Core.List.{List, [], _∷_, _++_, List·Memᴰ, List·Memᴰ·not-nil}
-use mathlib.Core.Option.{Option, none, some}
+use mathlib.Core.Option.{Option, none}
 use Prim.Native.Nat.{ℕ, zero, suc, _≤_, _<_}
 use native.Mathlib.Omega.{arith}
 use lib.ListN.{length, take, drop, length-take}
 use lib.Seq.{drop-at, length-take-le}
 use borrow.Author.Tests.{leb-true}
 use Rattle.octets.specs.Lists.{distinct}
+use Rattle.octets.specs.Sets.{Apart}
 use Rattle.octets.proofs.Order.{same-or-not, less-or-not}
 use Rattle.octets.proofs.Tests.{all-at}
-use Rattle.octets.proofs.Sets.{Apart, distinct-split, distinct-left}
+use Rattle.octets.proofs.Sets.{distinct-split, distinct-left}
 use Rattle.spot.specs.declared.Spot.{Spot}
 use Rattle.spot.specs.Keys.{rankKey, allKeys, within}
 use Rattle.spot.specs.Spots.{keys}
@@ -35,10 +36,11 @@ use Rattle.node.specs.Memory.{entriesOf, nodeIn, EntryAt, Loaded}
 use Rattle.node.specs.declared.Entries.{Entries}
 use Rattle.node.specs.declared.NodeValue.{NodeValue}
 use Rattle.update.specs.Held.{Held, insertAll}
-use Rattle.update.proofs.Change.{Sound}
-use Rattle.update.proofs.Loose.{opened, lookup-step, part}
+use Rattle.update.specs.Change.{part, Sound}
+use Rattle.update.specs.Open.{under, Open}
+use Rattle.update.proofs.Loose.{opened, lookup-step}
 use Rattle.update.proofs.Node.{rules-of}
-use Rattle.update.proofs.Open.{under, Open, heldOf, open-node, open-lowest}
+use Rattle.update.proofs.Open.{heldOf, open-node, open-lowest}
 use Rattle.update.proofs.Settle.{open-inserts, open-deletes, open-spill}
 use Rattle.update.proofs.Spread.{start, childAt}
 use Rattle.edit.specs.Edits.{heldIn, Threshold, Spilled}

@@ -2,7 +2,7 @@
 -- Assumes nothing.
 use mathlib.Core.Path.{_≡_, refl, sym, ap, subst, _∙_}
 use mathlib.Core.Logic.{⊎-elim}
-use mathlib.Core.Bool.{Bool, true, false, not}
+use mathlib.Core.Bool.{Bool, true, not, Bool·not-not}
 use mathlib.Core.List.{List, _++_, List·Memᴰ}
 use Prim.Native.Nat.{ℕ, zero, suc, _+_, _-_, _≤_, _<_}
 use native.Mathlib.Numerals.{add-one}
@@ -17,7 +17,7 @@ use Rattle.spot.specs.Keys.{within}
 use Rattle.block.specs.declared.Entry.{Entry}
 use Rattle.block.specs.NodeRules.{lows}
 use Rattle.buffer.specs.Buffer.{below}
-use Rattle.buffer.proofs.Lists.{mem-at}
+use Rattle.octets.proofs.Lists.{mem-at}
 use Rattle.buffer.proofs.Counts.{below-is, past-at}
 use Rattle.buffer.proofs.Keyed.{Keyed, having, named-at, among-is, apart-is}
 use Rattle.choose.specs.Choices.{ChildFor, startAt, endAt}
@@ -47,10 +47,6 @@ module _ (ks : List ℕ) (up : rising ks ≡ true) where
       record { lo = a .0; cut = a .0; order = omega arith; at-lo = a .1; at-cut = v ∙ a .1 })
       (less-or-not (a .0) (b .0))
 
-not-not : (b : Bool) → b ≡ not (not b)
-not-not true = refl
-not-not false = refl
-
 module _ {A : Type 0} (K : Keyed A) (l : List A) (up : rising (K .named l) ≡ true) where
   -- which keys stay when those from f up to t go
   pub record Cut (f t : ℕ) : Type 0 where
@@ -64,7 +60,7 @@ module _ {A : Type 0} (K : Keyed A) (l : List A) (up : rising (K .named l) ≡ t
       record {
         stay = λ j. not (within (e .lo) (e .cut) j);
         goes = among-is K (e .lo) (e .cut) 0 l (e .order) up f t (e .at-lo) (e .at-cut)
-            ∙ keep-same (λ (x : A). within (e .lo) (e .cut) (K .key x)) (λ x. not (not (within (e .lo) (e .cut) (K .key x)))) l (λ x i. not-not (within (e .lo) (e .cut) (K .key x)));
+            ∙ keep-same (λ (x : A). within (e .lo) (e .cut) (K .key x)) (λ x. not (not (within (e .lo) (e .cut) (K .key x)))) l (λ x i. sym (Bool·not-not (within (e .lo) (e .cut) (K .key x))));
         stays = apart-is K (e .lo) (e .cut) 0 l (e .order) up f t (e .at-lo) (e .at-cut);
       }
 

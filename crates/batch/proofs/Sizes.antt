@@ -10,8 +10,9 @@ use lib.Dec.{leb}
 use lib.ListN.{length}
 use borrow.Author.Tests.{le-leb, lt-leb}
 use Rattle.octets.specs.Lists.{keep, rising}
+use Rattle.octets.specs.Sets.{Apart}
 use Rattle.octets.proofs.Order.{less-or-not}
-use Rattle.octets.proofs.Sets.{Apart, in-or-not}
+use Rattle.octets.proofs.Sets.{in-or-not}
 use Rattle.octets.proofs.Tests.{keep-all, every-make}
 use Rattle.spot.specs.declared.Spot.{Spot}
 use Rattle.spot.specs.Keys.{rankKey}

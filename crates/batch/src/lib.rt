@@ -1,13 +1,13 @@
 // A batch of changes at one node in memory: taken in, handed down to a child, and the node cut in two.
 ghost use mathlib.Core.Path.{_≡_};
-ghost use mathlib.Core.Bool.{Bool, true, cond};
+ghost use mathlib.Core.Bool.{true, cond};
 ghost use mathlib.Core.Logic.{_⊎_};
 ghost use mathlib.Core.List.{[], _∷_};
 ghost use Prim.Native.Nat.{_+_, _/_, _≤_, _<_};
-ghost use lib.ListN.{take, drop};
+ghost use lib.ListN.{drop};
 ghost use lib.Dec.{leb};
 ghost use Rattle.octets.specs.Lists.{rest, rising};
-ghost use Rattle.octets.proofs.Sets.{Apart};
+ghost use Rattle.octets.specs.Sets.{Apart};
 ghost use Rattle.spot.specs.Spots.{keys};
 ghost use Rattle.block.specs.Node.{firstOpen};
 ghost use Rattle.block.specs.NodeRules.{lows};

@@ -8,9 +8,9 @@ use native.Mathlib.Omega.{arith}
 use lib.Dec.{ltb}
 use borrow.Author.Tests.{ltb-true, lt-ltb}
 use Rattle.octets.specs.Lists.{every, minimum}
+use Rattle.octets.specs.Sets.{Apart}
 use Rattle.spot.specs.Keys.{allKeys}
 use Rattle.octets.proofs.Tests.{and-left, and-right, and-both, every-mem, every-imp, every-two}
-use Rattle.octets.proofs.Sets.{Apart}
 use Rattle.block.specs.Checks.{lastKey}
 
 -- ---- below all of a list, and below its least

@@ -2,8 +2,7 @@
 -- Assumes nothing.
 use mathlib.Core.Path.{_≡_, refl, sym, ap, subst, _∙_}
 use mathlib.Core.Bool.{Bool, true, false, _&&_, _||_, and-true}
-use mathlib.Core.Logic.{⊎-elim}
-use mathlib.Core.List.{List, [], _∷_, map, List·Memᴰ, List·Memᴰ·head, List·Memᴰ·not-nil, List·Memᴰ·cases-cons, Memᴰ·map, Memᴰ·of-map, Memᴰ·cast}
+use mathlib.Core.List.{List, [], _∷_, map, List·Memᴰ, List·Memᴰ·head, Memᴰ·map, Memᴰ·of-map, Memᴰ·cast}
 use Prim.Native.Nat.{ℕ, zero, suc, _+_, _*_, _≤_, _<_}
 use native.Mathlib.Omega.{arith}
 use lib.Dec.{leb, eqb, eqb·suc-zero}
@@ -15,7 +14,6 @@ use Rattle.octets.proofs.Tests.{and-left, and-right, all-at, all-cons, all-nil,
 use Rattle.octets.proofs.Sets.{has-mem, mem-has}
 use Rattle.octets.proofs.Extremes.{maximum-ge, max-is, maximum-mem, minimum-le, min-is, minimum-mem}
 use Rattle.octets.proofs.Records.{length-records}
-use Rattle.spot.proofs.Card.{keyAt-lt}
 use Rattle.spot.proofs.Halves.{rank-small, rank-inj}
 use Rattle.block.specs.declared.Asked.{Asked}
 use Rattle.block.specs.declared.Asked.the-variants.{Root, Child}
@@ -24,7 +22,7 @@ use Rattle.block.specs.Node.{nodeFrom}
 use Rattle.block.specs.NodeRules.{agrees, isHighest, isLowest}
 use Rattle.block.specs.Checks.{keysAt, agreesFine, keyed, lastKey}
 use Rattle.block.proofs.Above.{least-last}
-use Rattle.spot.proofs.Buffers.{keys-records}
+use Rattle.spot.proofs.Buffers.{keys-records, keys-small}
 
 module _ (t x : ℕ) (xs : List ℕ) (st : t < allKeys) (ss : (k : ℕ) → List·Memᴰ k (x ∷ xs) → k < allKeys) where
   abbrev ks : List ℕ
@@ -77,12 +75,6 @@ module _ (t x : ℕ) (xs : List ℕ) (st : t < allKeys) (ss : (k : ℕ) → List
       let b : rankKey x < 18446744073709551616 = rank-small x (ss x (List·Memᴰ·head refl)) in
       lowest-least ∙ ap (eqb (rankKey t)) (least-last (rankKey x) (map rankKey xs) (omega arith))
 
--- keys of records are of 64 bits
-small-keys : (s : List ℕ) (w n at k : ℕ) → List·Memᴰ k (keysAt s w n at) → k < allKeys
-small-keys s w zero at k i = absurd (List·Memᴰ·not-nil i)
-small-keys s w (suc n) at k i =
-    ⊎-elim (λ (e : k ≡ keyAt s at). omega (arith, keyAt-lt s at)) (λ j. small-keys s w n (at + w) k j) (List·Memᴰ·cases-cons i)
-
 -- a list of three tests, of which the empty list decides the last two
 all3 : (x : Bool) → all (x ∷ true ∷ true ∷ []) ≡ x && true
 unfolding all
@@ -104,7 +96,7 @@ module _ (blocks : ℕ) (s : List ℕ) (c i d : ℕ) where
       let k : keys (records (spotAt s) 12 (suc p) at) ≡ keysAt s 12 (suc p) at = keys-records s 12 (suc p) at in
       let t : e .top ≤ lastKey = leb-true _ _ (and-left (leb (e .top) lastKey) (leb (e .bottom) lastKey) kd) in
       let b : e .bottom ≤ lastKey = leb-true _ _ (and-right (leb (e .top) lastKey) (leb (e .bottom) lastKey) kd) in
-      let ss : (j : ℕ) → List·Memᴰ j (keysAt s 12 (suc p) at) → j < allKeys = small-keys s 12 (suc p) at in
+      let ss : (j : ℕ) → List·Memᴰ j (keysAt s 12 (suc p) at) → j < allKeys = λ j i. keys-small s 12 (suc p) at i in
       ap (λ (n : ℕ). all (eqb (e .size) n ∷ (false || isHighest (e .top) (keys (records (spotAt s) 12 (suc p) at))) ∷ (false || isLowest (e .bottom) (keys (records (spotAt s) 12 (suc p) at))) ∷ [])) (length-records (spotAt s) 12 (suc p) at)
       ∙ same-size (eqb (e .size) (suc p)) _ _ _ _ (eqb (suc p) 0) (eqb·suc-zero p)
       (ap (isHighest (e .top)) k ∙ highest-is (e .top) (keyAt s at) (keysAt s 12 p (at + 12)) (omega arith) ss)

@@ -9,10 +9,11 @@ use mathlib.Core.Logic.{⊎-elim}
 use native.Mathlib.Omega.{arith}
 use borrow.Author.Tests.{not-true, ne-eqb, eq-eqb}
 use Rattle.octets.specs.Lists.{risingFrom, rising, has}
+use Rattle.octets.specs.Sets.{Apart}
 use Rattle.spot.specs.Spots.{keyAt}
 use Rattle.block.specs.Checks.{keysAt, apart, Past}
 use Rattle.octets.proofs.Tests.{every-mem, every-make}
-use Rattle.octets.proofs.Sets.{Apart, has-not, not-has-mem}
+use Rattle.octets.proofs.Sets.{has-not, not-has-mem}
 use Rattle.octets.proofs.Rising.{rising-lower, rising-first, rising-rest, rising-make, rising-least}
 use Rattle.octets.proofs.Records.{left, left-all, left-cons, left-none}
 

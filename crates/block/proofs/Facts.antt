@@ -9,24 +9,25 @@ use Prim.Native.Nat.{ℕ, _+_, _-_, _*_, _/_, _≤_, _<_}
 use native.Mathlib.Omega.{arith}
 use lib.Dec.{leb, ltb}
 use lib.ListN.{length, drop}
-use borrow.Author.Tests.{eqb-true, eq-eqb, ne-eqb, leb-true, ltb-true, not-true}
+use borrow.Author.Tests.{eqb-true, eq-eqb, ne-eqb, leb-true, ltb-true, le-leb, lt-ltb, not-true}
 use Rattle.octets.specs.Lists.{all, every, rest, rising, distinct, upTo}
 use Rattle.octets.specs.Bitmap.{bit}
 use Rattle.octets.specs.Bytes.{be}
 use Rattle.octets.proofs.Order.{same-or-not}
-use Rattle.octets.proofs.UpTo.{upTo-in}
-use Rattle.octets.proofs.Tests.{all-at, every-mem, or-either, empty-list, empty-length}
+use Rattle.octets.proofs.UpTo.{upTo-in, every-upTo}
+use Rattle.octets.proofs.Tests.{all-at, all-cons, all-nil, every-mem, or-either, empty-list, empty-length}
 use Rattle.spot.specs.Keys.{rankKey}
 use Rattle.spot.specs.Spots.{keys}
 use Rattle.block.specs.declared.Entry.{Entry}
 use Rattle.block.specs.declared.Asked.{Asked}
-use Rattle.block.specs.Table.{version1, blockOk, blocksOf, capacity, sizedFor, tableSized}
+use Rattle.block.specs.Table.{version1, blockOk, blocksOf, capacity, tableSized}
 use Rattle.block.specs.Header.{Header}
 use Rattle.block.specs.HeaderRules.{headerOk, mapShows}
 use Rattle.block.specs.Node.{Node, nodeOf, nodeFrom, laidOut, pointsFrom, insertsFrom}
 use Rattle.block.specs.NodeRules.{nodeOk, names, fewest, childCountOk, childBlocksOk, buffersRise, namedOnce, lows, zeroFirst, lowsRise, tops, pointsAbove, filled, lowest, leafBuffersEmpty, agrees, notBelow}
 use Rattle.block.specs.Access.{frontOf, usedOf}
 use Rattle.block.specs.Checks.{isZero}
+use Rattle.block.proofs.Making.{blocks-most}
 use Rattle.block.proofs.Reading.{entries-count, points-count, inserts-count, deletes-count}
 
 pub record NodeFacts (level : ℕ) (a : Asked) (n : Node) : Type 0 where
@@ -207,10 +208,6 @@ module _ (bytes : ℕ) (h : Header) (ok : headerOk bytes h ≡ true) where
   unfolding headerOk
   right = all-at _ ok 8
 
-  few : bytes / 2048 ≤ 4096
-  unfolding sizedFor
-  few = leb-true _ _ (all-at _ right 2)
-
   pub head-facts : HeadFacts bytes h
   unfolding headerOk blockOk mapShows
   head-facts =
@@ -230,5 +227,26 @@ module _ (bytes : ℕ) (h : Header) (ok : headerOk bytes h ≡ true) where
             not-true (bit (h .inUse) b) (every-mem (λ b. not (bit (h .inUse) b)) (upTo k (4096 - k)) (all-at _ shows 2) (upTo-in k (4096 - k) b l w));
         blank = all-at _ ok 7;
         sized = right;
-        blocks-most = few;
+        blocks-most = blocks-most bytes right;
       }
+
+-- and a header of which they hold passes the tests
+module _ (bytes : ℕ) (h : Header) (f : HeadFacts bytes h) where
+  shows-made : mapShows (blocksOf bytes) h ≡ true
+  unfolding mapShows
+  shows-made =
+      let k = bytes / 2048 in
+      let l = f .blocks-most in
+      all-cons _ _ (f .zero-used)
+      (all-cons _ _ (f .root-used) (all-cons _ _ (every-upTo _ k (4096 - k) (λ b lo hi. ap not (f .past-clear b lo (omega arith)))) all-nil))
+
+  pub head-made : headerOk bytes h ≡ true
+  unfolding headerOk blockOk
+  head-made =
+      all-cons _ _ (eq-eqb _ _ (f .same-bytes))
+      (all-cons _ _ (eq-eqb _ _ (f .version))
+      (all-cons _ _ (le-leb 1 (h .levels) (f .levels-least))
+      (all-cons _ _ (le-leb (h .levels) 7 (f .levels-most))
+      (all-cons _ _ (all-cons _ _ (le-leb 1 (h .root) (f .root-least)) (all-cons _ _ (lt-ltb (h .root) (blocksOf bytes) (f .root-most)) all-nil))
+      (all-cons _ _ (le-leb (h .bound) (capacity bytes) (f .bound-most))
+      (all-cons _ _ shows-made (all-cons _ _ (f .blank) (all-cons _ _ (f .sized) all-nil))))))))

@@ -14,3 +14,4 @@ pub mod Making
 pub mod Reading
 pub mod Facts
 pub mod Frames
+pub mod Heading

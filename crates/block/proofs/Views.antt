@@ -1,8 +1,9 @@
 -- What the lists of a node are, as records of its bytes.
 -- Assumes nothing.
-use mathlib.Core.Path.{_≡_, refl, sym, ap, _∙_}
+use mathlib.Core.Path.{_≡_, refl, sym, ap, subst⁻¹, _∙_}
+use mathlib.Core.Logic.{⊎-elim}
 use mathlib.Core.Bool.{Bool, true, false, cond, _&&_, _||_}
-use mathlib.Core.List.{List, [], _∷_}
+use mathlib.Core.List.{List, [], _∷_, _++_, List·Memᴰ, List·Memᴰ·head, List·Memᴰ·tail, List·Memᴰ·cases-cons}
 use Prim.Native.Nat.{ℕ, zero, suc, _+_, _-_, _*_}
 use native.Mathlib.Omega.{arith}
 use lib.Dec.{eqb}
@@ -39,6 +40,13 @@ pub open-zero : (es : List Entry) → zeroFirst (lows (firstOpen es)) ≡ true
 open-zero [] = refl
 open-zero (e ∷ es) = refl
 
+-- what holds of entries, whatever their low is, holds of them with the first low put to 0
+pub open-all : (P : Entry → Type 0) → ((e : Entry) → P e → P (openBelow e)) → (es : List Entry) → ((e : Entry) → List·Memᴰ e es → P e)
+    → (e : Entry) → List·Memᴰ e (firstOpen es) → P e
+open-all P o [] h e i = h e i
+open-all P o (x ∷ es) h e i =
+    ⊎-elim (λ (q : e ≡ openBelow x). subst⁻¹ P q (o x (h x (List·Memᴰ·head refl)))) (λ j. h e (List·Memᴰ·tail j)) (List·Memᴰ·cases-cons i)
+
 -- a test of entries that doesn't look at the range field
 module _ (g : Entry → Bool) (blind : (e : Entry) → g (openBelow e) ≡ g e) where
   every-open : (es : List Entry) → every g (firstOpen es) ≡ every g es
@@ -57,6 +65,15 @@ every-top u (e ∷ es) =
     pick : (b : Bool) → every u (cond b (tops es) (e .top ∷ tops es)) ≡ (b || u (e .top)) && every u (tops es)
     pick true = refl
     pick false = refl
+
+-- the lows of entries
+pub length-lows : (es : List Entry) → length (lows es) ≡ length es
+length-lows [] = refl
+length-lows (e ∷ es) = ap suc (length-lows es)
+
+pub lows-append : (us vs : List Entry) → lows (us ++ vs) ≡ lows us ++ lows vs
+lows-append [] vs = refl
+lows-append (u ∷ us) vs = ap (λ (r : List ℕ). u .low ∷ r) (lows-append us vs)
 
 -- the lows from the second entry on
 lows-records : (s : List ℕ) (n at : ℕ) → lows (records (entryAt s) 28 n at) ≡ keysAt s 28 n (at + 4)

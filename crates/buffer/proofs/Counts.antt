@@ -13,10 +13,10 @@ use borrow.Author.Tests.{ltb-true, leb-true, lt-ltb, le-ltb, le-leb}
 use Rattle.octets.specs.Lists.{every, keep, has, rising, risingFrom}
 use Rattle.octets.proofs.Order.{ltb-same}
 use Rattle.octets.proofs.Tests.{and-both, every-mem, every-imp, every-join, keep-mem, keep-append, keep-all, keep-same, keep-length}
-use Rattle.octets.proofs.Sets.{not-has-mem, no-member, has-mem}
+use Rattle.octets.proofs.Lists.{no-member, mem-at}
+use Rattle.octets.proofs.Sets.{not-has-mem, has-mem}
 use Rattle.octets.proofs.Rising.{rising-from, rising-before, rises-after}
 use Rattle.buffer.specs.Buffer.{below}
-use Rattle.buffer.proofs.Lists.{mem-at}
 
 abbrev pub under : ℕ → ℕ → Bool
 under k j = ltb j k

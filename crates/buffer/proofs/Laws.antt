@@ -12,7 +12,7 @@ use Rattle.spot.proofs.Buffers.{keys-mem}
 use Rattle.buffer.specs.declared.SpotBuffer.{SpotBuffer}
 use Rattle.buffer.specs.declared.KeyBuffer.{KeyBuffer}
 use Rattle.buffer.specs.Buffer.{held, named, blank}
-use Rattle.buffer.proofs.Lists.{at-mem}
+use Rattle.octets.proofs.Lists.{at-mem}
 use Rattle.buffer.proofs.Keyed.{spots, counted}
 
 module _ (b : SpotBuffer) (long : length (b .spots) ≡ 80) (fits : b .n ≤ 80) where

@@ -1,27 +1,22 @@
--- Lists of any elements: what a loop that stores behind them makes, parts by index, and elements by index.
+-- Lists of any elements: what a loop that stores behind them makes, and parts by index.
 -- Assumes nothing.
-use mathlib.Core.Path.{_≡_, refl, sym, ap, _∙_}
-use mathlib.Core.Logic.{⊎-elim}
+use mathlib.Core.Path.{_≡_, sym, ap, _∙_}
 use mathlib.Core.Bool.{Bool, true, false, cond}
-use mathlib.Core.List.{List, [], _∷_, _++_, append-assoc, append-nil, map, List·Memᴰ, List·Memᴰ·head, List·Memᴰ·tail, List·Memᴰ·not-nil, List·Memᴰ·cases-cons}
-use Prim.Native.Nat.{ℕ, zero, suc, _+_, _-_, _≤_, _<_, suc-le-suc}
-use native.Mathlib.Nat.{le-of-suc-le-suc, not-suc-le-zero}
+use mathlib.Core.List.{List, [], _∷_, _++_, append-assoc, append-nil, map}
+use Prim.Native.Nat.{ℕ, suc, _+_, _-_, _≤_, _<_}
 use native.Mathlib.Numerals.{add-one}
 use native.Mathlib.Omega.{arith}
 use lib.ListN.{length, take, drop, getD, set, length-map, length-drop}
-use lib.Seq.{take-suc-set, take-suc, getD-drop, getD-take, length-take-le, append-snoc}
+use lib.Seq.{take-suc, getD-drop, getD-take, length-take-le, append-snoc}
 use Rattle.octets.specs.Lists.{keep}
 use Rattle.octets.proofs.Tests.{keep-append}
+use Rattle.octets.proofs.Lists.{take-push}
 
 -- what owning an array of structs tells of its list's length is said of the list's image
 pub length-image : (X Y : Type 0) (f : X → Y) (l : List X) (n : ℕ) → length (map f l) ≡ n → length l ≡ n
 length-image X Y f l n e = sym (length-map l f) ∙ e
 
 module _ {A : Type 0} where
-  -- a store at n, and one element more
-  pub take-push : (l : List A) (n : ℕ) (s : A) → n < length l → take (n + 1) (set l n s) ≡ take n l ++ (s ∷ [])
-  take-push l n s h = rw (add-one, take-suc-set)
-
   -- the first of what is left stored behind what is there
   pub stored : (arr : List A) (at : ℕ) (x : A) {m m′ t : List A} → at < length arr → take at arr ++ m ≡ t → m ≡ x ∷ m′ → take (at + 1) (set arr at x) ++ m′ ≡ t
   stored arr at x {m} {m′} {t} h e g =
@@ -52,18 +47,6 @@ module _ {A : Type 0} where
   grown d l arr o n at {f} {i} h g nl a e =
       let tl : i < length (take n l) = rw length-take-le (omega arith) in
       take-push arr at (getD l i d) a ∙ rw (e, append-assoc, part-more f i (take n l) d, getD-take)
-
-  -- an element by its index is in the list
-  pub at-mem : (l : List A) (i : ℕ) (d : A) → i < length l → List·Memᴰ (getD l i d) l
-  at-mem [] i d h = absurd (not-suc-le-zero h)
-  at-mem (x ∷ l) zero d h = List·Memᴰ·head refl
-  at-mem (x ∷ l) (suc i) d h = List·Memᴰ·tail (at-mem l i d (le-of-suc-le-suc h))
-
-  -- and what is in the list has an index
-  pub mem-at : (l : List A) (d : A) {x : A} → List·Memᴰ x l → (i : ℕ) × (i < length l) × (getD l i d ≡ x)
-  mem-at [] d m = absurd (List·Memᴰ·not-nil m)
-  mem-at (y ∷ l) d {x} m =
-      ⊎-elim (λ (e : x ≡ y). (0, omega arith, sym e)) (λ j. let r = mem-at l d j in (suc (r .0), suc-le-suc (r .1), r .2)) (List·Memᴰ·cases-cons m)
 
   -- a loop that stores the elements of l that pass a test: a turn at one that does, and at one that does not
   module _ (f : A → Bool) (l arr : List A) (at i : ℕ) (d : A) (h : i < length l) (e : take at arr ≡ keep f (take i l)) where

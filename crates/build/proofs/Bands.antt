@@ -1,28 +1,27 @@
 -- The spots of a band, counted one after the other; and the search for a cut by halving.
 -- Assumes nothing.
 use mathlib.Core.Path.{_≡_, refl, ap, sym, subst, _∙_}
-use mathlib.Core.Logic.{_⊎_, inl, inr, ⊎-elim}
+use mathlib.Core.Logic.{inl, inr, ⊎-elim}
 use mathlib.Core.Bool.{Bool, true, false, cond, _&&_}
 use mathlib.Core.List.{List, [], _∷_, _++_, append-nil}
-use Prim.Native.Nat.{ℕ, zero, suc, _+_, _-_, _*_, _/_, _≤_, _<_}
+use Prim.Native.Nat.{ℕ, suc, _+_, _-_, _*_, _/_, _≤_, _<_}
 use native.Mathlib.Omega.{arith}
 use lib.ListN.{length, take, set, length-append, length-set}
 use lib.Seq.{append-snoc}
 use lib.Dec.{leb, ltb, leb·suc-suc, leb·suc-zero}
-use Rattle.octets.specs.Lists.{all, every, records, rising}
+use Rattle.octets.specs.Lists.{all, every, rising}
 use Rattle.octets.proofs.Order.{less-or-not, same-or-not}
 use Rattle.octets.proofs.Records.{left, left-all, left-cons, left-none}
 use Rattle.spot.specs.declared.Spot.{Spot}
 use Rattle.spot.specs.Keys.{rankKey, within, allKeys}
 use Rattle.spot.specs.Spots.{keys, keyAt, spotAt}
-use Rattle.spot.proofs.Card.{keyAt-lt}
-use Rattle.spot.proofs.Places.{within-yes}
+use Rattle.spot.proofs.Buffers.{spots-within}
 use Rattle.rebuild.specs.Build.{band}
 use Rattle.rebuild.proofs.Bands.{band-rises}
 use Rattle.rebuild.proofs.Choose.{band-none, band-step, ends-apart}
 use Rattle.buffer.specs.declared.SpotBuffer.{SpotBuffer}
 use Rattle.buffer.specs.Buffer.{held, Ordered}
-use Rattle.buffer.proofs.Lists.{take-push}
+use Rattle.octets.proofs.Lists.{take-push}
 use Rattle.build.specs.Building.{spotsOf, limitOf, Segment, Cut}
 use Rattle.build.specs.declared.Limit.{Limit}
 
@@ -38,12 +37,6 @@ test-is c l r = go (l .some) (leb c r)
     go : (s a : Bool) → (a && (s && leb r (l .last))) ≡ (a && (ltb r (cond s (suc (l .last)) 0) && true))
     go true a = ap (λ (b : Bool). a && b) (end (leb r (l .last)) ∙ ap (λ (b : Bool). b && true) (sym (leb·suc-suc r (l .last))))
     go false a = ap (λ (b : Bool). a && (b && true)) (sym (leb·suc-zero r))
-
--- keys on the card are of 64 bits
-pub spots-keyed : (s : List ℕ) (w n at : ℕ) → every (within 0 allKeys) (keys (records (spotAt s) w n at)) ≡ true
-unfolding spotAt
-spots-keyed s w zero at = refl
-spots-keyed s w (suc n) at = rw (within-yes 0 allKeys (keyAt s at) (omega arith) (keyAt-lt s at)) (spots-keyed s w n (at + w))
 
 -- ---- one spot after the other
 
@@ -179,7 +172,7 @@ module _ (list : List ℕ) (from n : ℕ) (limit : Limit) where
 
 module _ (list : List ℕ) (from n : ℕ) (limit : Limit) (seg : Segment list from n) where
   keyed : every (within 0 allKeys) (keys (spotsOf list from n)) ≡ true
-  keyed = spots-keyed list 12 n (12 * from)
+  keyed = spots-within list 12 n (12 * from)
 
   pub cut-all : {c r : ℕ} → c ≡ 0 → r ≡ taken list from n limit c → r ≤ 64 → Cut list from n limit c
   cut-all z e h = record { most = omega arith; least = inr z; under = omega arith }

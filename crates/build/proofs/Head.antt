@@ -1,30 +1,32 @@
 -- Block 0: its numbers written, its map marked, and what it says then.
 -- Assumes nothing.
 use mathlib.Core.Path.{_≡_, refl, ap, sym, _∙_}
-use mathlib.Core.Logic.{inl, ⊎-elim}
-use mathlib.Core.Bool.{Bool, true, false, not, _||_, or-true, or-false}
-use mathlib.Core.List.{List, _∷_, _++_, append-nil}
-use Prim.Native.Nat.{ℕ, zero, suc, _+_, _-_, _*_, _≤_, _<_}
+use mathlib.Core.Logic.{⊎-elim}
+use mathlib.Core.Bool.{Bool, false, _||_, or-true, or-false}
+use mathlib.Core.List.{List, _∷_, _++_}
+use Prim.Native.Nat.{ℕ, zero, suc, _+_, _*_, _≤_, _<_}
 use native.Mathlib.Nat.{zero-add, suc-add}
 use native.Mathlib.Omega.{arith}
-use lib.ListN.{length, take, drop, replicate, drop-of-length-le, length-replicate}
-use lib.Seq.{drop-drop, drop-at, take-at, length-take-le}
+use lib.ListN.{length, take, drop, replicate, length-replicate}
+use lib.Seq.{drop-drop}
 use lib.Dec.{leb, ltb, eqb}
-use borrow.Author.Tests.{eq-eqb, ne-eqb, le-leb, lt-ltb, le-ltb, lt-leb, leb-true}
-use borrow.Rule.Slice.PartMut.{midOf, postOf, putMid, drop-put, mid-len}
+use borrow.Author.Tests.{eq-eqb, ne-eqb, le-leb, lt-ltb, le-ltb, lt-leb}
+use borrow.Rule.Slice.PartMut.{midOf, putMid}
 use Rattle.octets.specs.Lists.{every}
 use Rattle.octets.specs.Bitmap.{bit, setBit}
 use Rattle.octets.specs.Bytes.{be, putBe}
-use Rattle.octets.proofs.Bits.{setBit-length}
-use Rattle.octets.proofs.Bytes.{put-length, drop-put-be, be-put-same, be-put-other, be-left, be-take}
+use Rattle.octets.proofs.Bits.{bit-zeros, setBit-length}
+use Rattle.octets.proofs.Bytes.{put-length, drop-put-be, be-put-same, be-before}
 use Rattle.octets.proofs.Order.{same-or-not, less-or-not, ltb-same}
-use Rattle.octets.proofs.Tests.{all-at, all-cons, all-nil}
-use Rattle.octets.proofs.UpTo.{every-upTo}
-use Rattle.tree.proofs.MapBits.{bit-setBit, zeros, bit-zeros}
-use Rattle.block.specs.Table.{block, putBlock, blocksOf, blockOk, sizedFor, capacity}
+use Rattle.octets.proofs.Lists.{over-all}
+use Rattle.octets.proofs.Tests.{every-replicate}
+use Rattle.tree.proofs.MapBits.{bit-setBit, zeros}
+use Rattle.block.specs.Table.{block, putBlock}
 use Rattle.block.specs.Header.{Header, headerOf, headOf}
-use Rattle.block.specs.HeaderRules.{headerOk, mapShows}
-use Rattle.block.proofs.Frames.{put-length as put-block-length, block-put-same, block-put-other}
+use Rattle.block.proofs.Making.{blocks-least, blocks-most}
+use Rattle.block.proofs.Facts.{HeadFacts, head-made}
+use Rattle.block.proofs.Frames.{put-length as put-block-length, block-put-other}
+use Rattle.block.proofs.Heading.{numbers-stay, map-is, tail-stays, head-put}
 use Rattle.build.specs.Building.{Marked, NumbersAre, HeadSays, HeaderFits, HeaderWritten}
 
 -- ---- the map
@@ -68,16 +70,9 @@ zeros-take : (k m : ℕ) → take k (zeros (k + m)) ≡ zeros k
 zeros-take zero m = refl
 zeros-take (suc k) m = ap (λ (j : ℕ). take (suc k) (zeros j)) (suc-add k m) ∙ ap (λ (l : List ℕ). 0 ∷ l) (zeros-take k m)
 
-zeros-every : (m : ℕ) → every (λ x. eqb x 0) (zeros m) ≡ true
-zeros-every zero = refl
-zeros-every (suc m) = zeros-every m
-
 -- a list of m elements, all of them zeroed
-zeroed : (m : ℕ) (s : List ℕ) → length s ≡ m → replicate m 0 ++ drop m s ≡ replicate m 0
-zeroed m s e = let l : length s ≤ m = omega arith in ap (λ (l : List ℕ). zeros m ++ l) (drop-of-length-le s l) ∙ append-nil (zeros m)
-
 zero-length : (m : ℕ) (s u : List ℕ) → length s ≡ m → u ≡ replicate m 0 ++ drop m s → length u ≡ m
-zero-length m s u e g = ap length (g ∙ zeroed m s e) ∙ length-replicate m 0
+zero-length m s u e g = ap length (g ∙ over-all (zeros m) s m (omega arith)) ∙ length-replicate m 0
 
 -- the six writes
 module _ (a h n : ℕ) (la : a < 4294967296) (lh : h < 256) (ln : n < 4294967296) (s s₀ s₁ s₂ s₃ s₄ s₅ : List ℕ) (len : length s ≡ 2048)
@@ -100,16 +95,16 @@ module _ (a h n : ℕ) (la : a < 4294967296) (lh : h < 256) (ln : n < 4294967296
 
   -- what is written before stays
   past₂ : (m j : ℕ) → j + m ≤ 4 → be m s₂ j ≡ be m s₁ j
-  past₂ m j l = ap (λ (x : List ℕ). be m x j) e₂ ∙ be-put-other m 1 s₁ 4 1 j (inl l)
+  past₂ = be-before 1 s₁ s₂ 4 1 e₂
 
   past₃ : (m j : ℕ) → j + m ≤ 5 → be m s₃ j ≡ be m s₂ j
-  past₃ m j l = ap (λ (x : List ℕ). be m x j) e₃ ∙ be-put-other m 1 s₂ 5 h j (inl l)
+  past₃ = be-before 1 s₂ s₃ 5 h e₃
 
   past₄ : (m j : ℕ) → j + m ≤ 6 → be m s₄ j ≡ be m s₃ j
-  past₄ m j l = ap (λ (x : List ℕ). be m x j) e₄ ∙ be-put-other m 2 s₃ 6 1 j (inl l)
+  past₄ = be-before 2 s₃ s₄ 6 1 e₄
 
   past₅ : (m j : ℕ) → j + m ≤ 8 → be m s₅ j ≡ be m s₄ j
-  past₅ m j l = ap (λ (x : List ℕ). be m x j) e₅ ∙ be-put-other m 4 s₄ 8 n j (inl l)
+  past₅ = be-before 4 s₄ s₅ 8 n e₅
 
   pub numbers-are : NumbersAre s₅ a h n
   numbers-are =
@@ -130,32 +125,21 @@ module _ (a h n : ℕ) (la : a < 4294967296) (lh : h < 256) (ln : n < 4294967296
             ∙ drop-put-be 1 s₁ 4 1 12 (omega arith)
             ∙ ap (drop 12) e₁
             ∙ drop-put-be 4 s₀ 0 a 12 (omega arith)
-            ∙ ap (drop 12) (e₀ ∙ zeroed 2048 s len)
+            ∙ ap (drop 12) (e₀ ∙ over-all (zeros 2048) s 2048 (omega arith))
             ∙ zeros-drop 12 2036;
       }
 
 -- ---- the block
 
 module _ (a h n z : ℕ) (s u m : List ℕ) (len : length s ≡ 2048) (nums : NumbersAre s a h n) (marks : Marked (midOf 12 512 s) m z) (e : u ≡ putMid 12 512 s m) where
-  map-sized : length m ≡ 512
-  map-sized = marks .sized ∙ mid-len 12 524 s (omega arith)
-
-  front : (k j : ℕ) → j + k ≤ 12 → be k u j ≡ be k s j
-  front k j l =
-      let t : length (take 12 s) ≡ 12 = length-take-le 12 s (omega arith) in
-      ap (λ (x : List ℕ). be k x j) e ∙ be-left k (take 12 s) (m ++ postOf 12 512 s) j (omega arith) ∙ be-take k 12 s j l
-
-  map-is : take 512 (drop 12 u) ≡ m
-  map-is =
-      ap (λ (x : List ℕ). take 512 (drop 12 x)) e ∙ ap (take 512) (drop-at (take 12 s) (m ++ postOf 12 512 s) 12 (length-take-le 12 s (omega arith)))
-      ∙ take-at m (postOf 12 512 s) 512 map-sized
-
   old-bits : (b : ℕ) → bit (midOf 12 512 s) b ≡ false
   old-bits b = ap (λ (x : List ℕ). bit (take 512 x) b) (nums .blank) ∙ ap (λ (x : List ℕ). bit x b) (zeros-take 512 1524) ∙ bit-zeros 512 b
 
   tail-is : drop 524 u ≡ replicate 1524 0
-  tail-is =
-      ap (drop 524) e ∙ drop-put 12 524 s m (omega arith) (omega arith) map-sized ∙ sym (drop-drop 512 12 s) ∙ ap (drop 512) (nums .blank) ∙ zeros-drop 512 1524
+  tail-is = tail-stays s m u len (marks .sized) e ∙ sym (drop-drop 512 12 s) ∙ ap (drop 512) (nums .blank) ∙ zeros-drop 512 1524
+
+  front : (k j : ℕ) → j + k ≤ 12 → be k u j ≡ be k s j
+  front = numbers-stay s m u len (marks .sized) e
 
   pub head-says : HeadSays (headerOf u) a h n z
   unfolding headerOf
@@ -166,48 +150,44 @@ module _ (a h n z : ℕ) (s u m : List ℕ) (len : length s ≡ 2048) (nums : Nu
         levels = front 1 5 (omega arith) ∙ nums .levels;
         root = front 2 6 (omega arith) ∙ nums .root;
         bound = front 4 8 (omega arith) ∙ nums .bound;
-        inUse = λ b. ap (λ (x : List ℕ). bit x b) map-is ∙ marks .bits b ∙ ap (λ (x : Bool). leb b z || x) (old-bits b) ∙ or-false (leb b z);
-        blank = ap (every (λ x. eqb x 0)) tail-is ∙ zeros-every 1524;
+        inUse = λ b. ap (λ (x : List ℕ). bit x b) (map-is s m u len (marks .sized) e) ∙ marks .bits b ∙ ap (λ (x : Bool). leb b z || x) (old-bits b) ∙ or-false (leb b z);
+        blank = ap (every (λ x. eqb x 0)) tail-is ∙ every-replicate (λ x. eqb x 0) 1524 0 refl;
       }
 
 -- ---- the table
 
 module _ (t u s : List ℕ) (h n z : ℕ) (fits : HeaderFits t h n z) (len : length s ≡ 2048) (says : HeadSays (headerOf s) (length t) h n z) (e : u ≡ putBlock t 0 s) where
-  blocks-least : 9 ≤ blocksOf (length t)
-  unfolding sizedFor
-  blocks-least = leb-true _ _ (all-at _ (fits .sized) 1)
-
   inside : 0 * 2048 + 2048 ≤ length t
-  inside = let b = blocks-least in omega arith
+  inside = omega (arith, blocks-least (length t) (fits .sized))
 
   head-is : headOf u ≡ headerOf s
-  unfolding headOf
-  head-is = ap (λ (x : List ℕ). headerOf (block x 0)) e ∙ ap headerOf (block-put-same t 0 s inside len)
+  head-is = head-put t u s inside len e
 
-  map-shows : mapShows (blocksOf (length t)) (headerOf s) ≡ true
-  unfolding mapShows
-  map-shows =
-      let f = fits .first in
-      let i = fits .inside in
-      all-cons _ _ (says .inUse 0 ∙ le-leb 0 z (omega arith))
-      (all-cons _ _ (ap (bit (headerOf s .inUse)) (says .root) ∙ says .inUse 1 ∙ le-leb 1 z f)
-      (all-cons _ _ (every-upTo _ (blocksOf (length t)) (4096 - blocksOf (length t)) (λ b lo hi. ap not (says .inUse b ∙ lt-leb b z (omega arith)))) all-nil))
-
-  header-ok : headerOk (length t) (headerOf s) ≡ true
-  unfolding headerOk blockOk
-  header-ok =
-      let b = blocks-least in
-      all-cons _ _ (eq-eqb _ _ (says .bytes))
-      (all-cons _ _ (eq-eqb _ _ (says .version))
-      (all-cons _ _ (le-leb 1 (headerOf s .levels) (rw (says .levels) (fits .least)))
-      (all-cons _ _ (le-leb (headerOf s .levels) 7 (rw (says .levels) (fits .most)))
-      (all-cons _ _ (rw (says .root) (all-cons _ _ refl (all-cons _ _ (lt-ltb 1 (blocksOf (length t)) (omega arith)) all-nil)))
-      (all-cons _ _ (le-leb (headerOf s .bound) (capacity (length t)) (rw (says .bound) (fits .bound))) (all-cons _ _ map-shows (all-cons _ _ (says .blank) (all-cons _ _ (fits .sized) all-nil))))))))
+  facts : HeadFacts (length t) (headerOf s)
+  facts =
+      let least = blocks-least (length t) (fits .sized) in
+      let first = fits .first in
+      let last = fits .inside in
+      record {
+        same-bytes = says .bytes;
+        version = says .version;
+        levels-least = rw (says .levels) (fits .least);
+        levels-most = rw (says .levels) (fits .most);
+        root-least = rw (says .root) (omega arith);
+        root-most = rw (says .root) (omega arith);
+        bound-most = rw (says .bound) (fits .bound);
+        zero-used = says .inUse 0 ∙ le-leb 0 z (omega arith);
+        root-used = ap (bit (headerOf s .inUse)) (says .root) ∙ says .inUse 1 ∙ le-leb 1 z first;
+        past-clear = λ b lo hi. says .inUse b ∙ lt-leb b z (omega arith);
+        blank = says .blank;
+        sized = fits .sized;
+        blocks-most = blocks-most (length t) (fits .sized);
+      }
 
   pub header-written : HeaderWritten t u h n z
   header-written =
       record {
-        ok = rw head-is header-ok;
+        ok = rw head-is (head-made (length t) (headerOf s) facts);
         levels = ap (λ (r : Header). r .levels) head-is ∙ says .levels;
         root = ap (λ (r : Header). r .root) head-is ∙ says .root;
         bound = ap (λ (r : Header). r .bound) head-is ∙ says .bound;

@@ -7,25 +7,24 @@ use Prim.Native.Nat.{ℕ, _+_, _-_, _≤_, _<_}
 use native.Mathlib.Omega.{arith}
 use lib.ListN.{length}
 use lib.Dec.{leb}
-use borrow.Author.Tests.{leb-true}
 use Rattle.octets.proofs.Records.{length-records}
-use Rattle.octets.proofs.Tests.{all-at}
 use Rattle.spot.specs.declared.Spot.{Spot}
 use Rattle.spot.specs.Keys.{allKeys}
 use Rattle.spot.specs.Spots.{spotAt}
+use Rattle.spot.proofs.Buffers.{spots-within}
 use Rattle.block.specs.declared.Entry.{Entry}
 use Rattle.block.specs.Header.{headOf}
 use Rattle.block.specs.HeaderRules.{headerOk}
 use Rattle.block.specs.Node.{storeOf}
-use Rattle.block.specs.Table.{blocksOf, capacity, sizedFor, tableSized}
+use Rattle.block.specs.Table.{blocksOf, capacity, tableSized}
 use Rattle.block.proofs.Frames.{store-same}
+use Rattle.block.proofs.Making.{blocks-least, blocks-most as most-blocks}
 use Rattle.rebuild.specs.Build.{nodes, shapeOf, shape, Built, BuildPost, Rebuilt}
 use Rattle.rebuild.proofs.Built.{nodes-some}
 use Rattle.rebuild.proofs.Kept.{built-kept}
 use Rattle.rebuild.proofs.Shape.{Fits, shape-fits}
 use Rattle.build.specs.declared.Fans.{Fans}
 use Rattle.build.specs.Building.{spotsOf, Segment, Buildable, HeaderFits, HeaderWritten, ShapeIs}
-use Rattle.build.proofs.Bands.{spots-keyed}
 use Rattle.build.proofs.Segments.{shape-length}
 
 module _ (t list : List ℕ) (n : ℕ) (sized : tableSized (length t) ≡ true) (few : n ≤ capacity (length t)) (seg : Segment list 0 n) (r : Fans) (sh : ShapeIs n r) where
@@ -36,8 +35,7 @@ module _ (t list : List ℕ) (n : ℕ) (sized : tableSized (length t) ≡ true) 
   ys = spotsOf list 0 n
 
   blocks-most : (9 ≤ blocksOf (length t)) × (blocksOf (length t) ≤ 4096)
-  unfolding sizedFor
-  blocks-most = (leb-true _ _ (all-at _ sized 1), leb-true _ _ (all-at _ sized 2))
+  blocks-most = (blocks-least (length t) sized, most-blocks (length t) sized)
 
   fits : Fits n (blocksOf (length t) - 1) fs
   fits =
@@ -84,7 +82,7 @@ module _ (t list : List ℕ) (n : ℕ) (sized : tableSized (length t) ≡ true) 
       let kept : Built fs (blocksOf (length t)) (storeOf v) 1 ys allKeys = built-kept fs (blocksOf (length t)) (storeOf u) (storeOf v) allKeys 1 ys (λ i lo hi. store-same u v (w .sized) i (w .else i (λ (z : i ≡ 0). omega arith))) tree in (
         record {
           up = seg .rises;
-          keyed = spots-keyed list 12 n 0;
+          keyed = spots-within list 12 n 0;
           few = subst (λ (k : ℕ). length ys ≤ capacity k) (sym same) (omega arith);
           header = subst (λ (k : ℕ). headerOk k (headOf v) ≡ true) (sym (w .sized)) (w .ok);
           root = w .root;

@@ -2,11 +2,11 @@
 -- Assumes nothing.
 use mathlib.Core.Path.{_≡_, refl, ap, sym, subst, _∙_}
 use mathlib.Core.Bool.{true}
-use mathlib.Core.List.{List, [], _∷_, List·Memᴰ, List·Memᴰ·head, List·Memᴰ·tail, List·Memᴰ·cases-cons}
-use mathlib.Core.Logic.{⊎-elim}
-use Prim.Native.Nat.{ℕ, zero, suc, _-_, _*_, _≤_, _<_}
+use mathlib.Core.List.{List, [], _∷_}
+use Prim.Native.Nat.{ℕ, zero, suc, _*_, _≤_, _<_}
 use native.Mathlib.Omega.{arith}
 use lib.ListN.{length, take, getD, set}
+use Rattle.octets.proofs.Lists.{mem-same}
 use Rattle.spot.specs.declared.Spot.{Spot}
 use Rattle.spot.specs.Spots.{keys, keyAt, spotAt}
 use Rattle.spot.proofs.Buffers.{find-mem}
@@ -20,7 +20,8 @@ use Rattle.block.specs.Table.{blocksOf}
 use Rattle.block.proofs.Views.{open-zero}
 use Rattle.node.specs.declared.Entries.{Entries}
 use Rattle.node.specs.declared.NodeValue.{NodeValue}
-use Rattle.node.specs.Memory.{entriesOf, EntryFits, EntriesFit, Storable, Stored}
+use Rattle.node.specs.Memory.{entriesOf, EntriesFit, Storable, Stored}
+use Rattle.node.proofs.Fits.{open-fits}
 use Rattle.tree.proofs.Entries.{agree-make, agree-empty}
 use Rattle.rebuild.specs.Build.{firstKey, builtNode}
 use Rattle.build.specs.Building.{spotsOf, EntryFor, OwnPut}
@@ -70,14 +71,6 @@ entry-some b k ps size hi lo h e d few high low =
 
 -- ---- the node
 
-open-fits : (es : List Entry) → ((e : Entry) → List·Memᴰ e es → EntryFits e) → (e : Entry) → List·Memᴰ e (firstOpen es) → EntryFits e
-open-fits [] h e i = h e i
-open-fits (x ∷ es) h e i =
-    ⊎-elim (λ (y : e ≡ openBelow x). subst (λ (z : Entry). EntryFits z) (sym y) first) (λ (y : List·Memᴰ e es). h e (List·Memᴰ·tail y)) (List·Memᴰ·cases-cons i)
-  where
-    first : EntryFits (openBelow x)
-    first = let f = h x (List·Memᴰ·head refl) in record { block = f .block; size = f .size; top = f .top; bottom = f .bottom }
-
 module _ (level : ℕ) (es opened-es : Entries) (points inserts : SpotBuffer) (deletes : KeyBuffer) (count : opened-es .n ≡ es .n) (open-is : entriesOf opened-es ≡ firstOpen (entriesOf es))
     (no-inserts : inserts .n ≡ 0) (no-deletes : deletes .n ≡ 0) where
   abbrev own : NodeValue
@@ -90,7 +83,7 @@ module _ (level : ℕ) (es opened-es : Entries) (points inserts : SpotBuffer) (d
         entries =
             record {
               few = let m = f .few in omega arith;
-              each = λ e i. open-fits (entriesOf es) (f .each) e (subst (λ (l : List Entry). List·Memᴰ e l) open-is i);
+              each = λ e i. open-fits (entriesOf es) (f .each) e (mem-same open-is i);
             };
         first = ap (λ (l : List Entry). zeroFirst (lows l)) open-is ∙ open-zero (entriesOf es);
         points = p;

@@ -6,15 +6,14 @@ use mathlib.Core.Bool.{Bool, true, cond}
 use mathlib.Core.List.{List, [], _∷_, map}
 use Prim.Native.Nat.{ℕ, zero, suc, _+_, _-_, _*_, _/_, _%_, _^_, _≤_, _<_}
 use native.Mathlib.Nat.{pow-suc, mul-le-mul}
-use native.Mathlib.Numerals.{add-one}
 use native.Mathlib.Omega.{arith}
 use lib.ListN.{length, getD, drop, List·getD-map}
-use lib.Seq.{drop-cons}
 use lib.Dec.{leb, eqb}
 use borrow.Author.Tests.{eqb-true, leb-true, le-leb, lt-leb}
 use Rattle.octets.specs.Lists.{all, every}
 use Rattle.octets.proofs.Tests.{every-at, all-at}
 use Rattle.octets.proofs.Order.{same-or-not}
+use Rattle.octets.proofs.Lists.{drop-next}
 use Rattle.rebuild.specs.Build.{leaves, nodes, shapeOf, shapes, firstFor, shape}
 use Rattle.build.specs.Building.{ShapeIs}
 
@@ -120,7 +119,7 @@ module _ (n i : ℕ) (few : n ≤ 65520) (s : Sought n i) where
 
   picks : shape n ≡ cond (leb n (32 * (getD rows i 0 / 1000))) (getD shapes i []) (firstFor n (drop (i + 1) shapes))
   picks =
-      let cut : drop i shapes ≡ getD shapes i [] ∷ drop (i + 1) shapes = rw add-one (drop-cons shapes i [] (omega (arith, long .1, here))) in
+      let cut : drop i shapes ≡ getD shapes i [] ∷ drop (i + 1) shapes = drop-next shapes i [] (omega (arith, long .1, here)) in
       s .same ∙ ap (firstFor n) cut
       ∙ ap (λ (k : ℕ). cond (leb n (32 * k)) (getD shapes i []) (firstFor n (drop (i + 1) shapes))) row-count
 

@@ -9,7 +9,8 @@ use Prim.Native.Nat.{ℕ, suc, _≤_, _<_}
 use native.Mathlib.Omega.{arith}
 use lib.ListN.{length}
 use Rattle.octets.specs.Bitmap.{bit}
-use Rattle.octets.proofs.Sets.{Apart, has-not}
+use Rattle.octets.specs.Sets.{Apart}
+use Rattle.octets.proofs.Sets.{has-not}
 use Rattle.octets.proofs.UpTo.{upTo-from}
 use Rattle.spot.specs.Keys.{allKeys, within}
 use Rattle.spot.specs.Spots.{keys, find}
@@ -24,15 +25,13 @@ use Rattle.block.proofs.Frames.{store-same}
 use Rattle.tree.specs.Part.{Part, whole}
 use Rattle.tree.specs.Lookup.{lookup, live, orElse}
 use Rattle.tree.specs.Reach.{reach}
-use Rattle.tree.specs.Sound.{soundAt, mapExact}
-use Rattle.tree.proofs.Tables.{Shaped}
-use Rattle.tree.proofs.Live.{lookup-within}
+use Rattle.tree.specs.Sound.{soundAt, mapExact, Shaped}
+use Rattle.tree.proofs.Tables.{live-none}
 use Rattle.tree.proofs.Marks.{exact-once, exact-bit, read-mem}
 use Rattle.tree.proofs.Sources.{table-reach, header-few}
-use Rattle.update.proofs.Change.{reaches, Sound}
+use Rattle.update.specs.Change.{part, reaches, Sound}
+use Rattle.update.specs.Spare.{Taken}
 use Rattle.update.proofs.Count.{map-after}
-use Rattle.update.proofs.Spare.{Taken}
-use Rattle.update.proofs.Loose.{part}
 use Rattle.spare.specs.declared.Spare.{Spare}
 use Rattle.spare.specs.Spares.{spareOf, takenOf, SpareIn, Reheaded}
 use Rattle.spare.proofs.Taking.{taken-is, taken-not}
@@ -63,15 +62,6 @@ module _ (t : List ℕ) (s : Shaped t) where
       let k = reached-in z j in
       let low : z < 4096 = let a = table-reach t (s .header) (s .tree) z k .low in omega (arith, header-few t (s .header)) in
       true≢false (sym (exact-bit (headOf t .inUse) _ (s .map) z low ∙ read-mem _ z k) ∙ u .unused z i)
-
-  -- keys past the last are not live
-  pub live-off : (k : ℕ) → within 0 allKeys k ≡ false → live t k ≡ none
-  unfolding live
-  live-off k w = go (lookup (headOf t .levels) (storeOf t) k (whole (headOf t))) refl
-    where
-      go : (o : Option ℕ) → lookup (headOf t .levels) (storeOf t) k (whole (headOf t)) ≡ o → lookup (headOf t .levels) (storeOf t) k (whole (headOf t)) ≡ none
-      go none e = e
-      go (some a) e = absurd (true≢false (sym (lookup-within (headOf t .levels) (storeOf t) k (whole (headOf t)) (s .tree) (omega arith) e) ∙ w))
 
 -- ---- what a batch says of keys past the last
 
@@ -133,7 +123,7 @@ after-says t u ss ks s s′ hi hd h k = go (within 0 allKeys k) refl
   where
     go : (b : Bool) → within 0 allKeys k ≡ b → live u k ≡ batchSays ss ks k (live t k)
     go true w = h k w
-    go false w = live-off u s′ k w ∙ sym (ap (batchSays ss ks k) (live-off t s k w) ∙ says-off ss ks hi hd k w)
+    go false w = live-none u s′ k w ∙ sym (ap (batchSays ss ks k) (live-none t s k w) ∙ says-off ss ks hi hd k w)
 
 -- ---- the root that block 0 names
 

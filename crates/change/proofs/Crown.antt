@@ -3,11 +3,11 @@
 use mathlib.Core.Path.{_≡_, refl, ap, sym, _∙_, subst, subst⁻¹}
 use mathlib.Core.Logic.{_⊎_, inl, inr, ⊎-elim}
 use mathlib.Core.Bool.{true, false, _||_}
-use mathlib.Core.List.{List, [], _∷_, List·Memᴰ, List·Memᴰ·not-nil, List·Memᴰ·cases-cons}
+use mathlib.Core.List.{List, [], _∷_, List·Memᴰ, List·Memᴰ·not-nil, List·Memᴰ·cases-cons, List·Memᴰ·eq-of-singleton}
 use mathlib.Core.Option.{Option}
 use Prim.Native.Nat.{ℕ, suc, _+_, _≤_, _<_}
 use native.Mathlib.Omega.{arith}
-use lib.ListN.{length}
+use lib.ListN.{length, length-take}
 use lib.Dec.{eqb, leb}
 use borrow.Author.Tests.{eq-eqb, ne-eqb, le-leb, lt-ltb}
 use Rattle.octets.specs.Lists.{every, rest, rising}
@@ -19,17 +19,17 @@ use Rattle.block.specs.declared.Asked.the-variants.{Root}
 use Rattle.block.specs.Table.{blocksOf, blockOk}
 use Rattle.block.specs.Node.{Node, storeOf}
 use Rattle.block.specs.NodeRules.{lows, zeroFirst, lowsRise, childCountOk, fewest, childBlocksOk, leafBuffersEmpty, agrees, filled, lowest}
+use Rattle.block.proofs.Views.{length-lows}
 use Rattle.tree.specs.Part.{parts}
 use Rattle.tree.specs.Lookup.{lookup}
 use Rattle.tree.specs.Reach.{reach}
 use Rattle.tree.proofs.Below.{sizes-filled, sizes-lowest}
 use Rattle.update.specs.Held.{Held}
-use Rattle.update.proofs.Change.{reaches, Sound}
-use Rattle.update.proofs.Spare.{Taken}
-use Rattle.update.proofs.Loose.{part}
-use Rattle.update.proofs.Open.{under, Open}
+use Rattle.update.specs.Change.{part, reaches, Sound}
+use Rattle.update.specs.Spare.{Taken}
+use Rattle.update.specs.Open.{under, Open}
+use Rattle.update.specs.Rounds.{Full}
 use Rattle.update.proofs.Close.{Shape, raise, raised}
-use Rattle.update.proofs.Rounds.{Full}
 use Rattle.node.specs.Memory.{entriesOf, nodeIn, EntryFits, Storable, Stored}
 use Rattle.node.specs.declared.NodeValue.{NodeValue}
 use Rattle.node.proofs.Laws.{stored-else}
@@ -37,17 +37,12 @@ use Rattle.edit.specs.Edits.{heldIn}
 use Rattle.journal.specs.Journal.{Undoable}
 use Rattle.fill.specs.Filling.{Workable, FillPost, FilledBy}
 use Rattle.fill.specs.declared.Filled.{Filled}
-use Rattle.fill.proofs.Works.{few}
 use Rattle.change.specs.Growing.{Rooted, Over}
 
 -- one of two
 either : (e first second : Entry) → List·Memᴰ e (first ∷ second ∷ []) → (e ≡ first) ⊎ (e ≡ second)
 either e first second i =
-    ⊎-elim inl (λ j. ⊎-elim inr (λ k. absurd (List·Memᴰ·not-nil k)) (List·Memᴰ·cases-cons j)) (List·Memᴰ·cases-cons i)
-
-length-lows : (es : List Entry) → length (lows es) ≡ length es
-length-lows [] = refl
-length-lows (e ∷ es) = ap suc (length-lows es)
+    ⊎-elim inl (λ j. inr (List·Memᴰ·eq-of-singleton j)) (List·Memᴰ·cases-cons i)
 
 module _ {level : ℕ} {first second : Entry} {n : NodeValue} (o : Over level first second n) where
   same : (e : Entry) → List·Memᴰ e (entriesOf (n .entries)) → List·Memᴰ e (first ∷ second ∷ [])
@@ -128,9 +123,9 @@ module _ {level : ℕ} {first second : Entry} {n : NodeValue} (o : Over level fi
 
       sizes : Full es (heldIn (r .node)) → (filled m || lowest m) ≡ true
       sizes (inl h) =
-          let np = few (r .node .points .n) (r .node .points .spots) in
-          let ni = few (r .node .inserts .n) (r .node .inserts .spots) in
-          let nd = few (r .node .deletes .n) (r .node .deletes .keys) in
+          let np = length-take (r .node .points .n) (r .node .points .spots) in
+          let ni = length-take (r .node .inserts .n) (r .node .inserts .spots) in
+          let nd = length-take (r .node .deletes .n) (r .node .deletes .keys) in
           sizes-filled m h (omega (arith, np, p .works .points)) (omega (arith, ni, p .inserts, o .inserts)) (omega (arith, nd, p .deletes, o .deletes))
       sizes (inr h) = sizes-lowest m (h .0) (h .1) (h .2) (h .3)
 

@@ -4,25 +4,24 @@ use mathlib.Core.Path.{_≡_, refl, ap, sym, _∙_, subst, subst⁻¹}
 use mathlib.Core.Logic.{inl, inr, ⊎-elim}
 use mathlib.Core.Bool.{true, false, true≢false, false≢true}
 use mathlib.Core.List.{List, List·Memᴰ}
-use Prim.Native.Nat.{ℕ, _+_, _*_, _%_, _≤_, _<_}
+use Prim.Native.Nat.{ℕ, _+_, _*_, _≤_, _<_}
 use native.Mathlib.Omega.{arith}
 use lib.ListN.{length, replicate, length-replicate}
-use borrow.Author.Tests.{eqb-true}
 use Rattle.octets.specs.Bitmap.{bit}
-use Rattle.octets.proofs.Tests.{all-at}
+use Rattle.octets.proofs.Bits.{bit-zeros}
 use Rattle.spot.specs.Keys.{allKeys, within}
 use Rattle.spot.specs.Spots.{keys}
 use Rattle.spot.specs.declared.Spot.{Spot}
-use Rattle.block.specs.Table.{block, blocksOf, capacity, sizedFor, tableSized, putBlock}
+use Rattle.block.specs.Table.{block, blocksOf, capacity, tableSized, putBlock}
 use Rattle.block.specs.Header.{Header, headOf}
 use Rattle.block.specs.HeaderRules.{headerOk}
 use Rattle.block.specs.Node.{storeOf}
 use Rattle.block.proofs.Facts.{HeadFacts, head-facts}
-use Rattle.block.proofs.Making.{sized-least}
+use Rattle.block.proofs.Making.{sized-least, blocks-whole}
 use Rattle.block.proofs.Frames.{store-same, head-same, block-length, put-length, block-put-same, block-put-other}
 use Rattle.tree.proofs.Tables.{shaped}
 use Rattle.journal.specs.Journal.{Undoable, Kept, Undone}
-use Rattle.journal.proofs.Kept.{kept-trans, before-marked, before-clear, zeros-clear, undone-is}
+use Rattle.journal.proofs.Kept.{kept-trans, before-marked, before-clear, undone-is}
 use Rattle.spare.specs.declared.Spare.{Spare}
 use Rattle.spare.specs.Spares.{takenOf, SpareIn, Reheaded}
 use Rattle.spare.proofs.Taking.{taken-spare}
@@ -39,8 +38,7 @@ module _ (t : List ℕ) (h : headerOk (length t) (headOf t) ≡ true) where
   sizes = head-facts (length t) (headOf t) h .sized
 
   pub whole-blocks : length t ≡ blocksOf (length t) * 2048
-  unfolding sizedFor
-  whole-blocks = let z : length t % 2048 ≡ 0 = eqb-true (length t % 2048) 0 (all-at _ sizes 0) in omega arith
+  whole-blocks = blocks-whole (length t) sizes
 
   pub nine-blocks : 18432 ≤ length t
   nine-blocks = sized-least (length t) sizes
@@ -97,7 +95,7 @@ module _ {t w : List ℕ} {root level ni nd bound : ℕ} (a : HeavyAt t w root l
       zero-kept =
           sym (before-marked t₂ w₂ map₂ 0 (kept .marks 0 marked))
           ∙ both .past 0 (let z = nine-blocks t ok in omega arith)
-          ∙ before-clear t w (replicate 512 0) 0 (zeros-clear 512 0)
+          ∙ before-clear t w (replicate 512 0) 0 (bit-zeros 512 0)
 
       abbrev v : List ℕ
       v = putBlock t₂ 0 (block w₂ 0)

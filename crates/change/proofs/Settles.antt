@@ -12,7 +12,8 @@ use lib.ListN.{length}
 use lib.Dec.{eqb, ltb}
 use borrow.Author.Tests.{eqb-false, ltb-false}
 use Rattle.octets.specs.Lists.{distinct}
-use Rattle.octets.proofs.Sets.{Apart, in-or-not}
+use Rattle.octets.specs.Sets.{Apart}
+use Rattle.octets.proofs.Sets.{in-or-not}
 use Rattle.spot.specs.Keys.{allKeys, within}
 use Rattle.spot.specs.declared.Spot.{Spot}
 use Rattle.block.specs.declared.Asked.the-variants.{Root, Child}
@@ -20,10 +21,9 @@ use Rattle.block.specs.Table.{blocksOf}
 use Rattle.block.specs.Node.{Store, storeOf}
 use Rattle.tree.specs.Part.{Part, parts}
 use Rattle.tree.specs.Lookup.{lookup}
-use Rattle.update.proofs.Change.{reaches, Sound, Changed}
-use Rattle.update.proofs.Spare.{Taken}
-use Rattle.update.proofs.Loose.{part}
-use Rattle.update.proofs.Open.{under}
+use Rattle.update.specs.Change.{part, reaches, Sound, Changed}
+use Rattle.update.specs.Spare.{Taken}
+use Rattle.update.specs.Open.{under}
 use Rattle.node.specs.Memory.{Stored}
 use Rattle.node.specs.declared.NodeValue.{NodeValue}
 use Rattle.journal.specs.Journal.{Kept}

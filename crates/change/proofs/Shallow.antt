@@ -8,7 +8,7 @@ use mathlib.Core.Option.{Option}
 use Prim.Native.Nat.{ℕ, suc, _+_, _*_, _≤_}
 use native.Mathlib.Numerals.{add-one}
 use native.Mathlib.Omega.{arith}
-use lib.ListN.{length}
+use lib.ListN.{length, length-take}
 use lib.Dec.{eqb}
 use borrow.Author.Tests.{eq-eqb, ne-eqb, le-leb, lt-ltb}
 use Rattle.octets.specs.Lists.{every, rest, rising, distinct}
@@ -31,18 +31,18 @@ use Rattle.tree.specs.Lookup.{lookup}
 use Rattle.tree.specs.Sound.{inRange}
 use Rattle.tree.proofs.Below.{sizes-filled}
 use Rattle.tree.proofs.Tables.{shaped}
-use Rattle.update.proofs.Change.{Sound}
-use Rattle.update.proofs.Spare.{Taken}
-use Rattle.update.proofs.Loose.{part, opened}
+use Rattle.update.specs.Change.{part, Sound}
+use Rattle.update.specs.Spare.{Taken}
+use Rattle.update.specs.Going.{Going}
+use Rattle.update.proofs.Loose.{opened}
 use Rattle.update.proofs.Close.{Shape}
-use Rattle.update.proofs.Going.{Going, going-start, going-done}
+use Rattle.update.proofs.Going.{going-start, going-done}
 use Rattle.buffer.specs.Buffer.{held, named}
 use Rattle.node.specs.Memory.{entriesOf, nodeIn, EntriesFit, Storable, Stored}
 use Rattle.node.specs.declared.Entries.{Entries}
 use Rattle.node.specs.declared.NodeValue.{NodeValue}
 use Rattle.node.proofs.Laws.{stored-else, stored-head}
 use Rattle.edit.specs.Edits.{heldIn}
-use Rattle.fill.proofs.Works.{few}
 use Rattle.spare.specs.declared.Spare.{Spare}
 use Rattle.spare.specs.Spares.{SpareFits, SpareIn, HeadFits, Reheaded}
 use Rattle.batch.specs.Batches.{batchSays, Receives, TakenIn}
@@ -155,8 +155,8 @@ module _ {t : List ℕ} {root level : ℕ} {n : NodeValue} {ni nd bound : ℕ} (
         unfolding inRange childCountOk fewest lowsRise leafBuffersEmpty agrees childBlocksOk blockOk
         shape inside =
             let size : length (entriesOf (m .entries)) ≡ length (storeOf t root .entries) = ap length same-entries in
-            let i = few (m .inserts .n) (m .inserts .spots) in
-            let d = few (m .deletes .n) (m .deletes .keys) in
+            let i = length-take (m .inserts .n) (m .inserts .spots) in
+            let d = length-take (m .deletes .n) (m .deletes .keys) in
             record {
               laid = refl;
               level = eq-eqb (m .level) level (k .level ∙ ap (λ (x : Node). x .level) (a .loaded .is) ∙ facts .same-level);

@@ -15,7 +15,8 @@ use Rattle.block.specs.Node.{storeOf}
 use Rattle.block.specs.NodeRules.{nodeOk, ValidBlock}
 use Rattle.block.proofs.Facts.{HeadFacts, head-facts}
 use Rattle.tree.proofs.Tables.{shaped}
-use Rattle.update.proofs.Loose.{part, opened}
+use Rattle.update.specs.Change.{part}
+use Rattle.update.proofs.Loose.{opened}
 use Rattle.node.specs.Memory.{Loaded}
 use Rattle.node.specs.declared.NodeValue.{NodeValue}
 use Rattle.change.specs.Room.{roomy, rootOf}

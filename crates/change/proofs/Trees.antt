@@ -16,8 +16,7 @@ use Rattle.tree.specs.Lookup.{lookup}
 use Rattle.tree.specs.Reach.{reach}
 use Rattle.tree.specs.Sound.{soundAt}
 use Rattle.tree.proofs.Frame.{Same, reach-same, sound-same, lookup-same}
-use Rattle.update.proofs.Change.{reaches, Sound, Changed}
-use Rattle.update.proofs.Loose.{part}
+use Rattle.update.specs.Change.{part, reaches, Sound, Changed}
 use Rattle.change.specs.Growing.{Rooted}
 
 -- one part, alone

@@ -10,8 +10,7 @@ use Rattle.block.specs.Table.{block, capacity}
 use Rattle.block.specs.Header.{headOf}
 use Rattle.block.specs.HeaderRules.{headerOk}
 use Rattle.tree.specs.Lookup.{live}
-use Rattle.tree.specs.Sound.{sound}
-use Rattle.tree.proofs.Tables.{Shaped}
+use Rattle.tree.specs.Sound.{sound, Shaped}
 use Rattle.change.specs.Room.{roomy, rootOf}
 use Rattle.batch.specs.Batches.{batchSays}
 

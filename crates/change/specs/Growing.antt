@@ -7,7 +7,7 @@ use mathlib.Core.Bool.{Bool, true, false}
 use mathlib.Core.List.{List, [], _∷_, _++_, List·Memᴰ}
 use mathlib.Core.Option.{Option}
 use lib.ListN.{length}
-use Rattle.octets.proofs.Sets.{Apart}
+use Rattle.octets.specs.Sets.{Apart}
 use Rattle.spot.specs.Keys.{allKeys, within}
 use Rattle.spot.specs.Spots.{keys}
 use Rattle.spot.specs.declared.Spot.{Spot}
@@ -21,12 +21,10 @@ use Rattle.block.specs.NodeRules.{nodeOk}
 use Rattle.tree.specs.Part.{Part, parts}
 use Rattle.tree.specs.Lookup.{lookup, live}
 use Rattle.tree.specs.Reach.{reach}
-use Rattle.tree.specs.Sound.{sound}
-use Rattle.tree.proofs.Tables.{Shaped}
-use Rattle.update.proofs.Change.{reaches, Sound}
-use Rattle.update.proofs.Spare.{Taken}
-use Rattle.update.proofs.Loose.{part}
-use Rattle.update.proofs.Open.{under}
+use Rattle.tree.specs.Sound.{sound, Shaped}
+use Rattle.update.specs.Change.{part, reaches, Sound}
+use Rattle.update.specs.Spare.{Taken}
+use Rattle.update.specs.Open.{under}
 use Rattle.node.specs.Memory.{entriesOf, nodeIn, EntryFits, Loaded}
 use Rattle.node.specs.declared.NodeValue.{NodeValue}
 use Rattle.edit.specs.Edits.{heldIn, Tidy}

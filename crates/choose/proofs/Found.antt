@@ -12,10 +12,10 @@ use Rattle.spot.specs.Keys.{within}
 use Rattle.spot.proofs.Places.{within-yes}
 use Rattle.block.specs.declared.Entry.{Entry}
 use Rattle.block.specs.declared.Asked.the-variants.{Child}
-use Rattle.tree.specs.Part.{Part, nextLow, parts}
+use Rattle.tree.specs.Part.{Part, nextLow, parts, Steps}
 use Rattle.tree.specs.Lookup.{down}
-use Rattle.tree.proofs.Ranges.{Steps, parts-length, down-at}
-use Rattle.buffer.proofs.Lists.{at-mem}
+use Rattle.tree.proofs.Ranges.{parts-length, down-at}
+use Rattle.octets.proofs.Lists.{at-mem}
 use Rattle.choose.specs.Choices.{ChildFor}
 
 -- where the i-th range begins: the parent's beginning, or the entry's low

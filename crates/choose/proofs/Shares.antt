@@ -1,19 +1,20 @@
 -- Where the lows rise, every key lies in the range of one child: the shares of all children together are the keys, and so the fullest child has no less than
 -- the mean.
 -- Assumes nothing.
-use mathlib.Core.Path.{_≡_, refl, sym}
+use mathlib.Core.Path.{_≡_, refl}
 use mathlib.Core.Logic.{⊎-elim}
-use mathlib.Core.Bool.{Bool, true, false, cond, true≢false}
+use mathlib.Core.Bool.{true}
 use mathlib.Core.List.{List, [], _∷_}
-use Prim.Native.Nat.{ℕ, zero, suc, _+_, _-_, _*_, _/_, _≤_, _<_}
+use Prim.Native.Nat.{ℕ, zero, suc, _+_, _*_, _/_, _≤_, _<_}
 use native.Mathlib.Nat.{le-of-suc-le-suc, not-suc-le-zero, suc-mul, div-le-of-le-mul}
 use native.Mathlib.Omega.{arith}
 use lib.Dec.{ltb}
 use lib.ListN.{length, drop, getD}
 use borrow.Author.Tests.{ltb-true, lt-ltb}
-use Rattle.octets.specs.Lists.{keep, rest, rising, risingFrom}
+use Rattle.octets.specs.Lists.{rest, rising, risingFrom}
 use Rattle.octets.proofs.Order.{less-or-not}
 use Rattle.octets.proofs.Rising.{rising-first, rising-rest}
+use Rattle.octets.proofs.Tests.{length-keep-imp}
 use Rattle.block.specs.declared.Entry.{Entry}
 use Rattle.block.specs.NodeRules.{lows}
 use Rattle.tree.specs.Part.{nextLow}
@@ -34,21 +35,9 @@ sum-le f top (suc m) h =
     let e : suc m * top ≡ m * top + top = suc-mul m top in
     omega (arith, h m (omega arith))
 
--- more pass a test that asks for less
-fewer : (f g : ℕ → Bool) → ((x : ℕ) → f x ≡ true → g x ≡ true) → (xs : List ℕ) → length (keep f xs) ≤ length (keep g xs)
-fewer f g h [] = omega arith
-fewer f g h (x ∷ xs) = go (f x) (g x) (h x) (fewer f g h xs)
-  where
-    go : (a b : Bool) → (a ≡ true → b ≡ true) → length (keep f xs) ≤ length (keep g xs)
-        → length (cond a (x ∷ keep f xs) (keep f xs)) ≤ length (cond b (x ∷ keep g xs) (keep g xs))
-    go true true i r = omega arith
-    go true false i r = absurd (true≢false (sym (i refl)))
-    go false true i r = omega arith
-    go false false i r = r
-
 -- fewer are below a lower key
 pub below-up : (a b : ℕ) (ks : List ℕ) → a ≤ b → below a ks ≤ below b ks
-below-up a b ks h = fewer (λ j. ltb j a) (λ j. ltb j b) (λ x e. let g = ltb-true x a e in lt-ltb x b (omega arith)) ks
+below-up a b ks h = length-keep-imp (λ j. ltb j a) (λ j. ltb j b) (λ x e. let g = ltb-true x a e in lt-ltb x b (omega arith)) ks
 
 -- each low is at most the next
 up-step : (es : List Entry) (a i : ℕ) → risingFrom a (lows es) ≡ true → suc i < length es → nextLow (drop i es) 0 ≤ nextLow (drop (suc i) es) 0

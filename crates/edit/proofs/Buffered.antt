@@ -2,11 +2,11 @@
 -- Assumes nothing.
 use mathlib.Core.Path.{_≡_, refl, sym, ap, _∙_}
 use mathlib.Core.Bool.{false}
-use mathlib.Core.List.{List, [], _∷_}
+use mathlib.Core.List.{List, _∷_}
 use Prim.Native.Nat.{ℕ, suc, _-_, _≤_, _<_}
 use native.Mathlib.Omega.{arith}
-use lib.ListN.{length, take, drop, getD, drop-of-length-le}
-use lib.Seq.{drop-cons, getD-take, length-take-le}
+use lib.ListN.{length, take, drop, getD}
+use lib.Seq.{drop-cons, getD-take, length-take-le, slice-empty}
 use borrow.Author.Tests.{le-leb, lt-leb, eq-eqb}
 use Rattle.octets.specs.Lists.{has, keep}
 use Rattle.octets.proofs.Sets.{has-keep}
@@ -60,10 +60,6 @@ module _ (r k : ℕ) (b : Held) {p i : List Spot} {d : List ℕ} where
 
 -- ---- a batch: what is done from index i on, as the loop begins and after a turn
 
--- nothing is done before the last index
-rest-none : {A : Type 0} (l : List A) (n : ℕ) → n ≤ length l → drop n (take n l) ≡ []
-rest-none l n h = let e : length (take n l) ≤ n = rw (length-take-le n l h) (omega arith) in drop-of-length-le (take n l) e
-
 -- one step back is one more
 rest-more : {A : Type 0} (l : List A) (n i : ℕ) (x : A) → n ≤ length l → 0 < i → i ≤ n → drop (i - 1) (take n l) ≡ getD l (i - 1) x ∷ drop i (take n l)
 rest-more l n i x h g k =
@@ -74,7 +70,7 @@ rest-more l n i x h g k =
 
 module _ (r : ℕ) (l : List Spot) (n : ℕ) (h : n ≤ length l) (b : Held) where
   pub inserts-none : b ≡ insertAll r (drop n (take n l)) b
-  inserts-none = rw (rest-none l n h)
+  inserts-none = rw (slice-empty n l)
 
   pub inserts-more : (i : ℕ) {c d : Held} → 0 < i → i ≤ n → c ≡ insertAll r (drop i (take n l)) b → d ≡ insertOne r (getD l (i - 1) blank) c
       → d ≡ insertAll r (drop (i - 1) (take n l)) b
@@ -82,7 +78,7 @@ module _ (r : ℕ) (l : List Spot) (n : ℕ) (h : n ≤ length l) (b : Held) whe
 
 module _ (r : ℕ) (l : List ℕ) (n : ℕ) (h : n ≤ length l) (b : Held) where
   pub deletes-none : b ≡ deleteAll r (drop n (take n l)) b
-  deletes-none = rw (rest-none l n h)
+  deletes-none = rw (slice-empty n l)
 
   pub deletes-more : (i : ℕ) {c d : Held} → 0 < i → i ≤ n → c ≡ deleteAll r (drop i (take n l)) b → d ≡ deleteOne r (getD l (i - 1) 0) c
       → d ≡ deleteAll r (drop (i - 1) (take n l)) b

@@ -8,7 +8,8 @@ use Prim.Native.Nat.{suc, _+_, _≤_, _<_}
 use native.Mathlib.Omega.{arith}
 use lib.ListN.{length}
 use Rattle.octets.specs.Lists.{has}
-use Rattle.octets.proofs.Sets.{Apart, has-not}
+use Rattle.octets.specs.Sets.{Apart}
+use Rattle.octets.proofs.Sets.{has-not}
 use Rattle.spot.specs.declared.Spot.{Spot}
 use Rattle.spot.specs.Spots.{keys, put}
 use Rattle.spot.specs.Sorted.{only, but}

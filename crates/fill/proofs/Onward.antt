@@ -7,7 +7,7 @@ use mathlib.Core.List.{List, [], _∷_, _++_, List·Memᴰ}
 use mathlib.Core.Option.{Option, none, some}
 use Prim.Native.Nat.{ℕ, zero, suc, _≤_, _<_}
 use native.Mathlib.Omega.{arith}
-use lib.ListN.{length, take, drop}
+use lib.ListN.{length, take, drop, length-take}
 use lib.Dec.{eqb}
 use Rattle.octets.specs.Lists.{has, keep, rest}
 use Rattle.spot.specs.declared.Spot.{Spot}
@@ -23,11 +23,11 @@ use Rattle.buffer.specs.Buffer.{held, named, Highest}
 use Rattle.tree.specs.Part.{Part}
 use Rattle.tree.specs.Lookup.{lookup}
 use Rattle.update.specs.Held.{Held}
-use Rattle.update.proofs.Change.{Sound, Changed}
-use Rattle.update.proofs.Spare.{Taken}
+use Rattle.update.specs.Change.{part, Sound, Changed}
+use Rattle.update.specs.Spare.{Taken}
+use Rattle.update.specs.Rounds.{Loop}
 use Rattle.update.proofs.Spread.{childAt}
-use Rattle.update.proofs.Loose.{part}
-use Rattle.update.proofs.Rounds.{Loop, child-bounds, child-low, child-sound, round-insert, round-end, round-dead, round-child, round-both}
+use Rattle.update.proofs.Rounds.{child-bounds, child-low, child-sound, round-insert, round-end, round-dead, round-child, round-both}
 use Rattle.node.specs.Memory.{entriesOf, EntryAt}
 use Rattle.node.specs.declared.Entries.{Entries}
 use Rattle.node.specs.declared.NodeValue.{NodeValue}
@@ -35,7 +35,6 @@ use Rattle.edit.specs.Edits.{heldIn, BestChild, Edited}
 use Rattle.fill.specs.declared.Took.{Took}
 use Rattle.fill.specs.declared.Turned.{Turned}
 use Rattle.fill.specs.Filling.{GoesOn, Replaced, InsertUp, ChildUp, TookOut}
-use Rattle.fill.proofs.Works.{few}
 
 -- ---- the entry with the highest top
 
@@ -82,7 +81,7 @@ pub on-insert : (y : Store) (level : ℕ) (n : NodeValue) (r : Turned) (s : Spot
 on-insert y level n r s less u h tops ok ni nd lo hi rank x es₀ f full z p = (
   rankKey (s .key),
   loop-as (ap entriesOf (u .lifted .entries)) (u .raised ok)
-      (round-insert ni nd level lo hi full x es₀ f y rank (entriesOf (n .entries)) (heldIn n) p (let q = few (n .points .n) (n .points .spots) in omega arith) s (find-mem (s .key) (held (n .inserts)) (h .there)) (h .there) (h .most) tops),
+      (round-insert ni nd level lo hi full x es₀ f y rank (entriesOf (n .entries)) (heldIn n) p (let q = length-take (n .points .n) (n .points .spots) in omega arith) s (find-mem (s .key) (held (n .inserts)) (h .there)) (h .there) (h .most) tops),
   λ o. absurd (true≢false (sym o ∙ u .lifted .over)),
 )
 
@@ -93,7 +92,7 @@ on-end y level n r over less u bare sizes ni nd lo hi rank x es₀ f full z p = 
   rank,
   loop-as (ap entriesOf (u .entries)) (u .holds) (round-end ni nd level lo hi full x es₀ f y rank (entriesOf (n .entries)) (heldIn n) p sizes),
   λ o. inr (
-    subst⁻¹ (λ (b : Held). length (b .points) < 32) (u .holds) (let q = few (n .points .n) (n .points .spots) in omega arith),
+    subst⁻¹ (λ (b : Held). length (b .points) < 32) (u .holds) (let q = length-take (n .points .n) (n .points .spots) in omega arith),
     ap (λ (b : Held). b .inserts) (u .holds) ∙ ap (λ (k : ℕ). take k (n .inserts .spots)) bare,
     ap (λ (b : Held). b .deletes) (u .holds),
     subst⁻¹ (λ (es : Entries). (d : Entry) → List·Memᴰ d (entriesOf es) → d .size ≡ 0) (u .entries) sizes,
@@ -151,7 +150,7 @@ module _ (y z : Store) (l : ℕ) (n m : NodeValue) (c : ℕ) (e : Entry) (took :
     changed = subst⁻¹ (λ (b : ℕ). Changed (suc l) (Taken [] []) y (child ∷ []) z (part b (Child (took .entry)) (child .lo) (child .hi) ∷ []) (λ k. cond (eqb k (e .top)) none (lookup (suc l) y k child))) block (out .changed)
 
     room : length (held (n .points)) < 32
-    room = let q = few (n .points .n) (n .points .spots) in omega arith
+    room = let q = length-take (n .points .n) (n .points .spots) in omega arith
 
     child-on : ChildUp m (took .spot) r → ((k : ℕ) → List·Memᴰ k (keys (held (n .inserts))) → rankKey k < rankKey (e .top)) → r .ok ≡ true
         → (after : ℕ) × Loop ni nd (suc l) lo hi x es₀ z after (entriesOf (r .node .entries)) (heldIn (r .node)) f

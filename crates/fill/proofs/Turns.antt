@@ -5,7 +5,7 @@ use mathlib.Core.Bool.{true}
 use mathlib.Core.List.{List, [], List·Memᴰ, List·Memᴰ·not-nil}
 use Prim.Native.Nat.{ℕ, suc, _-_, _≤_, _<_}
 use native.Mathlib.Omega.{arith}
-use lib.ListN.{take}
+use lib.ListN.{take, length-take}
 use Rattle.spot.specs.declared.Spot.{Spot}
 use Rattle.spot.specs.Keys.{rankKey, allKeys}
 use Rattle.spot.specs.Spots.{keys}
@@ -21,7 +21,7 @@ use Rattle.journal.specs.Journal.{Kept}
 use Rattle.fill.specs.declared.Took.{Took}
 use Rattle.fill.specs.declared.Turned.{Turned}
 use Rattle.fill.specs.Filling.{Workable, RoundPost, GoesOn, TakePost, Replaced, InsertUp, ChildUp, ChildHighest, BothHighest}
-use Rattle.fill.proofs.Works.{few, round-ended, round-lifted, round-taken}
+use Rattle.fill.proofs.Works.{round-ended, round-lifted, round-taken}
 use Rattle.fill.proofs.Onward.{same-at, best-at, on-insert, on-end, on-child, on-both}
 
 -- ---- what the calls are handed
@@ -68,7 +68,7 @@ pub post-end : {t s map : List ℕ} {level : ℕ} {n r : NodeValue} (c : ℕ) �
     → Edited n r (record { points = held (n .points); inserts = held (n .inserts); deletes = [] }) (n .points .n) (n .inserts .n) 0
     → n .inserts .n ≡ 0 → BestChild (entriesOf (n .entries)) c → n .entries .n ≤ c → RoundPost t t s map level n (record { ok = true; over = true; node = r })
 post-end {t} {level = level} {n = n} {r = r} c w h d z b g =
-    round-ended w h d (on-end (storeOf t) level n r true h d z (λ e i. b .none (let v = few (n .entries .n) (n .entries .list) in omega arith) e i))
+    round-ended w h d (on-end (storeOf t) level n r true h d z (λ e i. b .none (let v = length-take (n .entries .n) (n .entries .list) in omega arith) e i))
 
 -- from I alone
 pub post-insert : {t s map : List ℕ} {level : ℕ} {n : NodeValue} {r : Turned} (x : Spot) → Workable t s map n level → n .points .n < 32 → InsertUp n x r → Highest (held (n .inserts)) x
@@ -77,7 +77,7 @@ post-insert {t} {level = level} {n = n} {r = r} x w h u g tops = round-lifted w 
 
 -- no child has points
 pub tops-bare : (n : NodeValue) (c : ℕ) {a : ℕ} → BestChild (entriesOf (n .entries)) c → n .entries .n ≤ c → (d : Entry) → List·Memᴰ d (entriesOf (n .entries)) → (d .size ≡ 0 → ⊥) → rankKey (d .top) < a
-tops-bare n c b g d i m = absurd (m (b .none (let z = few (n .entries .n) (n .entries .list) in omega arith) d i))
+tops-bare n c b g d i m = absurd (m (b .none (let z = length-take (n .entries .n) (n .entries .list) in omega arith) d i))
 
 -- or their tops are lower
 pub tops-lower : (n : NodeValue) (c : ℕ) (e : Entry) (k : ℕ) → BestChild (entriesOf (n .entries)) c → EntryAt (entriesOf (n .entries)) c e → e .top < allKeys → k < allKeys

@@ -6,7 +6,7 @@ use mathlib.Core.List.{List, [], _∷_, List·Memᴰ, List·Memᴰ·not-nil}
 use mathlib.Core.Option.{Option, none, some}
 use Prim.Native.Nat.{ℕ, suc, _≤_, _<_}
 use native.Mathlib.Omega.{arith}
-use lib.ListN.{length}
+use lib.ListN.{length, length-take}
 use lib.Dec.{eqb}
 use borrow.Author.Tests.{eqb-true, leb-true, ltb-true}
 use Rattle.octets.proofs.Tests.{all-at, every-mem}
@@ -23,12 +23,11 @@ use Rattle.block.specs.NodeRules.{nodeOk, childBlocksOk, zeroFirst, lows, agree
 use Rattle.buffer.specs.Buffer.{held, named, Highest}
 use Rattle.tree.specs.Lookup.{lookup}
 use Rattle.update.specs.Held.{Held}
-use Rattle.update.proofs.Change.{Sound, Changed}
-use Rattle.update.proofs.Spare.{Taken}
-use Rattle.update.proofs.Open.{Open}
+use Rattle.update.specs.Change.{part, Sound, Changed}
+use Rattle.update.specs.Spare.{Taken}
+use Rattle.update.specs.Open.{Open}
+use Rattle.update.specs.Rounds.{Loop, Full}
 use Rattle.update.proofs.Going.{going-start}
-use Rattle.update.proofs.Loose.{part}
-use Rattle.update.proofs.Rounds.{Loop, Full}
 use Rattle.update.proofs.Taken.{after, take-finish, take-open, top-is, top-found}
 use Rattle.node.specs.Memory.{entriesOf, nodeIn, Storable, Stored, Loaded}
 use Rattle.node.specs.declared.Entries.{Entries}
@@ -40,7 +39,6 @@ use Rattle.journal.proofs.Kept.{undoable-kept, kept-refl, kept-trans}
 use Rattle.fill.specs.declared.Filled.{Filled}
 use Rattle.fill.specs.declared.Turned.{Turned}
 use Rattle.fill.specs.Filling.{Workable, FillPost, FilledBy, RoundPost, TakePost}
-use Rattle.fill.proofs.Works.{few}
 
 -- ---- fill
 
@@ -71,9 +69,9 @@ fill-start {t} {s} {map} {level} {n} w =
           going = going-start level lo hi (storeOf t) [] rank (entriesOf (n .entries)) (heldIn n) f o (λ k i. absurd (List·Memᴰ·not-nil i));
           sameLows = refl;
           sameBlocks = refl;
-          fewP = let q = few (n .points .n) (n .points .spots) in omega (arith, w .points);
-          fewI = few (n .inserts .n) (n .inserts .spots);
-          fewD = few (n .deletes .n) (n .deletes .keys);
+          fewP = let q = length-take (n .points .n) (n .points .spots) in omega (arith, w .points);
+          fewI = omega (arith, length-take (n .inserts .n) (n .inserts .spots));
+          fewD = omega (arith, length-take (n .deletes .n) (n .deletes .keys));
         },
       );
     }
@@ -222,8 +220,8 @@ module _ {t s map t′ s′ map′ t″ s″ map″ : List ℕ} {level : ℕ} {e
         take-finish (m .inserts .n) (m .deletes .n) level (storeOf t) (storeOf t′) (storeOf t″) (part (e .block) (Child e) lo hi) e e′ refl (made .low) low sound
         (subst (λ (v : Node). m .inserts .n ≤ length (v .inserts)) (l .is) (omega (arith, d .inserts, longI)))
         (subst (λ (v : Node). m .deletes .n ≤ length (v .deletes)) (l .is) (omega (arith, d .deletes, longD)))
-        (subst (λ (v : Node). length (v .inserts) ≤ 64) (l .is) (let z = few (n .inserts .n) (n .inserts .spots) in omega (arith, l .storable .inserts)))
-        (subst (λ (v : Node). length (v .deletes) ≤ 16) (l .is) (let z = few (n .deletes .n) (n .deletes .keys) in omega (arith, l .storable .deletes)))
+        (subst (λ (v : Node). length (v .inserts) ≤ 64) (l .is) (let z = length-take (n .inserts .n) (n .inserts .spots) in omega (arith, l .storable .inserts)))
+        (subst (λ (v : Node). length (v .deletes) ≤ 16) (l .is) (let z = length-take (n .deletes .n) (n .deletes .keys) in omega (arith, l .storable .deletes)))
         (filled .rank) (entriesOf (r .node .entries)) (heldIn (r .node)) _
         (subst (λ (es : List Entry). Loop (m .inserts .n) (m .deletes .n) level lo hi (storeOf t) es (storeOf t′) (filled .rank) (entriesOf (r .node .entries)) (heldIn (r .node)) (λ j. cond (eqb j (e .top)) none (lookup (suc level) (storeOf t) j (part (e .block) (Child e) lo hi))))
         (ap entriesOf (d .entries) ∙ ap (λ (v : Node). v .entries) (l .is)) (filled .loop))

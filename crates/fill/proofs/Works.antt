@@ -3,10 +3,11 @@
 use mathlib.Core.Path.{_≡_, sym, ap, _∙_, subst, subst⁻¹}
 use mathlib.Core.Logic.{_⊎_, inl, inr, ⊎-elim}
 use mathlib.Core.Bool.{true, false, true≢false}
-use mathlib.Core.List.{List, _∷_, _++_, List·Memᴰ, List·Memᴰ·tail, List·Memᴰ·cases-cons, Memᴰ·append-left, Memᴰ·append-right, List·Memᴰ·append-cases}
+use mathlib.Core.List.{List, _∷_, _++_, List·Memᴰ}
 use Prim.Native.Nat.{ℕ, suc, _≤_, _<_}
 use native.Mathlib.Omega.{arith}
-use lib.ListN.{length, take, drop, length-take}
+use lib.ListN.{length, take, drop}
+use Rattle.octets.proofs.Lists.{mem-more, mem-less}
 use Rattle.block.specs.declared.Entry.{Entry}
 use Rattle.block.specs.Table.{blocksOf}
 use Rattle.block.specs.Node.{storeOf}
@@ -25,14 +26,9 @@ use Rattle.journal.proofs.Kept.{undoable-kept}
 use Rattle.fill.specs.declared.Turned.{Turned}
 use Rattle.fill.specs.Filling.{Inside, Workable, RoundPost, GoesOn, Replaced, Lifted}
 
--- a first part is no longer than asked
-pub few : {A : Type 0} (i : ℕ) (l : List A) → length (take i l) ≤ i
-few i l = omega (arith, length-take i l)
-
 -- one entry for another: what is there then
 one-more : (us vs : List Entry) (e e′ : Entry) {d : Entry} → List·Memᴰ d (us ++ (e′ ∷ vs)) → (d ≡ e′) ⊎ List·Memᴰ d (us ++ (e ∷ vs))
-one-more us vs e e′ i =
-    ⊎-elim (λ j. inr (Memᴰ·append-left (e ∷ vs) j)) (λ j. ⊎-elim inl (λ k. inr (Memᴰ·append-right us (List·Memᴰ·tail k))) (List·Memᴰ·cases-cons j)) (List·Memᴰ·append-cases us i)
+one-more us vs e e′ i = ⊎-elim inl (λ j. inr (mem-more us e vs j)) (mem-less us e′ vs i)
 
 -- a round that fails leaves the node
 pub lifted-failed : (n : NodeValue) (r : Turned) → Tidy n → r .over ≡ false → r .node ≡ n → Lifted n r

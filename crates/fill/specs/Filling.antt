@@ -20,11 +20,10 @@ use Rattle.block.specs.Node.{Store, storeOf}
 use Rattle.block.specs.NodeRules.{zeroFirst, lows}
 use Rattle.buffer.specs.Buffer.{held, named, Highest}
 use Rattle.tree.specs.Lookup.{lookup}
-use Rattle.update.proofs.Change.{Sound, Changed}
-use Rattle.update.proofs.Spare.{Taken}
-use Rattle.update.proofs.Open.{Open}
-use Rattle.update.proofs.Loose.{part}
-use Rattle.update.proofs.Rounds.{Loop, Full}
+use Rattle.update.specs.Change.{part, Sound, Changed}
+use Rattle.update.specs.Spare.{Taken}
+use Rattle.update.specs.Open.{Open}
+use Rattle.update.specs.Rounds.{Loop, Full}
 use Rattle.node.specs.Memory.{entriesOf, EntriesFit, EntryFits, EntryAt}
 use Rattle.node.specs.declared.NodeValue.{NodeValue}
 use Rattle.edit.specs.Edits.{heldIn, Tidy, BestChild}

@@ -1,4 +1,5 @@
 pub mod Rows
 pub mod Scans
-pub mod Picks
+pub mod Sorting
+pub mod Orders
 pub mod Kids

@@ -3,11 +3,10 @@
 use mathlib.Core.Path.{_≡_}
 use Prim.Native.Nat.{ℕ, _+_, _%_, _≤_, _<_}
 use mathlib.Core.Bool.{Bool, true, false, cond, not, _&&_, _||_}
-use mathlib.Core.List.{List, [], _∷_, _++_, List·Memᴰ}
+use mathlib.Core.List.{List, [], _∷_, List·Memᴰ}
 use lib.ListN.{length, getD}
 use lib.Dec.{eqb, ltb}
 use Rattle.octets.specs.Bytes.{be}
-use Rattle.octets.specs.Lists.{keep}
 use Rattle.spot.specs.Keys.{word, rankKey, rankOf}
 use Rattle.spot.specs.declared.Spot.{Spot}
 use Rattle.spot.specs.declared.Query.{Query}
@@ -16,10 +15,9 @@ use Rattle.block.specs.declared.Asked.the-variants.{Child}
 use Rattle.block.specs.Table.{block}
 use Rattle.block.specs.Access.{entryOf}
 use Rattle.tree.specs.Part.{Part}
-use Rattle.tree.specs.Walk.{admits, takes}
+use Rattle.tree.specs.Walk.{admits}
 use Rattle.visit.specs.declared.Span.{Span}
-use Rattle.visit.specs.declared.Path.{Path}
-use Rattle.visit.specs.Visit.{partOf, childSpan, entriesIn, waitingAbove, taken}
+use Rattle.visit.specs.Visit.{partOf, childSpan, entriesIn}
 use Rattle.front.specs.declared.Slot.{Slot}
 use Rattle.front.specs.declared.Next.{Next}
 use Rattle.front.specs.declared.Lead.{Lead}
@@ -54,8 +52,23 @@ headOf r = record { there = eqb (getD r 0 0) 1; spot = record { key = getD r 1 0
 unfoldable pub headAt : List (List ℕ) → ℕ → Next
 headAt heads i = headOf (getD heads i [])
 
-abbrev pub headRow : Next → List ℕ
-headRow h = flag (h .there) ∷ h .spot .key ∷ h .spot .track ∷ []
+-- how many spots of a slot's order are left, and whether they are inserts
+unfoldable pub leftAt : List (List ℕ) → ℕ → ℕ
+leftAt heads i = getD (getD heads i []) 3 0
+
+unfoldable pub lowAt : List (List ℕ) → ℕ → Bool
+lowAt heads i = eqb (getD (getD heads i []) 4 0) 1
+
+abbrev pub headRow : Next → ℕ → Bool → List ℕ
+headRow h left low = flag (h .there) ∷ h .spot .key ∷ h .spot .track ∷ left ∷ flag low ∷ []
+
+-- the rank key of a next spot, 0 where there is none
+abbrev pub rankIn : Next → ℕ
+rankIn h = cond (h .there) (rankKey (h .spot .key)) 0
+
+-- the rank keys of the first n heads
+abbrev pub Ranked : List (List ℕ) → List ℕ → ℕ → Type 0
+Ranked heads ranks n = (i : ℕ) → i < n → getD ranks i 0 ≡ rankIn (headAt heads i)
 
 -- ---- the highest
 
@@ -79,13 +92,6 @@ pub record Best (most : ℕ) (ss : List Spot) (r : Next) : Type 0 where
   pub held : r .there ≡ true → List·Memᴰ (r .spot) ss × (rankKey (r .spot .key) ≤ most)
   pub some : (s : Spot) → List·Memᴰ s ss → rankKey (s .key) ≤ most → r .there ≡ true
   pub over : (s : Spot) → List·Memᴰ s ss → rankKey (s .key) ≤ most → rankKey (s .key) ≤ rankKey (r .spot .key)
-
--- a spot more, and a run of spots more: those that the query takes
-abbrev pub Better : List ℕ → Query → Path → ℕ → Next → Spot → Next → Type 0
-Better t q p most before s after = (ss : List Spot) → Best most ss before → Best most (ss ++ keep (takes q (waitingAbove t p)) (s ∷ [])) after
-
-abbrev pub BestRun : List ℕ → ℕ → ℕ → Query → Path → ℕ → Next → Next → Type 0
-BestRun t at n q p most before after = (ss : List Spot) → Best most ss before → Best most (ss ++ taken t at n q p) after
 
 -- ---- the children of a node, by index
 

@@ -1,1 +1,2 @@
 pub mod Frontier
+pub mod Orders

@@ -3,16 +3,16 @@
 use mathlib.Core.Path.{_≡_, refl, sym, ap, ap₂, _∙_}
 use mathlib.Core.Logic.{⊎-elim}
 use mathlib.Core.Bool.{Bool, true, false, cond}
-use mathlib.Core.List.{List, [], _++_, append-nil}
+use mathlib.Core.List.{List, _++_, append-nil}
 use Prim.Native.Nat.{ℕ, zero, suc, _+_, _*_, _-_, _/_, _≤_, _<_}
 use native.Mathlib.Omega.{arith}
-use lib.ListN.{length, getD, take, drop, replicate, getD-replicate, length-replicate, drop-of-length-le, List·getD-eq-default}
+use lib.ListN.{length, take, drop, replicate, drop-of-length-le}
 use lib.Seq.{take-add, take-all}
 use borrow.Rule.Slice.PartMut.{midOf, putMid}
 use Rattle.octets.specs.Bitmap.{bit, setBit}
-use Rattle.octets.proofs.Order.{same-or-not, less-or-not}
+use Rattle.octets.proofs.Order.{same-or-not}
 use Rattle.octets.proofs.Parts.{drop-more}
-use Rattle.octets.proofs.Bits.{bit-cong, bit-past, setBit-length, setBit-same, setBit-other}
+use Rattle.octets.proofs.Bits.{setBit-length, setBit-same, setBit-other, bit-zeros}
 use Rattle.block.specs.Table.{block, blocksOf, putBlock}
 use Rattle.block.proofs.Frames.{block-length, put-length, part-is, put-part-is, tail-same, block-put-same, block-put-other}
 use Rattle.journal.specs.Journal.{before, Undoable, Kept, Undone}
@@ -169,22 +169,12 @@ same-blocks t u (suc n) h =
     (take-add (n * 2048) 2048 t ∙ ap₂ (λ (x y : List ℕ). x ++ y) (same-blocks t u n (λ b l. h b (omega arith))) (h n (omega arith))
     ∙ sym (take-add (n * 2048) 2048 u))
 
--- in a map of zeros nothing is marked
-pub zeros-clear : (n b : ℕ) → bit (replicate n 0) b ≡ false
-zeros-clear n b = bit-cong (replicate n 0) [] b (⊎-elim none some (less-or-not n (b / 8))) ∙ bit-past [] b (omega arith)
-  where
-    none : n ≤ b / 8 → _≡_ {A = ℕ} (getD (replicate n 0) (b / 8) 0) 0
-    none h = List·getD-eq-default (replicate n 0) 0 (rw length-replicate h)
-
-    some : b / 8 < n → _≡_ {A = ℕ} (getD (replicate n 0) (b / 8) 0) 0
-    some h = getD-replicate n (b / 8) 0 0 h
-
 -- from a clean map, by steps, and undone: the table is what it was
 pub undone-is : {t₀ s₀ : List ℕ} (n : ℕ) {t s map t′ : List ℕ} → length t₀ ≡ blocksOf (length t₀) * 2048 → Kept t₀ s₀ (replicate n 0) t s map → Undone t s map t′ → t′ ≡ t₀
 undone-is {t₀} {s₀} n {t′ = t′} whole k u =
     let sized : length t′ ≡ length t₀ = u .sized ∙ k .table in
     let all : take (blocksOf (length t₀) * 2048) t′ ≡ take (blocksOf (length t₀) * 2048) t₀ =
     same-blocks t′ t₀ (blocksOf (length t₀))
-    (λ b h. u .blocks b (rw (k .table) h) ∙ k .past b h ∙ before-clear t₀ s₀ (replicate n 0) b (zeros-clear n b))
+    (λ b h. u .blocks b (rw (k .table) h) ∙ k .past b h ∙ before-clear t₀ s₀ (replicate n 0) b (bit-zeros n b))
     in
     sym (take-all (blocksOf (length t₀) * 2048) t′ (omega arith)) ∙ all ∙ take-all (blocksOf (length t₀) * 2048) t₀ (omega arith)

@@ -1,113 +1,155 @@
 -- The lookup in a part, one node and then the child whose range holds the key: what `look_in` answers at each of its returns.
 -- Assumes nothing.
-use mathlib.Core.Path.{_≡_, refl, sym, ap, subst, _∙_}
-use mathlib.Core.Bool.{Bool, true, false, cond, false≢true}
+use mathlib.Core.Path.{_≡_, refl, sym, ap, ap₂, _∙_}
+use mathlib.Core.Bool.{Bool, true, false, cond, _&&_, _||_, true≢false, false≢true}
 use mathlib.Core.List.{List, _∷_}
 use mathlib.Core.Option.{Option, none, some}
 use Prim.Native.Nat.{ℕ, suc, _+_, _-_, _≤_, _<_}
 use native.Mathlib.Omega.{arith}
 use lib.ListN.{length, drop}
-use Rattle.octets.specs.Lists.{every}
-use Rattle.octets.proofs.Tests.{all-at, and-left, and-right}
+use Rattle.octets.specs.Lists.{has}
 use Rattle.spot.specs.Keys.{within}
+use Rattle.spot.specs.Spots.{find}
 use Rattle.block.specs.declared.Entry.{Entry}
 use Rattle.block.specs.declared.Asked.{Asked}
 use Rattle.block.specs.declared.Asked.the-variants.{Child}
 use Rattle.block.specs.Table.{blocksOf}
 use Rattle.block.specs.Header.{headOf}
 use Rattle.block.specs.HeaderRules.{headerOk}
-use Rattle.block.specs.Node.{storeOf}
-use Rattle.block.specs.NodeRules.{nodeOk}
+use Rattle.block.specs.Node.{Node, Store, storeOf}
+use Rattle.block.specs.NodeRules.{names, nodeOk}
 use Rattle.block.specs.Access.{frontOf, EntryIs}
 use Rattle.tree.specs.Part.{Part, parts, whole}
-use Rattle.tree.specs.Lookup.{nodeWord, down, lookup, live}
-use Rattle.tree.specs.Sound.{soundAt}
-use Rattle.tree.proofs.Tables.{sound-tree, sound-header}
+use Rattle.tree.specs.Lookup.{orElse, isLive, nodeWord, down, lookup, live}
+use Rattle.tree.proofs.Says.{has-names}
 use Rattle.visit.specs.declared.Span.{Span}
 use Rattle.visit.specs.Visit.{endOf, partOf, childSpan, entriesIn}
 use Rattle.query.proofs.Children.{lent, lent-parts, lent-none, lent-low, lent-level}
 use Rattle.lookup.specs.declared.Looked.{Looked}
 use Rattle.lookup.specs.declared.Looked.the-variants.{Live, Nothing, Broken}
 use Rattle.lookup.specs.declared.Word.{Word}
-use Rattle.lookup.specs.Answers.{Says, LookupPost}
-use Rattle.lookup.specs.Words.{Speaks, Lookable, PartLooked}
+use Rattle.lookup.specs.Answers.{told, along, pathOk, lookedUp, LookupPost}
+use Rattle.lookup.specs.Words.{Speaks, Lookable, lookedIn}
 
 -- the children of the node at b from the i-th on
 abbrev pub left : List ℕ → ℕ → Span → ℕ → ℕ → List Part
 left t b span lo i = parts lo (endOf span) (drop i (storeOf t b .entries))
 
--- what the children from the i-th on say of k
-abbrev pub among : List ℕ → ℕ → ℕ → Span → ℕ → ℕ → ℕ → Option ℕ
-among t b level span k lo i = down (lookup level (storeOf t) k) k (left t b span lo i)
+-- what is answered of k in the one of these parts that holds it
+abbrev pub under : ℕ → Store → ℕ → List Part → Looked
+under l m k ps = cond (along (pathOk l m k) k ps) (told (down (lookup l m k) k ps)) Broken
 
-abbrev broken : Looked → Bool
-broken (Live a) = false
-broken Nothing = false
-broken Broken = true
+-- and in one of the children from the i-th on
+abbrev pub among : List ℕ → ℕ → ℕ → Span → ℕ → ℕ → ℕ → Looked
+among t b level span k lo i = under level (storeOf t) k (left t b span lo i)
 
-not-live : (a : ℕ) → Live a ≡ Broken → ⊥
-not-live a e = false≢true (ap broken e)
+-- ---- the node that names a key
 
-not-nothing : Nothing ≡ Broken → ⊥
-not-nothing e = false≢true (ap broken e)
+-- what is said below counts exactly where P, I and D say nothing
+said-here : (p i : Option ℕ) (d : Bool) → (isLive p || isLive i) || d ≡ true → (x y : Option ℕ)
+    → orElse p (orElse i (cond d none x)) ≡ orElse p (orElse i (cond d none y))
+said-here (some a) i d h x y = refl
+said-here none (some a) d h x y = refl
+said-here none none true h x y = refl
+said-here none none false h x y = absurd (false≢true h)
+
+said-below : (p i : Option ℕ) (d : Bool) → (isLive p || isLive i) || d ≡ false → (x : Option ℕ) → orElse p (orElse i (cond d none x)) ≡ x
+said-below (some a) i d h x = absurd (true≢false h)
+said-below none (some a) d h x = absurd (true≢false h)
+said-below none none true h x = absurd (true≢false h)
+said-below none none false h x = refl
+
+module _ (n : Node) (k : ℕ) where
+  named-word : has k (names n) ≡ true → (x y : Option ℕ) → nodeWord n k x ≡ nodeWord n k y
+  named-word h = said-here (find k (n .points)) (find k (n .inserts)) (has k (n .deletes)) (sym (has-names k n) ∙ h)
+
+  unnamed-word : has k (names n) ≡ false → (x : Option ℕ) → nodeWord n k x ≡ x
+  unnamed-word h = said-below (find k (n .points)) (find k (n .inserts)) (has k (n .deletes)) (sym (has-names k n) ∙ h)
+
+-- a node names the keys that it says something of
+speaks-names : {t : List ℕ} {b k : ℕ} {w : Word} → Speaks t b k w → has k (names (storeOf t b)) ≡ (w .live || w .gone)
+speaks-names {t} {b} {k} {w} s = go (w .live) (w .gone) (has k (names (storeOf t b))) refl refl refl
+  where
+    says : {l g : Bool} → w .live ≡ l → w .gone ≡ g → (x : Option ℕ) → nodeWord (storeOf t b) k x ≡ cond l (some (w .track)) (cond g none x)
+    says el eg x = s .word x ∙ ap₂ (λ l g. cond l (some (w .track)) (cond g none x)) el eg
+
+    go : (l g h : Bool) → w .live ≡ l → w .gone ≡ g → has k (names (storeOf t b)) ≡ h → h ≡ (l || g)
+    go true g true el eg e = refl
+    go true g false el eg e = ap isLive (sym (unnamed-word (storeOf t b) k e none) ∙ says el eg none)
+    go false true true el eg e = refl
+    go false true false el eg e = sym (ap isLive (sym (unnamed-word (storeOf t b) k e (some 0)) ∙ says el eg (some 0)))
+    go false false true el eg e = sym (ap isLive (sym (says el eg none) ∙ named-word (storeOf t b) k e none (some 0) ∙ says el eg (some 0)))
+    go false false false el eg e = refl
 
 -- none of the children before the i-th holds the key
 pub record Going (t : List ℕ) (b level : ℕ) (span : Span) (k lo i : ℕ) : Type 0 where
   pub same : among t b level span k (span .lo) 0 ≡ among t b level span k lo i
-  pub rules : every (soundAt level (storeOf t)) (left t b span (span .lo) 0) ≡ true → every (soundAt level (storeOf t)) (left t b span lo i) ≡ true
 
 pub going-start : (t : List ℕ) (b level : ℕ) (span : Span) (k : ℕ) → Going t b level span k (span .lo) 0
-going-start t b level span k = record { same = refl; rules = λ s. s }
+going-start t b level span k = record { same = refl }
+
+-- the answer by a node that keeps the rules
+by-word : (live gone ok : Bool) (a : ℕ) (o : Option ℕ)
+    → cond ((live || gone) || ok) (told (cond live (some a) (cond gone none o))) Broken ≡ cond live (Live a) (cond gone Nothing (cond ok (told o) Broken))
+by-word true gone ok a o = refl
+by-word false true ok a o = refl
+by-word false false ok a o = refl
 
 module _ (t : List ℕ) (b level : ℕ) (a : Asked) (span : Span) (k : ℕ) where
-  opened : lookup (suc level) (storeOf t) k (partOf b a span) ≡ nodeWord (storeOf t b) k (among t b level span k (span .lo) 0)
-  unfolding lookup
+  opened : lookedIn (suc level) (storeOf t) k (partOf b a span)
+      ≡ cond (nodeOk level a (storeOf t b) && (has k (names (storeOf t b)) || along (pathOk level (storeOf t) k) k (left t b span (span .lo) 0)))
+      (told (nodeWord (storeOf t b) k (down (lookup level (storeOf t) k) k (left t b span (span .lo) 0))))
+      Broken
+  unfolding lookedIn pathOk lookup
   opened = refl
 
-  sound-node : soundAt (suc level) (storeOf t) (partOf b a span) ≡ true → nodeOk level a (storeOf t b) ≡ true
-  unfolding soundAt
-  sound-node s = all-at _ s 0
-
-  sound-kids : soundAt (suc level) (storeOf t) (partOf b a span) ≡ true → every (soundAt level (storeOf t)) (left t b span (span .lo) 0) ≡ true
-  unfolding soundAt
-  sound-kids s = all-at _ s 2
-
-  pub broken-node : nodeOk level a (storeOf t b) ≡ false → PartLooked t (suc level) (partOf b a span) k Broken
-  broken-node e = record { says = tt; whole = λ s q. false≢true (sym e ∙ sound-node s) }
+  pub broken-node : nodeOk level a (storeOf t b) ≡ false → Broken ≡ lookedIn (suc level) (storeOf t) k (partOf b a span)
+  broken-node e = sym (opened ∙ rw e)
 
   -- by what the node says
-  module _ {w : Word} (h : Speaks t b k w) where
-    pub named-live : w .live ≡ true → PartLooked t (suc level) (partOf b a span) k (Live (w .track))
-    named-live y =
-        record {
-          says = opened ∙ h .word _ ∙ ap (λ (x : Bool). cond x (some (w .track)) (cond (w .gone) none (among t b level span k (span .lo) 0))) y;
-          whole = λ s q. not-live (w .track) q;
-        }
+  module _ (ok : nodeOk level a (storeOf t b) ≡ true) {w : Word} (h : Speaks t b k w) where
+    abbrev ahead : Bool
+    ahead = along (pathOk level (storeOf t) k) k (left t b span (span .lo) 0)
 
-    unnamed : w .live ≡ false
-        → lookup (suc level) (storeOf t) k (partOf b a span) ≡ cond (w .gone) none (among t b level span k (span .lo) 0)
-    unnamed y = opened ∙ h .word _ ∙ ap (λ (x : Bool). cond x (some (w .track)) (cond (w .gone) none (among t b level span k (span .lo) 0))) y
+    abbrev beneath : Option ℕ
+    beneath = down (lookup level (storeOf t) k) k (left t b span (span .lo) 0)
 
-    pub named-gone : w .live ≡ false → w .gone ≡ true → PartLooked t (suc level) (partOf b a span) k Nothing
-    named-gone y z =
-        record {
-          says = unnamed y ∙ ap (λ (x : Bool). cond x none (among t b level span k (span .lo) 0)) z;
-          whole = λ s q. not-nothing q;
-        }
+    answered : lookedIn (suc level) (storeOf t) k (partOf b a span) ≡ cond (w .live) (Live (w .track)) (cond (w .gone) Nothing (among t b level span k (span .lo) 0))
+    answered =
+        opened
+        ∙ ap (λ (x : Bool). cond (x && (has k (names (storeOf t b)) || ahead)) (told (nodeWord (storeOf t b) k beneath)) Broken) ok
+        ∙ ap₂ (λ (x : Bool) (o : Option ℕ). cond (x || ahead) (told o) Broken) (speaks-names h) (h .word beneath)
+        ∙ by-word (w .live) (w .gone) ahead (w .track) beneath
 
-    module _ (y : w .live ≡ false) (z : w .gone ≡ false) {lo i : ℕ} (g : Going t b level span k lo i) where
-      silent : lookup (suc level) (storeOf t) k (partOf b a span) ≡ among t b level span k lo i
-      silent = unnamed y ∙ ap (λ (x : Bool). cond x none (among t b level span k (span .lo) 0)) z ∙ g .same
+    pub named-live : w .live ≡ true → Live (w .track) ≡ lookedIn (suc level) (storeOf t) k (partOf b a span)
+    named-live y = sym (answered ∙ ap (λ (x : Bool). cond x (Live (w .track)) (cond (w .gone) Nothing (among t b level span k (span .lo) 0))) y)
 
-      -- no child is left
-      pub no-child : frontOf (lent t b) .c ≤ i → PartLooked t (suc level) (partOf b a span) k Nothing
-      no-child l =
-          record {
-            says = silent ∙ ap (down (lookup level (storeOf t) k) k) (lent-none t b i lo span l);
-            whole = λ s q. not-nothing q;
-          }
+    module _ (y : w .live ≡ false) where
+      unnamed : lookedIn (suc level) (storeOf t) k (partOf b a span) ≡ cond (w .gone) Nothing (among t b level span k (span .lo) 0)
+      unnamed = answered ∙ ap (λ (x : Bool). cond x (Live (w .track)) (cond (w .gone) Nothing (among t b level span k (span .lo) 0))) y
+
+      pub named-gone : w .gone ≡ true → Nothing ≡ lookedIn (suc level) (storeOf t) k (partOf b a span)
+      named-gone z = sym (unnamed ∙ ap (λ (x : Bool). cond x Nothing (among t b level span k (span .lo) 0)) z)
+
+      module _ (z : w .gone ≡ false) {lo i : ℕ} (g : Going t b level span k lo i) where
+        silent : lookedIn (suc level) (storeOf t) k (partOf b a span) ≡ among t b level span k lo i
+        silent = unnamed ∙ ap (λ (x : Bool). cond x Nothing (among t b level span k (span .lo) 0)) z ∙ g .same
+
+        -- no child is left
+        pub no-child : frontOf (lent t b) .c ≤ i → Nothing ≡ lookedIn (suc level) (storeOf t) k (partOf b a span)
+        no-child l = sym (silent ∙ ap (under level (storeOf t) k) (lent-none t b i lo span l))
 
 -- ---- a child
+
+-- the answer by the first of several parts, where it holds the key
+by-first : (b x y : Bool) (o p : Option ℕ) → cond (cond b x y) (told (cond b o p)) Broken ≡ cond b (cond x (told o) Broken) (cond y (told p) Broken)
+by-first true x y o p = refl
+by-first false x y o p = refl
+
+under-first : (l : ℕ) (m : Store) (k : ℕ) (p : Part) (ps : List Part) → under l m k (p ∷ ps) ≡ cond (within (p .lo) (p .hi) k) (lookedIn l m k p) (under l m k ps)
+unfolding lookedIn
+under-first l m k p ps =
+    by-first (within (p .lo) (p .hi) k) (pathOk l m k p) (along (pathOk l m k) k ps) (lookup l m k p) (down (lookup l m k) k ps)
 
 -- the i-th child of a node that keeps the rules
 pub record Kid (t : List ℕ) (b level : ℕ) (a : Asked) (span : Span) (k lo i : ℕ) (e : Entry) (part : Span) : Type 0 where
@@ -130,54 +172,32 @@ module _ {t : List ℕ} {b level : ℕ} {a : Asked} {span : Span} {k lo i : ℕ}
   kid = partOf (e .block) (Child e) part
 
   -- it is the first of those left
-  first : left t b span lo i ≡ kid ∷ left t b span (part .hi) (i + 1)
-  first = lent-parts t b i lo span (d .below) (d .entry) (d .range)
+  kid-first : among t b level span k lo i
+      ≡ cond (within (part .lo) (endOf part) k) (lookedIn level (storeOf t) k kid) (among t b level span k (part .hi) (i + 1))
+  kid-first =
+      ap (under level (storeOf t) k) (lent-parts t b i lo span (d .below) (d .entry) (d .range))
+      ∙ under-first level (storeOf t) k kid (left t b span (part .hi) (i + 1))
 
-  kid-down : among t b level span k lo i
-      ≡ cond (within (part .lo) (endOf part) k) (lookup level (storeOf t) k kid) (among t b level span k (part .hi) (i + 1))
-  kid-down = ap (down (lookup level (storeOf t) k) k) first
-
-  kid-rules : every (soundAt level (storeOf t)) (left t b span (span .lo) 0) ≡ true
-      → every (soundAt level (storeOf t)) (kid ∷ left t b span (part .hi) (i + 1)) ≡ true
-  kid-rules s = sym (ap (every (soundAt level (storeOf t))) first) ∙ d .going .rules s
+  kid-if : {x : Bool} → within (part .lo) (endOf part) k ≡ x
+      → among t b level span k lo i ≡ cond x (lookedIn level (storeOf t) k kid) (among t b level span k (part .hi) (i + 1))
+  kid-if f = kid-first ∙ ap (λ (x : Bool). cond x (lookedIn level (storeOf t) k kid) (among t b level span k (part .hi) (i + 1))) f
 
   pub kid-next : within (part .lo) (endOf part) k ≡ false → Going t b level span k (part .hi) (i + 1)
-  kid-next f =
-      record {
-        same = d .going .same ∙ kid-down ∙ ap (λ (x : Bool). cond x (lookup level (storeOf t) k kid) (among t b level span k (part .hi) (i + 1))) f;
-        rules = λ s.
-            and-right (soundAt level (storeOf t) kid) (every (soundAt level (storeOf t)) (left t b span (part .hi) (i + 1))) (kid-rules s);
-      }
+  kid-next f = record { same = d .going .same ∙ kid-if f }
 
   pub kid-says : {w : Word} {r : Looked} → Speaks t b k w → w .live ≡ false → w .gone ≡ false → within (part .lo) (endOf part) k ≡ true
-      → PartLooked t (suc (level - 1)) kid k r → PartLooked t (suc level) (partOf b a span) k r
-  kid-says {w} {r} h y z f p =
-      record {
-        says = subst (Says r) (sym whole-is) (same .says);
-        whole = λ s.
-            same .whole
-            (and-left (soundAt level (storeOf t) kid) (every (soundAt level (storeOf t)) (left t b span (part .hi) (i + 1))) (kid-rules (sound-kids t b level a span k s)));
-      }
-    where
-      same : PartLooked t level kid k r
-      same = let j : suc (level - 1) ≡ level = omega (arith, kid-level) in subst (λ (l : ℕ). PartLooked t l kid k r) j p
-
-      whole-is : lookup (suc level) (storeOf t) k (partOf b a span) ≡ lookup level (storeOf t) k kid
-      whole-is =
-          silent t b level a span k h y z (d .going) ∙ kid-down
-          ∙ ap (λ (x : Bool). cond x (lookup level (storeOf t) k kid) (among t b level span k (part .hi) (i + 1))) f
+      → r ≡ lookedIn (suc (level - 1)) (storeOf t) k kid → r ≡ lookedIn (suc level) (storeOf t) k (partOf b a span)
+  kid-says h y z f p =
+      let j : suc (level - 1) ≡ level = omega (arith, kid-level) in
+      p ∙ ap (λ (l : ℕ). lookedIn l (storeOf t) k kid) j ∙ sym (silent t b level a span k (d .ok) h y z (d .going) ∙ kid-if f)
 
 -- ---- a table
 
 pub no-header : (t : List ℕ) (k : ℕ) → headerOk (length t) (headOf t) ≡ false → LookupPost t k Broken
-no-header t k e = record { says = tt; whole = λ s q. false≢true (sym e ∙ sound-header t s) }
+unfolding lookedUp
+no-header t k e = record { is = sym (rw e) }
 
-pub from-root : (t : List ℕ) (k : ℕ) {l : ℕ} {p : Part} {r : Looked} → l ≡ headOf t .levels → p ≡ whole (headOf t) → PartLooked t l p k r → LookupPost t k r
-unfolding live
-from-root t k {l} {p} {r} e g h =
-    record { says = same .says; whole = λ s. same .whole (sound-tree t s) }
-  where
-    same : PartLooked t (headOf t .levels) (whole (headOf t)) k r
-    same =
-        subst (λ (q : Part). PartLooked t (headOf t .levels) q k r) g
-        (subst (λ (n : ℕ). PartLooked t n p k r) e h)
+pub from-root : (t : List ℕ) (k : ℕ) {l : ℕ} {p : Part} {r : Looked} → headerOk (length t) (headOf t) ≡ true → l ≡ headOf t .levels → p ≡ whole (headOf t)
+    → r ≡ lookedIn l (storeOf t) k p → LookupPost t k r
+unfolding lookedUp lookedIn live
+from-root t k {l} {p} {r} o e g h = record { is = h ∙ ap₂ (λ (n : ℕ) (q : Part). lookedIn n (storeOf t) k q) e g ∙ sym (rw o) }

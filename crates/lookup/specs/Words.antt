@@ -2,20 +2,19 @@
 -- Assumes nothing.
 use mathlib.Core.Path.{_≡_}
 use Prim.Native.Nat.{ℕ, _≤_, _<_}
-use mathlib.Core.Bool.{true, cond}
+use mathlib.Core.Bool.{cond}
 use mathlib.Core.List.{List}
 use mathlib.Core.Option.{Option, none, some}
 use lib.ListN.{length}
 use Rattle.block.specs.Table.{blocksOf}
-use Rattle.block.specs.Node.{storeOf}
+use Rattle.block.specs.Node.{Store, storeOf}
 use Rattle.tree.specs.Part.{Part}
 use Rattle.tree.specs.Lookup.{nodeWord, lookup}
-use Rattle.tree.specs.Sound.{soundAt}
 use Rattle.lookup.specs.declared.Found.{Found}
 use Rattle.lookup.specs.declared.Word.{Word}
 use Rattle.lookup.specs.declared.Looked.{Looked}
 use Rattle.lookup.specs.declared.Looked.the-variants.{Broken}
-use Rattle.lookup.specs.Answers.{Says}
+use Rattle.lookup.specs.Answers.{told, pathOk}
 
 abbrev pub foundIn : Found → Option ℕ
 foundIn f = cond (f .there) (some (f .track)) none
@@ -33,7 +32,6 @@ pub record Lookable (t : List ℕ) (b level : ℕ) : Type 0 where
   pub blocks : blocksOf (length t) ≤ 4096
   pub deep : level ≤ 6
 
--- the key is looked up in a part of l levels; only a part that breaks a rule is broken
-pub record PartLooked (t : List ℕ) (l : ℕ) (p : Part) (k : ℕ) (r : Looked) : Type 0 where
-  pub says : Says r (lookup l (storeOf t) k p)
-  pub whole : soundAt l (storeOf t) p ≡ true → r ≡ Broken → ⊥
+-- what is answered of k in a part of l levels
+unfoldable pub lookedIn : ℕ → Store → ℕ → Part → Looked
+lookedIn l m k p = cond (pathOk l m k p) (told (lookup l m k p)) Broken

@@ -7,10 +7,11 @@ ghost use Rattle.octets.specs.Lists.{records, rising};
 ghost use Rattle.spot.specs.Keys.{within};
 ghost use Rattle.spot.specs.Spots.{find, spotAt};
 ghost use Rattle.block.specs.Table.{tableSized};
+ghost use Rattle.block.specs.Node.{storeOf};
 ghost use Rattle.block.specs.NodeRules.{ValidBlock};
 ghost use Rattle.visit.specs.Visit.{endOf, partOf, keysFrom};
 ghost use Rattle.lookup.specs.Answers.{LookupPost};
-ghost use Rattle.lookup.specs.Words.{foundIn, Speaks, Lookable, PartLooked};
+ghost use Rattle.lookup.specs.Words.{foundIn, Speaks, Lookable, lookedIn};
 
 pub enum Looked {
     Live(u32),
@@ -94,7 +95,7 @@ fn look_in(
     k: u64,
 ) -> Looked
     requires { ⌜ Lookable (now t) b level ⌝ }
-    ensures { λ r. ⌜ PartLooked (now (t .entry)) (suc level) (partOf b asked span) k r ⌝ }
+    ensures { λ r. ⌜ r ≡ lookedIn (suc level) (storeOf (now (t .entry))) k (partOf b asked span) ⌝ }
 {
     if !block::block_ok(t, b, level, asked) {
         return Looked::Broken;
@@ -128,10 +129,10 @@ pub fn look_up(t: &[u8], k: u64) -> Looked
     requires { ⌜ tableSized (length (now t)) ≡ true ⌝ }
     ensures { λ r. ⌜ LookupPost (now (t .entry)) k r ⌝ }
 {
-    if !block::header_ok(t) {
-        return Looked::Broken;
+    if block::header_ok(t) {
+        let root = block::root_of(t);
+        let level = block::levels_of(t) - 1;
+        return look_in(t, root, level, block::Asked::Root, visit::root_span(), k);
     }
-    let root = block::root_of(t);
-    let level = block::levels_of(t) - 1;
-    look_in(t, root, level, block::Asked::Root, visit::root_span(), k)
+    Looked::Broken
 }

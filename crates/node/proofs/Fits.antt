@@ -1,8 +1,8 @@
--- What owning a buffer tells of what it holds: each number fits its type.
+-- What owning a buffer tells of what it holds: each number fits its type. And entries that fit.
 -- Assumes nothing.
 use mathlib.Core.Path.{_≡_, refl}
 use mathlib.Core.Bool.{Bool, true}
-use mathlib.Core.List.{List, [], _∷_, map}
+use mathlib.Core.List.{List, [], _∷_, map, List·Memᴰ}
 use Prim.Native.Nat.{ℕ, suc, _+_, _≤_, _<_}
 use native.Mathlib.Numerals.{add-one}
 use native.Mathlib.Omega.{arith}
@@ -18,7 +18,11 @@ use Rattle.spot.specs.Keys.{allKeys, word, unsigned32}
 use Rattle.spot.specs.declared.Spot.{Spot}
 use Rattle.spot.proofs.Places.{within-yes}
 use Rattle.spot.proofs.Spot.{the-field}
+use Rattle.block.specs.declared.Entry.{Entry}
+use Rattle.block.specs.Node.{firstOpen}
+use Rattle.block.proofs.Views.{open-all}
 use Rattle.node.specs.Bytes.{keyFits, spotFits}
+use Rattle.node.specs.Memory.{EntryFits}
 use borrow.Author.Tests.{le-leb}
 
 pub key-fits : (k : ℕ) → k < allKeys → keyFits k ≡ true
@@ -49,3 +53,7 @@ pub every-more : {A : Type 0} (f : A → Bool) (i n : ℕ) (l : List A) (d : A) 
 every-more f i n l d h g p q =
     let m : i < length (take n l) = rw length-take-le (omega arith) in
     rw (add-one, take-suc (take n l) i d, getD-take n l i d h) (every-join f (take i (take n l)) (getD l i d ∷ []) p (rw q))
+
+-- entries that fit do so with the first low put to 0
+pub open-fits : (es : List Entry) → ((e : Entry) → List·Memᴰ e es → EntryFits e) → (e : Entry) → List·Memᴰ e (firstOpen es) → EntryFits e
+open-fits = open-all EntryFits (λ e f. record { block = f .block; size = f .size; top = f .top; bottom = f .bottom })

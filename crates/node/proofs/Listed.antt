@@ -6,7 +6,8 @@ use Prim.Native.Nat.{ℕ, suc, _+_, _-_, _≤_, _<_}
 use native.Mathlib.Omega.{arith}
 use lib.ListN.{length, take, drop, getD, set, length-set, length-drop}
 use lib.Seq.{length-take-le, take-all, take-take, take-set-lt, set-split, split-at, getD-take}
-use Rattle.buffer.proofs.Lists.{part, take-push, at-mem}
+use Rattle.octets.proofs.Lists.{take-push, at-mem}
+use Rattle.buffer.proofs.Lists.{part}
 use Rattle.block.specs.declared.Entry.{Entry}
 use Rattle.node.specs.Memory.{EntryAt}
 

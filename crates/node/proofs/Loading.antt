@@ -17,7 +17,7 @@ use Rattle.block.specs.declared.Entry.{Entry}
 use Rattle.block.specs.Node.{nodeOf}
 use Rattle.block.specs.Access.{frontOf, entryOf, EntryIs}
 use Rattle.block.proofs.Reading.{entries-count, entry-is}
-use Rattle.buffer.proofs.Lists.{take-push}
+use Rattle.octets.proofs.Lists.{take-push}
 use Rattle.node.specs.declared.Entries.{Entries}
 use Rattle.node.specs.Memory.{EntryFits}
 use Rattle.node.specs.Blocks.{EntriesLoaded}

@@ -14,6 +14,7 @@ use borrow.Rule.Slice.PartMut.{midOf, putMid, post-is, mid-len}
 use Rattle.octets.specs.Bytes.{bytesOf, putBe}
 use Rattle.octets.proofs.Bytes.{put-eq, length-bytesOf}
 use Rattle.octets.proofs.Codec.{coded-append, length-coded}
+use Rattle.octets.proofs.Lists.{over-all}
 use Rattle.spot.specs.Spots.{keyBytes, spotBytes, spotsBytes, putKey, putSpot}
 use Rattle.spot.specs.declared.Spot.{Spot}
 use Rattle.spot.proofs.Card.{putKey-eq, putSpot-eq, length-keyBytes, length-spotBytes}
@@ -189,7 +190,7 @@ pub zeroed : (s : List ℕ) {u : List ℕ} (at : ℕ) → at ≤ length s
     → u ≡ replicate (length s - at) 0 ++ drop (length s - at) (midOf at (length s - at) s) → putMid at (length s - at) s u ≡ take at s ++ replicate (length s - at) 0
 zeroed s {u} at h e =
     let k : ℕ = length s - at in
-    let m : drop k (midOf at k s) ≡ [] = ap (λ (x : ℕ). drop x (midOf at k s)) (sym (mid-len at (length s) s (omega arith))) ∙ drop-length (midOf at k s) in
+    let m : length (midOf at k s) ≡ k = mid-len at (length s) s (omega arith) in
     ap (λ (z : List ℕ). take at s ++ z)
-    (ap₂ (λ (x y : List ℕ). x ++ y) (e ∙ ap (λ (z : List ℕ). replicate k 0 ++ z) m ∙ append-nil (replicate k 0)) (post-is at (length s) s h ∙ drop-length s)
+    (ap₂ (λ (x y : List ℕ). x ++ y) (e ∙ over-all (replicate k 0) (midOf at k s) k (omega arith)) (post-is at (length s) s h ∙ drop-length s)
     ∙ append-nil (replicate k 0))

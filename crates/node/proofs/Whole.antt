@@ -2,7 +2,7 @@
 -- Assumes nothing.
 use mathlib.Core.Path.{_≡_, refl, sym, ap, ap₂, subst, _∙_}
 use mathlib.Core.Logic.{⊎-elim}
-use mathlib.Core.Bool.{Bool, true, false, cond, not, _&&_, _||_}
+use mathlib.Core.Bool.{Bool, true, false, cond, not, _&&_, _||_, or-true}
 use mathlib.Core.List.{List, [], _∷_, _++_, append-assoc, List·Memᴰ}
 use Prim.Native.Nat.{ℕ, zero, suc, _+_, _*_, _≤_, _<_}
 use native.Mathlib.Omega.{arith}
@@ -13,7 +13,7 @@ use borrow.Author.Tests.{eqb-true, eq-eqb, le-leb}
 use Rattle.octets.specs.Lists.{every, records}
 use Rattle.octets.specs.Bytes.{be}
 use Rattle.octets.proofs.Order.{same-or-not}
-use Rattle.octets.proofs.Tests.{all-cons, all-nil, every-at}
+use Rattle.octets.proofs.Tests.{all-cons, all-nil, every-at, every-replicate}
 use Rattle.octets.proofs.Records.{tests-make}
 use Rattle.octets.proofs.Codec.{coded-back, length-coded}
 use Rattle.spot.specs.Spots.{keyAt, spotAt, keyBytes, spotsBytes}
@@ -28,7 +28,7 @@ use Rattle.block.specs.Node.{Node, nodeOf, nodeFrom, laidOut, entryBlank, first
 use Rattle.block.specs.NodeRules.{zeroFirst, lows}
 use Rattle.block.specs.Access.{frontOf, usedOf, entryOf}
 use Rattle.block.proofs.Reading.{entries-count, entry-is}
-use Rattle.buffer.proofs.Lists.{at-mem}
+use Rattle.octets.proofs.Lists.{at-mem}
 use Rattle.node.specs.Memory.{EntryFits}
 use Rattle.node.specs.Bytes.{frontBytes, entryBytes, laterBytes, entriesBytes, keysBytes, keyFits, spotFits, keysFit}
 use Rattle.node.proofs.Listed.{blank}
@@ -50,10 +50,6 @@ keys-there ks a b {s} f e p q =
 
 length-keysBytes : (ks : List ℕ) → length (keysBytes ks) ≡ 8 * length ks
 length-keysBytes = length-coded keysBytes keyBytes 8 refl (λ k ks. refl) length-keyBytes
-
-every-zero : (k : ℕ) → every (λ x. eqb x 0) (replicate k 0) ≡ true
-every-zero zero = refl
-every-zero (suc k) = every-zero k
 
 -- ---- an entry that stands there
 
@@ -100,10 +96,6 @@ pub same-node : {l l′ : ℕ} {e e′ : List Entry} {p p′ i i′ : List Spot}
     → _≡_ {A = Node} (record { level = l; entries = e; points = p; inserts = i; deletes = d; laid = a; room = r })
     (record { level = l′; entries = e′; points = p′; inserts = i′; deletes = d′; laid = a′; room = r′ })
 same-node x y z u v w t = cc
-
-or-true : (b : Bool) → b || true ≡ true
-or-true true = refl
-or-true false = refl
 
 -- ---- the whole
 
@@ -229,7 +221,7 @@ module _ (h : Front) (es : List Entry) (ps is : List Spot) (ds : List ℕ) (k : 
       all-cons _ _ (eq-eqb _ _ (front .used ∙ g .used))
       (all-cons _ _ (le-leb (usedOf h) 1896 (omega (arith, g)))
       (all-cons _ _ (eq-eqb _ _ (front .version ∙ g .version))
-      (all-cons _ _ (ap (every (λ x. eqb x 0)) (drop-at (frontBytes h ++ entriesBytes es ++ spotsBytes ps ++ spotsBytes is ++ keysBytes ds) (replicate k 0) (usedOf h) (length-d h es ps is ds g)) ∙ every-zero k)
+      (all-cons _ _ (ap (every (λ x. eqb x 0)) (drop-at (frontBytes h ++ entriesBytes es ++ spotsBytes ps ++ spotsBytes is ++ keysBytes ds) (replicate k 0) (usedOf h) (length-d h es ps is ds g)) ∙ every-replicate (λ x. eqb x 0) k 0 refl)
       (all-cons _ _ (tests-make (entryBlank s) 28 (h .c) 8 (λ i l. blank-there (eqb i 0) (getD es i blank) s (8 + 28 * i) (entry-there i (omega (arith, g .c)))))
       (all-cons _ _ first-blank all-nil)))))
 

@@ -8,7 +8,7 @@ use Prim.Native.Nat.{ℕ, zero, suc, _+_, _*_, _-_, _/_, _%_, _^_, _≤_, _<_}
 use native.Mathlib.Nat.{add-zero, add-suc}
 use native.Mathlib.Decide.{ℕ-discrete, decLe}
 use native.Mathlib.Omega.{arith}
-use lib.ListN.{length, getD, set, length-set, length-append, List·getD-eq-default}
+use lib.ListN.{length, getD, set, replicate, length-set, length-append, List·getD-eq-default}
 use lib.Pow.{shl-exact, pow-lt}
 use lib.Seq.{getD-set-same, getD-set-other}
 use lib.Dec.{eqb}
@@ -34,6 +34,15 @@ pub bit-past : (m : List ℕ) (n : ℕ) → 8 * length m ≤ n → bit m n ≡ f
 unfolding bit digitAt
 bit-past m n h =
     ap (λ (x : ℕ). eqb (digitAt x (n % 8)) 1) (List·getD-eq-default m 0 (omega arith)) ∙ ap (λ (x : ℕ). eqb x 1) (digit-of-zero (n % 8))
+
+-- in a map of zeros every bit is clear
+pub zeros-at : (n i : ℕ) → _≡_ {A = ℕ} (getD (replicate n 0) i 0) 0
+zeros-at zero i = refl
+zeros-at (suc n) zero = refl
+zeros-at (suc n) (suc i) = zeros-at n i
+
+pub bit-zeros : (n k : ℕ) → bit (replicate n 0) k ≡ false
+bit-zeros n k = bit-cong (replicate n 0) [] k (zeros-at n (k / 8)) ∙ bit-past [] k (omega arith)
 
 byte-set : (m : List ℕ) (k i j : ℕ) → k / 8 ≡ i → k % 8 ≡ j → digitAt (getD m i 0) j ≡ 1 → bit m k ≡ true
 unfolding bit digitAt

@@ -85,6 +85,10 @@ be-put-other m n s i v j h =
     be-cong m (putBe n s i v) s j j
     (λ k l. put-other n s i v (j + k) (⊎-elim (λ a. inl (omega arith)) (λ a. inr (omega arith)) h))
 
+-- so is one that stands before it
+pub be-before : (n : ℕ) (s u : List ℕ) (i v : ℕ) → u ≡ putBe n s i v → (m j : ℕ) → j + m ≤ i → be m u j ≡ be m s j
+be-before n s u i v e m j l = ap (λ (x : List ℕ). be m x j) e ∙ be-put-other m n s i v j (inl l)
+
 -- reading back what was written
 pub be-put-same : (n : ℕ) (s : List ℕ) (i v : ℕ) → i + n ≤ length s → v < 256 ^ n → be n (putBe n s i v) i ≡ v
 unfolding be putBe

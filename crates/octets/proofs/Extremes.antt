@@ -4,6 +4,7 @@ use mathlib.Core.Path.{_≡_, refl, subst}
 use mathlib.Core.Logic.{⊎-elim}
 use mathlib.Core.List.{List, [], _∷_, List·Memᴰ, List·Memᴰ·head, List·Memᴰ·tail, List·Memᴰ·not-nil, List·Memᴰ·cases-cons}
 use Prim.Native.Nat.{ℕ, _≤_, _<_, max, min}
+use native.Mathlib.Nat.{max-eq-left, min-eq-left}
 use native.Mathlib.Omega.{arith}
 use Rattle.octets.specs.Lists.{maximum, minimum}
 use Rattle.octets.proofs.Order.{less-or-not}
@@ -24,14 +25,11 @@ max-is xs t i h = let a = maximum-ge xs i in let b = maximum-le t xs h in omega 
 pub maximum-mem : (x : ℕ) (xs : List ℕ) → List·Memᴰ (maximum (x ∷ xs)) (x ∷ xs)
 maximum-mem x [] = let e : max x 0 ≡ x = omega arith in List·Memᴰ·head e
 maximum-mem x (y ∷ ys) =
-    ⊎-elim (λ (h : maximum (y ∷ ys) ≤ x). List·Memᴰ·head (larger x (maximum (y ∷ ys)) h))
+    ⊎-elim (λ (h : maximum (y ∷ ys) ≤ x). List·Memᴰ·head (max-eq-left h))
     (λ (h : x < maximum (y ∷ ys)).
     List·Memᴰ·tail (subst (λ (i : ℕ). List·Memᴰ i (y ∷ ys)) (other x (maximum (y ∷ ys)) h) (maximum-mem y ys)))
     (less-or-not (maximum (y ∷ ys)) x)
   where
-    larger : (a b : ℕ) → b ≤ a → max a b ≡ a
-    larger a b h = omega arith
-
     other : (a b : ℕ) → a < b → b ≡ max a b
     other a b h = omega arith
 
@@ -50,13 +48,10 @@ min-is d xs t l i h = let a = minimum-le d xs i in let b = minimum-ge d t xs l h
 pub minimum-mem : (d x : ℕ) (xs : List ℕ) → ((y : ℕ) → List·Memᴰ y (x ∷ xs) → y < d) → List·Memᴰ (minimum d (x ∷ xs)) (x ∷ xs)
 minimum-mem d x [] h = let l = h x (List·Memᴰ·head refl) in let e : min x d ≡ x = omega arith in List·Memᴰ·head e
 minimum-mem d x (y ∷ ys) h =
-    ⊎-elim (λ (l : x ≤ minimum d (y ∷ ys)). List·Memᴰ·head (smaller x (minimum d (y ∷ ys)) l))
+    ⊎-elim (λ (l : x ≤ minimum d (y ∷ ys)). List·Memᴰ·head (min-eq-left l))
     (λ (l : minimum d (y ∷ ys) < x).
     List·Memᴰ·tail (subst (λ (i : ℕ). List·Memᴰ i (y ∷ ys)) (other x (minimum d (y ∷ ys)) l) (minimum-mem d y ys (λ z i. h z (List·Memᴰ·tail i)))))
     (less-or-not x (minimum d (y ∷ ys)))
   where
-    smaller : (a b : ℕ) → a ≤ b → min a b ≡ a
-    smaller a b h = omega arith
-
     other : (a b : ℕ) → b < a → b ≡ min a b
     other a b h = omega arith

@@ -1,5 +1,6 @@
 pub mod Order
 pub mod Tests
+pub mod Lists
 pub mod Sets
 pub mod Once
 pub mod Rising

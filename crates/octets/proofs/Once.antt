@@ -10,9 +10,10 @@ use lib.ListN.{length}
 use lib.Dec.{eqb}
 use borrow.Author.Tests.{eq-eqb, ne-eqb}
 use Rattle.octets.specs.Lists.{keep, distinct}
+use Rattle.octets.specs.Sets.{Apart}
 use Rattle.octets.proofs.Order.{same-or-not}
 use Rattle.octets.proofs.Tests.{keep-in}
-use Rattle.octets.proofs.Sets.{Apart, distinct-head, distinct-tail, distinct-cons}
+use Rattle.octets.proofs.Sets.{distinct-head, distinct-tail, distinct-cons}
 
 -- no number stands twice, as a fact that is taken apart number by number
 abbrev pub Once : List ℕ → Type 0

@@ -8,12 +8,9 @@ use Prim.Native.Nat.{ℕ}
 use lib.Dec.{eqb}
 use borrow.Author.Tests.{eq-eqb, ne-eqb, not-true}
 use Rattle.octets.specs.Lists.{every, keep, has, distinct}
+use Rattle.octets.specs.Sets.{Apart}
 use Rattle.octets.proofs.Order.{same-or-not}
-use Rattle.octets.proofs.Tests.{and-left, and-right, and-both, every-mem, every-make, keep-in}
-
--- no number is in both
-abbrev pub Apart : List ℕ → List ℕ → Type 0
-Apart xs ys = (z : ℕ) → List·Memᴰ z xs → List·Memᴰ z ys → ⊥
+use Rattle.octets.proofs.Tests.{and-left, and-right, and-both, refuted, every-mem, every-make, keep-in}
 
 -- ---- the test and the fact
 
@@ -28,11 +25,7 @@ mem-has k (x ∷ xs) h =
     ⊎-elim (λ e. rw (eq-eqb k x e)) (λ j. rw (mem-has k xs j) (or-true (eqb k x))) (List·Memᴰ·cases-cons h)
 
 pub has-not : (k : ℕ) (xs : List ℕ) → (List·Memᴰ k xs → ⊥) → has k xs ≡ false
-has-not k xs n = go (has k xs) refl
-  where
-    go : (b : Bool) → has k xs ≡ b → has k xs ≡ false
-    go true e = absurd (n (has-mem k xs e))
-    go false e = e
+has-not k xs n = refuted (has k xs) (λ e. n (has-mem k xs e))
 
 pub not-has-mem : (k : ℕ) (xs : List ℕ) → has k xs ≡ false → List·Memᴰ k xs → ⊥
 not-has-mem k xs h j = true≢false (sym (mem-has k xs j) ∙ h)
@@ -113,8 +106,3 @@ distinct-keep f (x ∷ xs) h = go (f x) (distinct-keep f xs (distinct-tail x xs 
     go : (b : Bool) → distinct (keep f xs) ≡ true → distinct (cond b (x ∷ keep f xs) (keep f xs)) ≡ true
     go true ih = distinct-cons x (keep f xs) (λ i. distinct-head x xs h (keep-in f xs i)) ih
     go false ih = ih
-
--- a list that has no number is empty
-pub no-member : (xs : List ℕ) → ((k : ℕ) → List·Memᴰ k xs → ⊥) → xs ≡ []
-no-member [] n = refl
-no-member (x ∷ xs) n = absurd (n x (List·Memᴰ·head refl))

@@ -1,13 +1,13 @@
 -- Tests over lists: `all`, `every` and `keep`.
 -- Assumes nothing.
 use mathlib.Core.Path.{_≡_, refl, ap, sym, _∙_}
-use mathlib.Core.Bool.{Bool, true, false, cond, _&&_, _||_, Bool·beq, and-assoc, false≢true, true≢false}
+use mathlib.Core.Bool.{Bool, true, false, cond, not, _&&_, _||_, Bool·beq, and-assoc, false≢true, true≢false}
 use mathlib.Core.List.{List, [], _∷_, _++_, List·Memᴰ, List·Memᴰ·head, List·Memᴰ·tail, List·Memᴰ·not-nil, List·Memᴰ·cases-cons}
 use mathlib.Core.Logic.{_⊎_, inl, inr, ⊎-elim}
 use Prim.Native.Nat.{ℕ, zero, suc, _≤_, _<_}
 use native.Mathlib.Nat.{le-of-suc-le-suc, not-suc-le-zero}
 use native.Mathlib.Omega.{arith}
-use lib.ListN.{length, getD}
+use lib.ListN.{length, getD, replicate}
 use Rattle.octets.specs.Lists.{all, every, keep, isEmpty}
 
 -- ---- truth values
@@ -34,6 +34,20 @@ or-left false b h e = h
 pub or-either : (a b : Bool) → a || b ≡ true → (a ≡ true) ⊎ (b ≡ true)
 or-either true b h = inl refl
 or-either false b h = inr h
+
+pub neither : (a b : Bool) → a || b ≡ false → (a ≡ false) × (b ≡ false)
+neither true b h = absurd (true≢false h)
+neither false b h = (refl, h)
+
+pub or-swap : (a b c : Bool) → a || (b || c) ≡ b || (a || c)
+or-swap true true c = refl
+or-swap true false c = refl
+or-swap false b c = refl
+
+-- a test that cannot pass
+pub refuted : (b : Bool) → (b ≡ true → ⊥) → b ≡ false
+refuted true n = absurd (n refl)
+refuted false n = refl
 
 pub beq-true : (a b : Bool) → Bool·beq a b ≡ true → a ≡ b
 beq-true true true h = refl
@@ -69,6 +83,11 @@ pub all-nil : all [] ≡ true
 unfolding all
 all-nil = refl
 
+-- the choice by the opposite of a test
+pub cond-not : {A : Type 0} (b : Bool) (x y : A) → cond (not b) x y ≡ cond b y x
+cond-not true x y = refl
+cond-not false x y = refl
+
 -- a member of one of two lists that a test picks
 pub cond-mem : {A : Type 0} {x : A} (b : Bool) (xs ys : List A) → List·Memᴰ x (cond b xs ys) → ((b ≡ true) × List·Memᴰ x xs) ⊎ List·Memᴰ x ys
 cond-mem true xs ys k = inl (refl, k)
@@ -90,6 +109,10 @@ module _ {A : Type 0} (f : A → Bool) where
   pub every-make : (xs : List A) → ((x : A) → List·Memᴰ x xs → f x ≡ true) → every f xs ≡ true
   every-make [] h = refl
   every-make (x ∷ xs) h = and-both (f x) (every f xs) (h x (List·Memᴰ·head refl)) (every-make xs (λ y j. h y (List·Memᴰ·tail j)))
+
+  pub every-replicate : (n : ℕ) (x : A) → f x ≡ true → every f (replicate n x) ≡ true
+  every-replicate zero x h = refl
+  every-replicate (suc n) x h = and-both (f x) (every f (replicate n x)) h (every-replicate n x h)
 
   pub every-append : (xs ys : List A) → every f (xs ++ ys) ≡ every f xs && every f ys
   every-append [] ys = refl
@@ -181,6 +204,18 @@ module _ {A : Type 0} (f : A → Bool) where
   keep-every xs = every-make f (keep f xs) (λ x i. keep-passes xs i)
 
 module _ {A : Type 0} where
+  -- no fewer pass a test that asks for less
+  pub length-keep-imp : (f g : A → Bool) → ((x : A) → f x ≡ true → g x ≡ true) → (xs : List A) → length (keep f xs) ≤ length (keep g xs)
+  length-keep-imp f g h [] = omega arith
+  length-keep-imp f g h (x ∷ xs) = go (f x) (g x) (h x) (length-keep-imp f g h xs)
+    where
+      go : (a b : Bool) → (a ≡ true → b ≡ true) → length (keep f xs) ≤ length (keep g xs)
+          → length (cond a (x ∷ keep f xs) (keep f xs)) ≤ length (cond b (x ∷ keep g xs) (keep g xs))
+      go true true i r = omega arith
+      go true false i r = absurd (true≢false (sym (i refl)))
+      go false true i r = omega arith
+      go false false i r = r
+
   -- tests that agree on the list keep the same of it
   pub keep-same : (f g : A → Bool) (xs : List A) → ((x : A) → List·Memᴰ x xs → f x ≡ g x) → keep f xs ≡ keep g xs
   keep-same f g [] h = refl

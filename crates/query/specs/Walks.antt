@@ -7,15 +7,16 @@ use mathlib.Core.List.{List, [], _∷_}
 use lib.ListN.{length, drop}
 use lib.Dec.{leb}
 use Rattle.octets.specs.Lists.{records, rising}
-use Rattle.octets.specs.Bitmap.{onesBelow}
+use Rattle.octets.specs.Bitmap.{bit, setBit, onesBelow}
 use Rattle.spot.specs.Spots.{keys, spotAt}
 use Rattle.spot.specs.declared.Spot.{Spot}
 use Rattle.spot.specs.declared.Query.{Query}
 use Rattle.block.specs.declared.Asked.{Asked}
 use Rattle.block.specs.Table.{blocksOf}
 use Rattle.block.specs.Node.{storeOf}
+use Rattle.block.specs.NodeRules.{nodeOk}
 use Rattle.tree.specs.Part.{Part}
-use Rattle.tree.specs.Walk.{walkTable, isBroken, spots, blocksRead}
+use Rattle.tree.specs.Walk.{finds, walkTable, isBroken, spots, blocksRead}
 use Rattle.tree.specs.Trace.{obeys, visits, tally, unseen, marked}
 use Rattle.tree.specs.ReadMap.{readMap}
 use Rattle.visit.specs.Visit.{partOf, namedAbove, taken, keysFrom, ceiling, ValidPath, Ancestors}
@@ -27,6 +28,14 @@ use Rattle.query.specs.declared.Tally.{Tally}
 pub record Tallied (map : List ℕ) (y : Tally) : Type 0 where
   pub blocks : y .blocks ≡ onesBelow map 4096
   pub spots : y .spots ≤ 128 * y .blocks
+
+-- a node is read: it keeps the rules and is read for the first time, or the walk is broken
+pub record Entered (t map map′ : List ℕ) (b level : ℕ) (asked : Asked) (q : Query) (path : Path) (y r : Tally) : Type 0 where
+  pub ok : r .ok ≡ not (bit map b) && nodeOk level asked (storeOf t b)
+  pub sized : length map′ ≡ length map
+  pub spots : r .ok ≡ true → r .spots ≡ y .spots + length (finds q (namedAbove t path) (storeOf t b))
+  pub seen : r .ok ≡ true → map′ ≡ setBit map b
+  pub tallied : r .ok ≡ true → Tallied map′ r
 
 -- a part is walked: every node read keeps the rules and is read for the first time, or the walk is broken
 pub record Counted (t map map′ : List ℕ) (l : ℕ) (q : Query) (path : Path) (p : Part) (y r : Tally) : Type 0 where

@@ -18,18 +18,19 @@ use Rattle.spot.specs.declared.Spot.{Spot}
 use Rattle.spot.specs.Spots.{keys, find}
 use Rattle.spot.specs.Keys.{rankKey, within}
 use Rattle.spot.proofs.Places.{within-yes, within-low, within-high, within-from, within-to}
-use Rattle.spot.proofs.Buffers.{find-only, keep-rises, keep-every, keep-pass}
+use Rattle.spot.proofs.Buffers.{keep-every, keep-pass}
+use Rattle.spot.proofs.Canon.{find-only, keep-rises}
 use Rattle.block.specs.declared.Entry.{Entry}
 use Rattle.block.specs.Node.{Node, Store}
 use Rattle.block.specs.Table.{blockOk}
 use Rattle.block.specs.declared.Asked.{Asked}
 use Rattle.block.specs.declared.Asked.the-variants.{Child}
 use Rattle.block.specs.NodeRules.{names, lows, zeroFirst, tops, nodeOk, childCountOk, childBlocksOk, buffersRise, namedOnce, lowsRise, pointsAbove, filled, lowest, leafBuffersEmpty, agrees}
-use Rattle.tree.specs.Part.{Part, parts, children}
+use Rattle.tree.specs.Part.{Part, parts, children, lowOf}
 use Rattle.tree.specs.Lookup.{orElse, down, lookup}
 use Rattle.tree.specs.Reach.{gather, reach, settled}
 use Rattle.tree.specs.Sound.{soundAt, inRange}
-use Rattle.tree.proofs.Entries.{lowOf, not-below, agree-held, agree-top}
+use Rattle.tree.proofs.Entries.{not-below, agree-held, agree-top}
 use Rattle.tree.proofs.Below.{sizes-filled, sizes-lowest}
 use Rattle.rebuild.specs.Build.{band, builtNode, OwnBand, Built}
 
@@ -38,6 +39,7 @@ find-band : (c t k : ℕ) (ys : List Spot) → find k (band c t ys) ≡ cond (wi
 unfolding band
 find-band c t k ys = find-only (λ j. within c t (rankKey j)) k ys
 
+-- a band keeps the order, as every part of a rising list does
 pub band-rises : (c t a : ℕ) (ys : List Spot) → risingFrom a (keys ys) ≡ true → risingFrom a (keys (band c t ys)) ≡ true
 unfolding band
 band-rises c t a ys h = keep-rises (λ s. within c t (rankKey (s .key))) a ys h

@@ -26,12 +26,11 @@ use Rattle.block.specs.Table.{blockOk}
 use Rattle.block.specs.declared.Asked.{Asked}
 use Rattle.block.specs.declared.Asked.the-variants.{Child}
 use Rattle.block.specs.NodeRules.{lows, tops, childCountOk, fewest, agrees}
-use Rattle.tree.specs.Part.{Part, nextLow, parts}
+use Rattle.tree.specs.Part.{Part, nextLow, parts, lowOf}
 use Rattle.tree.specs.Lookup.{down, lookup}
 use Rattle.tree.specs.Reach.{gather, reach, settled}
 use Rattle.tree.specs.Sound.{soundAt}
 use Rattle.tree.proofs.Says.{find-append}
-use Rattle.tree.proofs.Entries.{lowOf}
 use Rattle.rebuild.specs.Build.{nodes, fansOk, band, builtNode, Starts, Shares, Built}
 use Rattle.rebuild.proofs.Bands.{topmost, points-band, entry-low, Good, AllGood, Entries, or-none, node-good}
 

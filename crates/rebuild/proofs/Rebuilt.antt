@@ -3,7 +3,7 @@
 use mathlib.Core.Path.{_≡_, refl, ap, sym, _∙_}
 use mathlib.Core.Logic.{inr, ⊎-elim}
 use mathlib.Core.Bool.{Bool, true, false, cond, _||_, true≢false}
-use mathlib.Core.List.{List, []}
+use mathlib.Core.List.{List}
 use mathlib.Core.Option.{Option, none, some}
 use Prim.Native.Nat.{ℕ, zero, suc, _-_, _≤_, _<_}
 use native.Mathlib.Omega.{arith}
@@ -30,10 +30,10 @@ use Rattle.block.specs.NodeRules.{agrees, fewest}
 use Rattle.tree.specs.Part.{Part, whole}
 use Rattle.tree.specs.Lookup.{lookup, live, withKey, isLive}
 use Rattle.tree.specs.Reach.{reach, settled}
-use Rattle.tree.specs.Sound.{soundAt, mapExact, sound}
+use Rattle.tree.specs.Sound.{soundAt, mapExact, sound, Shaped}
 use Rattle.tree.specs.Walk.{liveSpots}
 use Rattle.tree.specs.ReadMap.{isRead}
-use Rattle.tree.proofs.Tables.{Shaped, sound-from, tree-rises, tree-finds, sound-tree, live-finds}
+use Rattle.tree.proofs.Tables.{sound-from, tree-rises, tree-finds, sound-tree, live-finds}
 use Rattle.tree.proofs.Says.{has-keys, find-replaced}
 use Rattle.tree.proofs.Marks.{exact-make}
 use Rattle.tree.proofs.Sources.{header-few, header-least}

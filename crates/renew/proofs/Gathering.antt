@@ -7,6 +7,7 @@ use Prim.Native.Nat.{ℕ, _+_, _-_, _*_, _≤_, _<_}
 use native.Mathlib.Omega.{arith}
 use lib.ListN.{length, drop, length-append, length-drop}
 use lib.Seq.{drop-append-add, drop-drop}
+use borrow.Author.Tests.{not-true, not-false}
 use Rattle.octets.specs.Lists.{rising, risingFrom}
 use Rattle.spot.specs.Query.{everything}
 use Rattle.spot.specs.Spots.{keys, spotsBytes}
@@ -19,23 +20,11 @@ use Rattle.block.specs.Checks.{keysAt}
 use Rattle.block.proofs.Facts.{head-facts}
 use Rattle.tree.specs.Walk.{walkTable, isBroken, spots, liveSpots}
 use Rattle.tree.specs.Sound.{sound}
-use Rattle.tree.proofs.Tables.{sound-header, live-rises, count-finds, counted}
+use Rattle.tree.proofs.Tables.{sound-header, live-rises, count-finds, counted, live-walk}
 use Rattle.query.specs.Walks.{spotsIn}
 use Rattle.query.specs.declared.Tally.{Tally}
 use Rattle.query.proofs.Gathered.{whole-header}
 use Rattle.renew.specs.Renewed.{Gathered}
-
-live-are : (t : List ℕ) → spots (walkTable t everything) ≡ liveSpots t
-unfolding liveSpots
-live-are t = refl
-
-broken-by : (ok b : Bool) → ok ≡ not b → ok ≡ false → b ≡ true
-broken-by ok true e h = refl
-broken-by ok false e h = absurd (true≢false (sym e ∙ h))
-
-pub whole-by : (ok b : Bool) → ok ≡ not b → ok ≡ true → b ≡ false
-whole-by ok false e h = refl
-whole-by ok true e h = absurd (false≢true (sym e ∙ h))
 
 -- stopped, which is so of no sound table
 gather-stops : (t w w′ : List ℕ) (r : Tally) → r .ok ≡ false → length w′ ≡ length w → drop (length t) w′ ≡ drop (length t) w → (sound t ≡ true → ⊥)
@@ -54,7 +43,7 @@ gather-stops t w w′ r f l d no-sound =
 -- a rule is broken
 pub gather-broken : (t w : List ℕ) (r : Tally) (ok : Bool) → r .ok ≡ false → ok ≡ not (isBroken (walkTable t everything)) → ok ≡ false → Gathered t w w r
 gather-broken t w r ok f e h =
-    gather-stops t w w r f refl refl (λ s. true≢false (sym (broken-by ok (isBroken (walkTable t everything)) e h) ∙ ap isBroken (count-finds t s .1)))
+    gather-stops t w w r f refl refl (λ s. true≢false (sym (not-false (isBroken (walkTable t everything)) (sym e ∙ h)) ∙ ap isBroken (count-finds t s .1)))
 
 -- there are more spots than the capacity
 pub gather-many : (t w : List ℕ) (r : Tally) (n : ℕ) → r .ok ≡ false → n ≡ length (spots (walkTable t everything)) → capacity (length t) < n → Gathered t w w r
@@ -63,7 +52,7 @@ gather-many t w r n f e h = gather-stops t w w r f refl refl no-sound
     no-sound : sound t ≡ true → ⊥
     no-sound s =
         let b = head-facts (length t) (headOf t) (sound-header t s) .bound-most in
-        omega (arith, counted t s, e, ap length (live-are t))
+        omega (arith, counted t s, e, ap length (live-walk t))
 
 -- the spots are collected at the front of the scratch
 module _ (t w w′ : List ℕ) (all : Tally) (r : ℕ) (few : all .spots ≤ capacity (length t)) (told : all .ok ≡ not (isBroken (walkTable t everything)))
@@ -94,7 +83,7 @@ module _ (t w w′ : List ℕ) (all : Tally) (r : ℕ) (few : all .spots ≤ cap
       ∙ ap (λ (i : ℕ). drop i w) b
 
   list-is : spotsIn w′ (all .spots) ≡ liveSpots t
-  list-is = ap (spotsIn w′) (count ∙ sym (got .0)) ∙ got .2 ∙ live-are t
+  list-is = ap (spotsIn w′) (count ∙ sym (got .0)) ∙ got .2 ∙ live-walk t
 
   rises-are : risingFrom 0 (keysAt w′ 12 (all .spots) 0) ≡ rising (keys (liveSpots t))
   rises-are = ap rising (sym (keys-records w′ 12 (all .spots) 0)) ∙ ap (λ (ss : List Spot). rising (keys ss)) list-is
@@ -112,5 +101,5 @@ module _ (t w w′ : List ℕ) (all : Tally) (r : ℕ) (few : all .spots ≤ cap
         holds = λ y. list-is;
         rises = λ y. sym rises-are ∙ sym e ∙ h;
         whole = λ s. right;
-        header = λ y. absurd (true≢false (sym (whole-header t everything (whole-by (all .ok) (isBroken (walkTable t everything)) told right)) ∙ y));
+        header = λ y. absurd (true≢false (sym (whole-header t everything (not-true (isBroken (walkTable t everything)) (sym told ∙ right))) ∙ y));
       }

@@ -1,22 +1,21 @@
--- The table laid out anew with one change: one law for each way that this ends.
+-- The table laid out anew, as it is or with one change: one law for each way that this ends.
 -- Assumes nothing.
 use mathlib.Core.Path.{_≡_, refl, ap, sym, subst, _∙_}
 use mathlib.Core.Bool.{Bool, true, false, true≢false, false≢true}
 use mathlib.Core.List.{List}
-use mathlib.Core.Option.{none}
-use Prim.Native.Nat.{ℕ, _+_, _-_, _*_, _≤_, _<_}
+use Prim.Native.Nat.{ℕ, _+_, _*_, _≤_, _<_}
 use native.Mathlib.Omega.{arith}
 use lib.Dec.{leb}
 use lib.ListN.{length, drop}
-use lib.Seq.{drop-drop}
-use borrow.Author.Tests.{leb-true, lt-leb, eq-eqb}
+use borrow.Author.Tests.{lt-leb}
 use Rattle.octets.specs.Lists.{rising}
 use Rattle.octets.proofs.Records.{length-records}
-use Rattle.octets.proofs.Tests.{all-at}
-use Rattle.spot.specs.Spots.{keys, find, put, without, spotAt}
+use Rattle.octets.proofs.Parts.{drop-more}
+use Rattle.spot.specs.Spots.{keys, without, spotAt}
 use Rattle.spot.specs.declared.Spot.{Spot}
-use Rattle.spot.proofs.Canon.{put-rises, without-rises, find-without, length-without}
-use Rattle.block.specs.Table.{sizedFor, tableSized, capacity, blocksOf}
+use Rattle.spot.proofs.Canon.{length-without}
+use Rattle.block.specs.Table.{tableSized, capacity}
+use Rattle.block.proofs.Making.{blocks-least, blocks-most}
 use Rattle.tree.specs.Walk.{liveSpots}
 use Rattle.query.specs.declared.Tally.{Tally}
 use Rattle.rebuild.specs.Build.{Rebuilt}
@@ -24,27 +23,9 @@ use Rattle.build.specs.Building.{Segment, spotsOf}
 use Rattle.amend.specs.Amended.{listed, Amendable, Amended}
 use Rattle.renew.specs.Renewed.{Gathered, Renewed}
 
-drop-more : (s u : List ℕ) (a b : ℕ) → a ≤ b → drop a s ≡ drop a u → drop b s ≡ drop b u
-drop-more s u a b h e =
-    let g : b ≡ a + (b - a) = omega arith in
-    ap (λ (i : ℕ). drop i s) g ∙ sym (drop-drop (b - a) a s) ∙ ap (drop (b - a)) e ∙ drop-drop (b - a) a u ∙ ap (λ (i : ℕ). drop i u) (sym g)
-
-few-blocks : (n : ℕ) → tableSized n ≡ true → blocksOf n ≤ 4096
-unfolding sizedFor
-few-blocks n z = leb-true (blocksOf n) 4096 (all-at _ z 2)
-
-some-blocks : (n : ℕ) → tableSized n ≡ true → 9 ≤ blocksOf n
-unfolding sizedFor
-some-blocks n z = leb-true 9 (blocksOf n) (all-at _ z 1)
-
--- the lists after each change rise
-pub put-up : (s : Spot) (l : List Spot) → rising (keys l) ≡ true → rising (keys (put s (without (s .key) l))) ≡ true
-put-up s l h =
-    let e : find (s .key) (without (s .key) l) ≡ none = find-without (s .key) (s .key) l ∙ rw (eq-eqb (s .key) (s .key) refl) in
-    put-rises 0 s (without (s .key) l) (omega arith) (without-rises 0 (s .key) l h) e
-
-pub out-up : (k : ℕ) (l : List Spot) → rising (keys l) ≡ true → rising (keys (without k l)) ≡ true
-out-up k l h = without-rises 0 k l h
+-- nothing changed
+pub amended-none : (w : List ℕ) (n : ℕ) → Amended w w n (listed w n) n
+amended-none w n = record { holds = refl; count = sym (length-records (spotAt w) 12 n 0); rest = refl; sized = refl }
 
 -- nothing gathered
 pub renew-broken : {t w w₁ : List ℕ} {r : Tally} (after : List Spot) (b : Bool) → Gathered t w w₁ r → r .ok ≡ false → Renewed t t w w₁ after b false
@@ -61,7 +42,7 @@ renew-broken after b g f =
 
 module _ {t w w₁ : List ℕ} {r : Tally} (z : tableSized (length t) ≡ true) (lent : length t ≤ length w) (g : Gathered t w w₁ r) (ok : r .ok ≡ true) where
   room : 12 * (r .spots + 1) ≤ length t
-  room = omega (arith, g .few ok, some-blocks (length t) z)
+  room = omega (arith, g .few ok, blocks-least (length t) z)
 
   live-long : length (liveSpots t) ≡ r .spots
   live-long = sym (ap length (g .holds ok)) ∙ length-records (spotAt w₁) 12 (r .spots) 0
@@ -69,7 +50,7 @@ module _ {t w w₁ : List ℕ} {r : Tally} (z : tableSized (length t) ≡ true) 
   pub renew-amendable : Amendable w₁ (r .spots)
   renew-amendable =
       record {
-        few = omega (arith, g .few ok, few-blocks (length t) z);
+        few = omega (arith, g .few ok, blocks-most (length t) z);
         room = omega (arith, room, g .lent, lent);
         rises = ap (λ (l : List Spot). rising (keys l)) (g .holds ok) ∙ g .rises ok;
       }
@@ -104,7 +85,7 @@ module _ {t w w₁ : List ℕ} {r : Tally} (z : tableSized (length t) ≡ true) 
     renew-segment few up =
         record {
           inside = omega (arith, lent-is, lent);
-          few = omega (arith, few-blocks (length t) z);
+          few = omega (arith, blocks-most (length t) z);
           rises = ap (λ (l : List Spot). rising (keys l)) holds-is ∙ up (g .rises ok);
         }
 

@@ -1,5 +1,5 @@
--- What the live spots gathered in the scratch, and the table laid out anew with one change to them, leave behind. t is the table before and t′ after, w
--- the scratch before and w′ after.
+-- What the live spots gathered in the scratch, and the table laid out anew with them as they are or with one change, leave behind. t is the table before
+-- and t′ after, w the scratch before and w′ after.
 -- Assumes nothing.
 use mathlib.Core.Path.{_≡_}
 use Prim.Native.Nat.{ℕ, _≤_}

@@ -1,4 +1,4 @@
-// The table laid out anew with one change to its live spots.
+// The table laid out anew, as it is and with one change to its live spots.
 ghost use mathlib.Core.Path.{_≡_};
 ghost use mathlib.Core.Bool.{true};
 ghost use Prim.Native.Nat.{_≤_};
@@ -37,6 +37,19 @@ fn gather(table: &[u8], scratch: &mut [u8]) -> query::Tally
         return none;
     }
     all
+}
+
+// The live spots laid out anew; false, with the table as it was, where a rule is broken.
+pub fn anew(table: &mut [u8], scratch: &mut [u8]) -> bool
+    requires { ⌜ (tableSized (length (now table)) ≡ true) × (length (now table) ≤ length (now scratch)) ⌝ }
+    ensures { λ r. ⌜ Renewed (now (table .entry)) (now (table .exit)) (now (scratch .entry)) (now (scratch .exit)) (liveSpots (now (table .entry))) true r ⌝ }
+{
+    let all = gather(table, scratch);
+    if !all.ok {
+        return false;
+    }
+    build::build_table(table, scratch, all.spots);
+    true
 }
 
 // The live spots laid out anew with s put in, in the place of one with its key; false, with the table as it was, where a rule is broken or they are too

@@ -2,7 +2,7 @@
 -- Assumes nothing.
 use mathlib.Core.Path.{_≡_, refl, ap, sym, subst, _∙_}
 use mathlib.Core.Logic.{_⊎_, inl, inr, ⊎-elim}
-use mathlib.Core.Bool.{Bool, true, false, not, true≢false, false≢true}
+use mathlib.Core.Bool.{Bool, true, false, cond, not, true≢false, false≢true}
 use mathlib.Core.List.{List, [], _∷_}
 use mathlib.Core.Option.{Option, none, some}
 use Prim.Native.Nat.{ℕ, _+_, _-_, _≤_, _<_}
@@ -21,16 +21,16 @@ use Rattle.block.proofs.Facts.{head-facts}
 use Rattle.tree.specs.Lookup.{live, isLive, withKey}
 use Rattle.tree.specs.Sound.{sound}
 use Rattle.tree.specs.Walk.{walkTable, isBroken, spots, liveSpots, liveCount}
-use Rattle.tree.proofs.Sources.{header-least}
 use Rattle.tree.proofs.Tables.{sound-header, count-finds}
 use Rattle.query.proofs.Roots.{sized-long}
-use Rattle.lookup.specs.Answers.{Says, LookupPost}
+use Rattle.lookup.specs.Answers.{LookupPost}
 use Rattle.lookup.specs.declared.Looked.{Looked}
 use Rattle.lookup.specs.declared.Looked.the-variants.{Live, Nothing, Broken}
+use Rattle.lookup.proofs.Laws.{Says, looked-says, looked-whole}
 use Rattle.revise.specs.Numbers.{addNumber}
 use Rattle.revise.specs.Revising.{Lent, Leaves, Within, Revised}
 use Rattle.revise.proofs.Ends.{PutWithin, OutWithin}
-use Rattle.revise.proofs.Counts.{count-most, put-most, put-same, out-most, out-less, add-room, add-live, add-full}
+use Rattle.revise.proofs.Counts.{count-most, put-most, put-same, out-less, add-room, add-live, add-full}
 
 -- nothing is touched
 stays : (t w : List ℕ) (n : ℕ) → Leaves t t w w n
@@ -86,18 +86,14 @@ lent-long {t} l = sized-long t (l .sized)
 pub bound-few : (t : List ℕ) {bound : ℕ} → headerOk (length t) (headOf t) ≡ true → bound ≡ headOf t .bound → bound ≤ capacity (length t)
 bound-few t ok e = omega (arith, e, head-facts (length t) (headOf t) ok .bound-most)
 
--- a bound at capacity is not 0
-pub bound-some : (t : List ℕ) {bound : ℕ} → headerOk (length t) (headOf t) ≡ true → capacity (length t) ≤ bound → 1 ≤ bound
-bound-some t ok h = omega (arith, h, header-least t ok)
-
 -- ---- the lookup
 
 module _ {t : List ℕ} {k : ℕ} {r : Looked} (g : LookupPost t k r) where
   pub looked-live : {a : ℕ} → r ≡ Live a → live t k ≡ some a
-  looked-live e = subst (λ (x : Looked). Says x (live t k)) e (g .says)
+  looked-live e = subst (λ (x : Looked). Says x (live t k)) e (looked-says g)
 
   pub looked-none : r ≡ Nothing → live t k ≡ none
-  looked-none e = subst (λ (x : Looked). Says x (live t k)) e (g .says)
+  looked-none e = subst (λ (x : Looked). Says x (live t k)) e (looked-says g)
 
 -- ---- Add
 
@@ -116,7 +112,7 @@ module _ (t w : List ℕ) (s : Spot) where
   add-header b e h = revised-header t w (addDue t s) _ _ b refl e h
 
   pub add-lost : {r : Looked} → LookupPost t (s .key) r → r ≡ Broken → Added t t w w s 3
-  add-lost g e = revised-broken t w (addDue t s) _ _ refl (λ h. g .whole h e)
+  add-lost g e = revised-broken t w (addDue t s) _ _ refl (λ h. looked-whole g h e)
 
   module _ {t′ w′ : List ℕ} {n : ℕ} (ok : headerOk (length t) (headOf t) ≡ true) where
     -- the bound is below capacity
@@ -167,13 +163,30 @@ module _ (t w : List ℕ) (k : ℕ) where
   drop-header b e h = revised-header t w 0 _ _ b refl e h
 
   pub drop-lost : {r : Looked} → LookupPost t k r → r ≡ Broken → Dropped t t w w k 3
-  drop-lost g e = revised-broken t w 0 _ _ refl (λ h. g .whole h e)
+  drop-lost g e = revised-broken t w 0 _ _ refl (λ h. looked-whole g h e)
 
-  module _ {t′ w′ : List ℕ} {n bound : ℕ} (ok : headerOk (length t) (headOf t) ≡ true) (e : bound ≡ headOf t .bound) where
-    -- the bound stays
-    pub drop-any : OutWithin t t′ w w′ k bound n → Dropped t t′ w w′ k n
-    drop-any g = revised-within 0 _ ok refl refl (λ h. refl) (λ h. omega (arith, out-most t h k, count-most t h)) g
+  -- a key is live, and the bound is 0
+  pub drop-uncounted : {bound a : ℕ} → bound ≡ headOf t .bound → live t k ≡ some a → bound ≡ 0 → Dropped t t w w k 3
+  drop-uncounted e l z = revised-broken t w 0 _ _ refl (λ h. omega (arith, out-less t h k l, count-most t h))
 
-    -- the bound falls
-    pub drop-live : {a : ℕ} → live t k ≡ some a → OutWithin t t′ w w′ k (bound - 1) n → Dropped t t′ w w′ k n
-    drop-live l g = revised-within 0 _ ok refl refl (λ h. refl) (λ h. omega (arith, out-less t h k l, count-most t h)) g
+  -- a key that is not live: to take it out changes nothing
+  pub drop-none : headerOk (length t) (headOf t) ≡ true → live t k ≡ none → Dropped t t w w k 0
+  unfolding withKey
+  drop-none ok e =
+      record {
+        leaves = stays t w 0;
+        header = λ h. absurd (true≢false (sym ok ∙ h));
+        numbers = refl;
+        numberIs = λ h. refl;
+        staysSound = λ h. h;
+        liveAfter = λ h z j. go (eqb j k) j refl;
+      }
+    where
+      go : (b : Bool) (j : ℕ) → eqb j k ≡ b → live t j ≡ cond b none (live t j)
+      go true j h = ap (live t) (eqb-true j k h) ∙ e
+      go false j h = refl
+
+  -- the bound falls
+  pub drop-live : {t′ w′ : List ℕ} {n bound a : ℕ} → headerOk (length t) (headOf t) ≡ true → bound ≡ headOf t .bound → live t k ≡ some a
+      → OutWithin t t′ w w′ k (bound - 1) n → Dropped t t′ w w′ k n
+  drop-live ok e l g = revised-within 0 _ ok refl refl (λ h. refl) (λ h. omega (arith, out-less t h k l, count-most t h)) g

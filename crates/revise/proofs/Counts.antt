@@ -18,9 +18,9 @@ use Rattle.spot.proofs.Canon.{canon, find-without, without-rises, length-put, l
 use Rattle.block.specs.Table.{capacity}
 use Rattle.block.specs.Header.{headOf}
 use Rattle.tree.specs.Lookup.{orElse, live, withKey}
-use Rattle.tree.specs.Sound.{sound}
+use Rattle.tree.specs.Sound.{sound, Shaped}
 use Rattle.tree.specs.Walk.{liveSpots, liveCount}
-use Rattle.tree.proofs.Tables.{Shaped, tree-rises, tree-finds, live-rises, live-finds, counted}
+use Rattle.tree.proofs.Tables.{tree-rises, tree-finds, live-rises, live-finds, counted}
 use Rattle.tree.proofs.Says.{find-replaced, replaced-rises}
 use Rattle.batch.specs.Batches.{batchSays}
 use Rattle.revise.specs.Numbers.{addNumber}
@@ -96,9 +96,6 @@ module _ (t : List ℕ) (h : sound t ≡ true) where
         omega (arith, live-are t, length-put s (without (s .key) (liveSpots t)), out-fewer (s .key) a (liveSpots t) (live-rises t h) (live-finds t h (s .key) ∙ e))
 
   module _ (k : ℕ) where
-    pub out-most : length (without k (liveSpots t)) ≤ liveCount t
-    out-most = omega (arith, live-are t, length-without k (liveSpots t))
-
     pub out-less : {a : ℕ} → live t k ≡ some a → length (without k (liveSpots t)) + 1 ≤ liveCount t
     out-less {a} e = omega (arith, live-are t, out-fewer k a (liveSpots t) (live-rises t h) (live-finds t h k ∙ e))
 

@@ -51,7 +51,8 @@ fn put_counted(table: &mut [u8], scratch: &mut [u8], s: spot::Spot) -> u32
     put_within(table, scratch, s, all.spots as u64 + 1)
 }
 
-// Add: 4 where the table holds as many spots as it may and the key is not live. Below that the bound grows by one without a look.
+// Add: 4 where the table holds as many spots as it may and the key is not live. The bound grows only with a key that is not live: as long as only these calls write, it is
+// the number of live spots, and whether the table is full is counted only where it is at capacity.
 pub fn put_spot(table: &mut [u8], scratch: &mut [u8], s: spot::Spot) -> u32
     requires { ⌜ Lent (now table) (now scratch) ⌝ }
     ensures { λ r. ⌜ Revised (now (table .entry)) (now (table .exit)) (now (scratch .entry)) (now (scratch .exit)) (addNumber (length (now (table .entry))) (liveCount (now (table .entry))) (isLive (live (now (table .entry)) (s .key)))) (0 ∷ 3 ∷ 4 ∷ []) (withKey (s .key) (some (s .track)) (live (now (table .entry)))) r ⌝ }
@@ -59,15 +60,16 @@ pub fn put_spot(table: &mut [u8], scratch: &mut [u8], s: spot::Spot) -> u32
     if !block::header_ok(table) {
         return 3;
     }
-    let most = block::capacity_of(table.len()) as u64;
     let bound = block::bound_of(table);
-    if bound < most {
-        return put_within(table, scratch, s, bound + 1);
-    }
     match lookup::look_up(table, s.key) {
         lookup::Looked::Broken => 3,
         lookup::Looked::Live(_) => put_within(table, scratch, s, bound),
-        lookup::Looked::Nothing => put_counted(table, scratch, s),
+        lookup::Looked::Nothing => {
+            if bound < block::capacity_of(table.len()) as u64 {
+                return put_within(table, scratch, s, bound + 1);
+            }
+            put_counted(table, scratch, s)
+        }
     }
 }
 
@@ -87,7 +89,7 @@ fn take_within(table: &mut [u8], scratch: &mut [u8], k: u64, bound: u64) -> u32
     3
 }
 
-// Withdraw: at capacity the key is looked up, so that the bound falls with a live one and the next Add need not count.
+// Withdraw: nothing is written where the key is not live. The bound falls with one that is, so that it stays the number of live spots; it is 0 there only if it was wrong before.
 pub fn take_key(table: &mut [u8], scratch: &mut [u8], k: u64) -> u32
     requires { ⌜ Lent (now table) (now scratch) ⌝ }
     ensures { λ r. ⌜ Revised (now (table .entry)) (now (table .exit)) (now (scratch .entry)) (now (scratch .exit)) 0 (0 ∷ 3 ∷ []) (withKey k none (live (now (table .entry)))) r ⌝ }
@@ -95,14 +97,15 @@ pub fn take_key(table: &mut [u8], scratch: &mut [u8], k: u64) -> u32
     if !block::header_ok(table) {
         return 3;
     }
-    let most = block::capacity_of(table.len()) as u64;
     let bound = block::bound_of(table);
-    if bound < most {
-        return take_within(table, scratch, k, bound);
-    }
     match lookup::look_up(table, k) {
         lookup::Looked::Broken => 3,
-        lookup::Looked::Live(_) => take_within(table, scratch, k, bound - 1),
-        lookup::Looked::Nothing => take_within(table, scratch, k, bound),
+        lookup::Looked::Live(_) => {
+            if bound == 0 {
+                return 3;
+            }
+            take_within(table, scratch, k, bound - 1)
+        }
+        lookup::Looked::Nothing => 0,
     }
 }

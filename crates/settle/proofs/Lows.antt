@@ -15,14 +15,11 @@ use Rattle.spot.proofs.Places.{within-from, within-to, within-yes}
 use Rattle.block.specs.declared.Entry.{Entry}
 use Rattle.block.specs.Node.{openBelow}
 use Rattle.block.specs.NodeRules.{zeroFirst, lows}
+use Rattle.block.proofs.Views.{lows-append}
 use Rattle.tree.specs.Part.{nextLow}
 use Rattle.update.proofs.Spread.{start}
 use Rattle.update.proofs.Spare.{lows-first, lows-two, lows-same}
 use Rattle.settle.specs.Settling.{LowsFit}
-
-pub lows-append : (us vs : List Entry) → lows (us ++ vs) ≡ lows us ++ lows vs
-lows-append [] vs = refl
-lows-append (u ∷ us) vs = ap (λ (r : List ℕ). u .low ∷ r) (lows-append us vs)
 
 -- the rules are of the lows alone
 pub lows-as : (lo hi : ℕ) (es es′ : List Entry) → lows es′ ≡ lows es → LowsFit lo hi es → LowsFit lo hi es′

@@ -3,14 +3,15 @@
 use mathlib.Core.Path.{_≡_, refl, ap, sym, _∙_, subst, subst⁻¹}
 use mathlib.Core.Logic.{_⊎_, inl, inr, ⊎-elim}
 use mathlib.Core.Bool.{Bool, true, false, not, cond, false≢true}
-use mathlib.Core.List.{List, [], _∷_, _++_, List·Memᴰ, List·Memᴰ·head, List·Memᴰ·tail, List·Memᴰ·not-nil, List·Memᴰ·cases-cons, Memᴰ·append-left, Memᴰ·append-right, List·Memᴰ·append-cases}
+use mathlib.Core.List.{List, [], _∷_, _++_, List·Memᴰ, List·Memᴰ·head, List·Memᴰ·not-nil, List·Memᴰ·cases-cons, Memᴰ·append-right}
 use mathlib.Core.Option.{Option, none}
 use Prim.Native.Nat.{ℕ, suc, _-_, _≤_, _<_}
 use native.Mathlib.Omega.{arith}
-use lib.ListN.{length, take, drop}
+use lib.ListN.{length, take, drop, length-append}
 use borrow.Author.Tests.{eqb-true}
 use Rattle.octets.proofs.Tests.{cond-mem, keep-mem}
-use Rattle.octets.proofs.Sets.{Apart}
+use Rattle.octets.specs.Sets.{Apart}
+use Rattle.octets.proofs.Lists.{mem-more, mem-three}
 use Rattle.spot.specs.Keys.{within}
 use Rattle.spot.specs.Spots.{keys}
 use Rattle.spot.specs.declared.Spot.{Spot}
@@ -24,17 +25,17 @@ use Rattle.block.specs.NodeRules.{zeroFirst, lows}
 use Rattle.buffer.specs.Buffer.{held, named, Ordered, OrderedKeys}
 use Rattle.buffer.specs.declared.SpotBuffer.{SpotBuffer}
 use Rattle.buffer.specs.declared.KeyBuffer.{KeyBuffer}
-use Rattle.tree.specs.Part.{Part, nextLow, parts}
+use Rattle.tree.specs.Part.{Part, nextLow, parts, Steps}
 use Rattle.tree.specs.Lookup.{lookup}
-use Rattle.tree.proofs.Ranges.{Steps, part-bounds}
+use Rattle.tree.proofs.Ranges.{part-bounds}
 use Rattle.update.specs.Held.{Held}
-use Rattle.update.proofs.Change.{reaches, Sound, Changed}
-use Rattle.update.proofs.Spare.{Taken, Within}
+use Rattle.update.specs.Change.{part, reaches, Sound, Changed}
+use Rattle.update.specs.Spare.{Taken, Within}
+use Rattle.update.specs.Open.{Open}
+use Rattle.update.specs.Going.{Going}
 use Rattle.update.proofs.Spread.{start, childAt, parts-one}
-use Rattle.update.proofs.Open.{Open}
 use Rattle.update.proofs.Cut.{open-push-I, open-push-D}
-use Rattle.update.proofs.Going.{Going, going-start, going-child, going-fresh, going-on}
-use Rattle.update.proofs.Loose.{part}
+use Rattle.update.proofs.Going.{going-start, going-child, going-fresh, going-on}
 use Rattle.node.specs.Memory.{entriesOf, EntryFits, EntryAt}
 use Rattle.node.specs.declared.Entries.{Entries}
 use Rattle.node.specs.declared.NodeValue.{NodeValue}
@@ -51,7 +52,7 @@ use Rattle.batch.specs.Batches.{batchSays, Parted, byInserts, byDeletes, Pickin
 use Rattle.batch.proofs.Opened.{child-range}
 use Rattle.settle.specs.declared.Settled.{Settled}
 use Rattle.settle.specs.declared.Worked.{Worked}
-use Rattle.settle.specs.Settling.{became, LowsFit, Opened, WorkedTo, Pushable, WorkPost, SettledTo, SettlePost}
+use Rattle.settle.specs.Settling.{LowsFit, Opened, WorkedTo, Pushable, WorkPost, SettledTo, SettlePost}
 use Rattle.settle.proofs.Lows.{zero-put, lows-one, lows-both}
 
 -- the answer, in other words
@@ -107,18 +108,11 @@ cond-cons false f g = refl
 
 -- no entry of the others went
 more-put : (us vs fs : List Entry) (e f : Entry) → length (us ++ (e ∷ vs)) ≤ length (us ++ ((f ∷ fs) ++ vs))
-more-put [] vs fs e f = go fs
-  where
-    go : (gs : List Entry) → suc (length vs) ≤ suc (length (gs ++ vs))
-    go [] = omega arith
-    go (g ∷ gs) = let z = go gs in omega arith
-more-put (u ∷ us) vs fs e f = let z = more-put us vs fs e f in omega arith
+more-put us vs fs e f = omega (arith, length-append us (e ∷ vs), length-append us ((f ∷ fs) ++ vs), length-append (f ∷ fs) vs)
 
 member-put : (us vs fs : List Entry) (e f : Entry) {d : Entry} → List·Memᴰ d (us ++ ((f ∷ fs) ++ vs)) → (d ≡ f) ⊎ (List·Memᴰ d fs ⊎ List·Memᴰ d (us ++ (e ∷ vs)))
 member-put us vs fs e f i =
-    ⊎-elim (λ j. inr (inr (Memᴰ·append-left (e ∷ vs) j)))
-    (λ j. ⊎-elim inl (λ k. ⊎-elim (λ v. inr (inl v)) (λ v. inr (inr (Memᴰ·append-right us (List·Memᴰ·tail v)))) (List·Memᴰ·append-cases fs k)) (List·Memᴰ·cases-cons j))
-    (List·Memᴰ·append-cases us i)
+    ⊎-elim (λ j. ⊎-elim inl (λ k. inr (inl k)) (List·Memᴰ·cases-cons j)) (λ j. inr (inr (mem-more us e vs j))) (mem-three us (f ∷ fs) vs i)
 
 -- the low of a child is not above its range
 first-low : (lo : ℕ) (us vs : List Entry) (e : Entry) → zeroFirst (lows (us ++ (e ∷ vs))) ≡ true → e .low ≤ start lo us (e .low)

@@ -1,26 +1,29 @@
 -- A node that was read and took in a batch stands for its block; it, or each of its halves, may be worked on.
 -- Assumes nothing.
-use mathlib.Core.Path.{_≡_, refl, ap, sym, _∙_, subst, subst⁻¹}
-use mathlib.Core.Logic.{_⊎_, inl, inr, ⊎-elim}
+use mathlib.Core.Path.{_≡_, refl, ap, sym, _∙_, subst⁻¹}
+use mathlib.Core.Logic.{inl, inr, ⊎-elim}
 use mathlib.Core.Bool.{Bool, true, false}
-use mathlib.Core.List.{List, [], _∷_, List·Memᴰ, List·Memᴰ·head, List·Memᴰ·tail, List·Memᴰ·cases-cons, Memᴰ·append-left, Memᴰ·append-right}
+use mathlib.Core.List.{List, [], _∷_, List·Memᴰ}
 use Prim.Native.Nat.{ℕ, _-_, _/_, _≤_, _<_}
 use native.Mathlib.Omega.{arith}
-use lib.ListN.{length, take, drop, take-append-drop}
+use lib.ListN.{length, drop}
 use lib.Seq.{length-take-le}
 use Rattle.octets.specs.Lists.{rest, rising}
 use Rattle.octets.proofs.Order.{same-or-not}
+use Rattle.octets.proofs.Lists.{mem-take, mem-drop}
 use Rattle.spot.specs.declared.Spot.{Spot}
 use Rattle.block.specs.declared.Entry.{Entry}
 use Rattle.block.specs.declared.Asked.{Asked}
 use Rattle.block.specs.Table.{blocksOf}
-use Rattle.block.specs.Node.{Node, storeOf, openBelow, firstOpen}
+use Rattle.block.specs.Node.{Node, storeOf, firstOpen}
 use Rattle.block.specs.NodeRules.{zeroFirst, lows, nodeOk}
 use Rattle.block.proofs.Facts.{NodeFacts, node-facts}
+use Rattle.block.proofs.Views.{open-all}
 use Rattle.buffer.proofs.Laws.{held-length, named-length}
 use Rattle.node.specs.Memory.{entriesOf, nodeIn, EntriesFit, EntryFits, Loaded}
 use Rattle.node.specs.declared.Entries.{Entries}
 use Rattle.node.specs.declared.NodeValue.{NodeValue}
+use Rattle.node.proofs.Fits.{open-fits}
 use Rattle.edit.specs.Edits.{Half}
 use Rattle.journal.specs.Journal.{Kept}
 use Rattle.fill.specs.Filling.{Inside}
@@ -112,20 +115,6 @@ push-kept p k h =
 
 -- ---- the halves
 
-in-before : (i : ℕ) (es : List Entry) {d : Entry} → List·Memᴰ d (take i es) → List·Memᴰ d es
-in-before i es {d} j = subst (λ (q : List Entry). List·Memᴰ d q) (take-append-drop i es) (Memᴰ·append-left (drop i es) j)
-
-in-from : (i : ℕ) (es : List Entry) {d : Entry} → List·Memᴰ d (drop i es) → List·Memᴰ d es
-in-from i es {d} j = subst (λ (q : List Entry). List·Memᴰ d q) (take-append-drop i es) (Memᴰ·append-right (take i es) j)
-
--- what is asked of entries, but for their low, holds of the first with its low put to 0
-open-all : (P : Entry → Type 0) → ((d : Entry) → P d → P (openBelow d)) → (es : List Entry) → ((d : Entry) → List·Memᴰ d es → P d) → (d : Entry) → List·Memᴰ d (firstOpen es) → P d
-open-all P o [] h d i = h d i
-open-all P o (e ∷ es) h d i = ⊎-elim (λ (q : d ≡ openBelow e). subst⁻¹ P q (o e (h e (List·Memᴰ·head refl)))) (λ j. h d (List·Memᴰ·tail j)) (List·Memᴰ·cases-cons i)
-
-open-fits : (d : Entry) → EntryFits d → EntryFits (openBelow d)
-open-fits d f = record { block = f .block; size = f .size; top = f .top; bottom = f .bottom }
-
 -- the entries of a half: their lows, and how many
 abbrev Fine : List Entry → Type 0
 Fine es = (zeroFirst (lows es) ≡ true) × (rising (rest (lows es)) ≡ true) × (length es ≤ 8)
@@ -181,10 +170,10 @@ module _ {t s map : List ℕ} {b level : ℕ} {asked : Asked} {n : NodeValue} {h
 
   pub left-push : h .left .points .n ≤ 64 → Pushable t s map (h .left) level spare (left - 1)
   left-push p =
-      half-push (hv .left) p fine-left (λ d i. st .entries .each d (in-before (n .entries .n / 2) (entriesOf (n .entries)) i)) (λ d i. st .children d (in-before (n .entries .n / 2) (entriesOf (n .entries)) i))
+      half-push (hv .left) p fine-left (λ d i. st .entries .each d (mem-take (n .entries .n / 2) (entriesOf (n .entries)) i)) (λ d i. st .children d (mem-take (n .entries .n / 2) (entriesOf (n .entries)) i))
 
   pub right-push : h .right .points .n ≤ 64 → Pushable t s map (h .right) level spare (left - 1)
   right-push p =
       half-push (hv .right) p fine-right
-      (open-all EntryFits open-fits (drop (n .entries .n / 2) (entriesOf (n .entries))) (λ d i. st .entries .each d (in-from (n .entries .n / 2) (entriesOf (n .entries)) i)))
-      (open-all (λ d. (1 ≤ d .block) × (d .block < blocksOf (length t))) (λ d q. q) (drop (n .entries .n / 2) (entriesOf (n .entries))) (λ d i. st .children d (in-from (n .entries .n / 2) (entriesOf (n .entries)) i)))
+      (open-fits (drop (n .entries .n / 2) (entriesOf (n .entries))) (λ d i. st .entries .each d (mem-drop (n .entries .n / 2) (entriesOf (n .entries)) i)))
+      (open-all (λ d. (1 ≤ d .block) × (d .block < blocksOf (length t))) (λ d q. q) (drop (n .entries .n / 2) (entriesOf (n .entries))) (λ d i. st .children d (mem-drop (n .entries .n / 2) (entriesOf (n .entries)) i)))

@@ -1,22 +1,23 @@
 -- After the push the node is filled, and its sizes are tested.
 -- Assumes nothing.
-use mathlib.Core.Path.{_≡_, refl, ap, sym, _∙_}
+use mathlib.Core.Path.{_≡_, ap, sym, _∙_}
 use mathlib.Core.Logic.{inl}
 use mathlib.Core.Bool.{Bool, true, false, true≢false}
-use mathlib.Core.List.{List, [], _∷_, List·Memᴰ·not-nil}
+use mathlib.Core.List.{List, [], List·Memᴰ·not-nil}
 use mathlib.Core.Option.{Option}
-use Prim.Native.Nat.{ℕ, suc, _≤_}
+use Prim.Native.Nat.{ℕ, _≤_}
 use native.Mathlib.Omega.{arith}
 use lib.ListN.{length}
 use Rattle.block.specs.declared.Entry.{Entry}
 use Rattle.block.specs.Node.{Store, storeOf}
-use Rattle.block.specs.NodeRules.{zeroFirst, lows}
+use Rattle.block.specs.NodeRules.{zeroFirst}
+use Rattle.block.proofs.Views.{length-lows}
 use Rattle.tree.specs.Part.{parts}
 use Rattle.update.specs.Held.{Held}
+use Rattle.update.specs.Spare.{Taken}
+use Rattle.update.specs.Open.{under}
+use Rattle.update.specs.Going.{Going}
 use Rattle.update.proofs.Change.{changed-trans}
-use Rattle.update.proofs.Spare.{Taken}
-use Rattle.update.proofs.Open.{under}
-use Rattle.update.proofs.Going.{Going}
 use Rattle.node.specs.Memory.{entriesOf}
 use Rattle.node.specs.declared.NodeValue.{NodeValue}
 use Rattle.edit.specs.Edits.{heldIn}
@@ -39,10 +40,6 @@ going-further l lo hi x s es y s₁ r es₁ b f w r₂ es₂ b₂ g h =
       spare = g .spare;
       less = g .less;
     }
-
-length-lows : (es : List Entry) → length (lows es) ≡ length es
-length-lows [] = refl
-length-lows (e ∷ es) = ap suc (length-lows es)
 
 -- the push failed
 pub refine-fails : {t t′ s′ map′ : List ℕ} {level : ℕ} {n : NodeValue} {spare : Spare} {left : ℕ} {w : Worked} → WorkPost t t′ s′ map′ level n spare left w → w .ok ≡ false

@@ -9,7 +9,7 @@ use Prim.Native.Nat.{ℕ, zero, suc, _-_, _/_, _≤_, _<_}
 use native.Mathlib.Omega.{arith}
 use lib.ListN.{length, take, drop}
 use lib.Dec.{ltb, leb}
-use Rattle.octets.proofs.Sets.{Apart}
+use Rattle.octets.specs.Sets.{Apart}
 use Rattle.spot.proofs.Places.{within-from, within-to}
 use Rattle.block.specs.declared.Entry.{Entry}
 use Rattle.block.specs.declared.Asked.{Asked}
@@ -17,17 +17,18 @@ use Rattle.block.specs.declared.Asked.the-variants.{Child}
 use Rattle.block.specs.Table.{blocksOf}
 use Rattle.block.specs.Node.{Store, storeOf, openBelow, firstOpen}
 use Rattle.block.specs.NodeRules.{fewest}
-use Rattle.tree.specs.Part.{Part, parts}
+use Rattle.tree.specs.Part.{Part, parts, lowOf}
 use Rattle.tree.specs.Reach.{reach}
 use Rattle.tree.proofs.Gather.{gather-append}
-use Rattle.tree.proofs.Entries.{lowOf}
 use Rattle.update.specs.Held.{Held}
-use Rattle.update.proofs.Change.{reaches, Sound, Changed, changed-refl, changed-trans}
-use Rattle.update.proofs.Spare.{Taken, Within}
+use Rattle.update.specs.Change.{part, reaches, Sound, Changed}
+use Rattle.update.specs.Spare.{Taken, Within}
+use Rattle.update.specs.Open.{under, Open}
+use Rattle.update.proofs.Change.{changed-refl, changed-trans}
 use Rattle.update.proofs.Close.{settle-two}
-use Rattle.update.proofs.Open.{under, Open, open-frame}
+use Rattle.update.proofs.Open.{open-frame}
 use Rattle.update.proofs.Cut.{halfOf, leaf-cut, open-left, open-right, cut-changed}
-use Rattle.update.proofs.Loose.{part, reach-step}
+use Rattle.update.proofs.Loose.{reach-step}
 use Rattle.node.specs.Memory.{entriesOf, nodeIn, EntryAt}
 use Rattle.node.specs.declared.NodeValue.{NodeValue}
 use Rattle.edit.specs.Edits.{heldIn}

@@ -7,12 +7,12 @@ use mathlib.Core.List.{List, [], _∷_, List·Memᴰ, List·Memᴰ·tail, Memᴰ
 use mathlib.Core.Option.{Option}
 use Prim.Native.Nat.{ℕ, suc, _≤_, _<_}
 use native.Mathlib.Omega.{arith}
-use lib.ListN.{length}
+use lib.ListN.{length, length-take}
 use lib.Dec.{eqb, leb}
 use borrow.Author.Tests.{eq-eqb, eqb-true, le-leb, lt-ltb}
 use Rattle.octets.specs.Lists.{all, isEmpty, every, rest}
+use Rattle.octets.specs.Sets.{Apart}
 use Rattle.octets.proofs.Tests.{all-at, all-cons, all-nil, every-make}
-use Rattle.octets.proofs.Sets.{Apart}
 use Rattle.spot.specs.declared.Spot.{Spot}
 use Rattle.spot.specs.Keys.{allKeys, within}
 use Rattle.spot.specs.Spots.{keys}
@@ -22,25 +22,24 @@ use Rattle.block.specs.declared.Asked.the-variants.{Root, Child}
 use Rattle.block.specs.Table.{blocksOf, blockOk}
 use Rattle.block.specs.Node.{Node, storeOf}
 use Rattle.block.specs.NodeRules.{lows, agrees, fewest, filled, lowest, childCountOk, childBlocksOk, lowsRise, leafBuffersEmpty}
-use Rattle.tree.specs.Part.{parts, children}
+use Rattle.tree.specs.Part.{parts, lowOf}
 use Rattle.tree.specs.Lookup.{lookup}
 use Rattle.tree.specs.Sound.{inRange}
 use Rattle.tree.proofs.Below.{sizes-filled, sizes-lowest}
 use Rattle.tree.proofs.Empty.{none-length}
-use Rattle.tree.proofs.Entries.{lowOf}
-use Rattle.update.proofs.Change.{reaches, Sound, Changed}
-use Rattle.update.proofs.Spare.{Taken}
+use Rattle.update.specs.Change.{part, reaches, Sound, Changed}
+use Rattle.update.specs.Spare.{Taken}
+use Rattle.update.specs.Open.{Open}
+use Rattle.update.specs.Going.{Going}
+use Rattle.update.specs.Rounds.{Full}
 use Rattle.update.proofs.Close.{Shape}
-use Rattle.update.proofs.Open.{Open}
-use Rattle.update.proofs.Going.{Going, going-done}
-use Rattle.update.proofs.Rounds.{Full}
-use Rattle.update.proofs.Loose.{part, opened, reach-step}
+use Rattle.update.proofs.Going.{going-done}
+use Rattle.update.proofs.Loose.{opened, reach-step}
 use Rattle.node.specs.Memory.{entriesOf, nodeIn}
 use Rattle.node.specs.declared.NodeValue.{NodeValue}
 use Rattle.node.proofs.Laws.{stored-else}
 use Rattle.edit.specs.Edits.{heldIn}
 use Rattle.journal.specs.Journal.{Undoable}
-use Rattle.fill.proofs.Works.{few}
 use Rattle.spare.specs.declared.Spare.{Spare}
 use Rattle.spare.specs.Spares.{spareOf}
 use Rattle.batch.specs.Batches.{batchSays}
@@ -73,7 +72,7 @@ module _ {t t′ s′ map′ : List ℕ} {level : ℕ} {n : NodeValue} {spare : 
       go false e =
           let z = g .least (λ h. true≢false (sym (eq-eqb (m .level) 0 (p .work .works .level ∙ h)) ∙ e)) in
           all-cons _ _ (le-leb (fewest a) (length (entriesOf (m .entries))) (omega (arith, p .work .more ok)))
-          (all-cons _ _ (le-leb (length (entriesOf (m .entries))) 8 (let y = few (m .entries .n) (m .entries .list) in omega (arith, p .work .works .entries .few))) all-nil)
+          (all-cons _ _ (le-leb (length (entriesOf (m .entries))) 8 (let y = length-take (m .entries .n) (m .entries .list) in omega (arith, p .work .works .entries .few))) all-nil)
 
   leaf : leafBuffersEmpty (nodeIn room m) ≡ true
   unfolding leafBuffersEmpty
@@ -82,16 +81,16 @@ module _ {t t′ s′ map′ : List ℕ} {level : ℕ} {n : NodeValue} {spare : 
       go : (q : Bool) → eqb (m .level) 0 ≡ q → cond q (all (isEmpty (heldIn m .inserts) ∷ isEmpty (heldIn m .deletes) ∷ [])) true ≡ true
       go true e =
           let z : level ≡ 0 = sym (p .work .works .level) ∙ eqb-true (m .level) 0 e in
-          let i = few (m .inserts .n) (m .inserts .spots) in
-          let d = few (m .deletes .n) (m .deletes .keys) in
+          let i = length-take (m .inserts .n) (m .inserts .spots) in
+          let d = length-take (m .deletes .n) (m .deletes .keys) in
           all-cons _ _ (none-length (heldIn m .inserts) (omega (arith, p .work .mostI, g .leafI z))) (all-cons _ _ (none-length (heldIn m .deletes) (omega (arith, p .work .mostD, g .leafD z))) all-nil)
       go false e = refl
 
   sizes : Full (entriesOf (m .entries)) (heldIn m) → (filled (nodeIn room m) || lowest (nodeIn room m)) ≡ true
   sizes (inl h) =
-      let a = few (m .points .n) (m .points .spots) in
-      let b = few (m .inserts .n) (m .inserts .spots) in
-      let c = few (m .deletes .n) (m .deletes .keys) in
+      let a = length-take (m .points .n) (m .points .spots) in
+      let b = length-take (m .inserts .n) (m .inserts .spots) in
+      let c = length-take (m .deletes .n) (m .deletes .keys) in
       sizes-filled (nodeIn room m) h (omega (arith, p .work .works .points)) (omega (arith, p .fewI ok)) (omega (arith, p .fewD ok))
   sizes (inr h) = sizes-lowest (nodeIn room m) (h .0) (h .1) (h .2) (h .3)
 

@@ -1,6 +1,6 @@
 -- What the tests of push, refine and split leave known, and what they ask of the functions that they call.
 -- Assumes nothing.
-use mathlib.Core.Path.{_≡_, refl, sym, _∙_}
+use mathlib.Core.Path.{_≡_, sym, _∙_}
 use mathlib.Core.Logic.{_⊎_, inl, inr}
 use mathlib.Core.Bool.{Bool, true, false, _&&_, _||_, true≢false}
 use mathlib.Core.List.{List, [], _∷_, _++_}
@@ -9,7 +9,7 @@ use native.Mathlib.Omega.{arith}
 use lib.ListN.{length}
 use lib.Dec.{eqb, leb, ltb}
 use borrow.Author.Tests.{eq-eqb, leb-true, leb-false, ltb-false}
-use Rattle.octets.proofs.Tests.{and-left, and-right}
+use Rattle.octets.proofs.Tests.{and-left, and-right, neither}
 use Rattle.spot.specs.declared.Spot.{Spot}
 use Rattle.block.specs.declared.Asked.{Asked}
 use Rattle.block.specs.Table.{blocksOf}
@@ -25,15 +25,11 @@ use Rattle.settle.specs.declared.Worked.{Worked}
 use Rattle.settle.specs.Settling.{Standing, Cuttable, RefinePost}
 use Rattle.settle.proofs.Storing.{Received}
 
-or-none : (a b : Bool) → a || b ≡ false → (a ≡ false) × (b ≡ false)
-or-none true b e = absurd (true≢false e)
-or-none false b e = (refl, e)
-
 -- a node that has a child, and room for one more
 pub may-push : (level k : ℕ) → ((eqb level 0 || eqb k 0) || leb 8 k) ≡ false → (level ≡ 0 → ⊥) × (0 < k) × (k < 8)
 may-push level k e =
-    let a = or-none (eqb level 0 || eqb k 0) (leb 8 k) e in
-    let b = or-none (eqb level 0) (eqb k 0) (a .0) in
+    let a = neither (eqb level 0 || eqb k 0) (leb 8 k) e in
+    let b = neither (eqb level 0) (eqb k 0) (a .0) in
     let no-zero : k ≡ 0 → ⊥ = λ z. true≢false (sym (eq-eqb k 0 z) ∙ b .1) in
     (λ z. true≢false (sym (eq-eqb level 0 z) ∙ b .0), omega (arith, no-zero), leb-false 8 k (a .1))
 
@@ -45,7 +41,7 @@ sizes-right a i d e =
 
 -- two halves of few points
 pub both-few : (i j : ℕ) → (ltb 64 i || ltb 64 j) ≡ false → (i ≤ 64) × (j ≤ 64)
-both-few i j e = let a = or-none (ltb 64 i) (ltb 64 j) e in (ltb-false 64 i (a .0), ltb-false 64 j (a .1))
+both-few i j e = let a = neither (ltb 64 i) (ltb 64 j) e in (ltb-false 64 i (a .0), ltb-false 64 j (a .1))
 
 -- it can be halved
 pub cut-halves : {depth : ℕ} (n : NodeValue) → Cuttable depth n → ((n .entries .n ≡ 0) × (2 ≤ n .points .n)) ⊎ (n .entries .n ≡ 8)

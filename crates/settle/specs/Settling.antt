@@ -10,7 +10,7 @@ use mathlib.Core.List.{List, [], _∷_, List·Memᴰ}
 use mathlib.Core.Option.{Option}
 use lib.ListN.{length}
 use Rattle.octets.specs.Lists.{every, rest, rising}
-use Rattle.octets.proofs.Sets.{Apart}
+use Rattle.octets.specs.Sets.{Apart}
 use Rattle.spot.specs.Keys.{allKeys, within}
 use Rattle.spot.specs.Spots.{keys}
 use Rattle.spot.specs.declared.Spot.{Spot}
@@ -20,15 +20,13 @@ use Rattle.block.specs.declared.Asked.the-variants.{Root, Child}
 use Rattle.block.specs.Table.{blocksOf}
 use Rattle.block.specs.Node.{Store, storeOf}
 use Rattle.block.specs.NodeRules.{zeroFirst, lows, fewest}
-use Rattle.tree.specs.Part.{Part, parts}
+use Rattle.tree.specs.Part.{Part, parts, lowOf}
 use Rattle.tree.specs.Lookup.{lookup}
-use Rattle.tree.proofs.Entries.{lowOf}
-use Rattle.update.proofs.Change.{reaches, Sound, Changed}
-use Rattle.update.proofs.Spare.{Taken}
-use Rattle.update.proofs.Open.{Open}
-use Rattle.update.proofs.Going.{Going}
-use Rattle.update.proofs.Rounds.{Full}
-use Rattle.update.proofs.Loose.{part}
+use Rattle.update.specs.Change.{part, reaches, Sound, Changed}
+use Rattle.update.specs.Spare.{Taken}
+use Rattle.update.specs.Open.{Open}
+use Rattle.update.specs.Going.{Going}
+use Rattle.update.specs.Rounds.{Full}
 use Rattle.node.specs.Memory.{entriesOf, nodeIn, EntriesFit, EntryFits, Stored}
 use Rattle.node.specs.declared.NodeValue.{NodeValue}
 use Rattle.edit.specs.Edits.{heldIn, Tidy, EntryFor}

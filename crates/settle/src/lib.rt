@@ -4,7 +4,7 @@ ghost use mathlib.Core.Bool.{false};
 ghost use Prim.Native.Nat.{_<_};
 ghost use lib.ListN.{length};
 ghost use Rattle.block.specs.Table.{blocksOf};
-ghost use Rattle.tree.proofs.Entries.{lowOf};
+ghost use Rattle.tree.specs.Part.{lowOf};
 ghost use Rattle.buffer.specs.Buffer.{held, named};
 ghost use Rattle.node.specs.Memory.{Storable};
 ghost use Rattle.edit.specs.Edits.{Tidy};

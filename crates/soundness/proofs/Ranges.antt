@@ -32,9 +32,9 @@ use Rattle.block.proofs.Facts.{node-facts}
 use Rattle.block.proofs.Frames.{part-is}
 use Rattle.tree.specs.Sound.{inRange}
 use Rattle.visit.specs.declared.Span.{Span}
-use Rattle.visit.specs.Visit.{keysFrom, endOf, partOf}
+use Rattle.visit.specs.Visit.{keysFrom, Ready, endOf, partOf}
 use Rattle.visit.proofs.Spans.{before-end}
-use Rattle.visit.proofs.Runs.{keys-run, Ready, Runs, runs-of, points-ready, inserts-ready, deletes-ready}
+use Rattle.visit.proofs.Runs.{keys-run, Runs, runs-of, points-ready, inserts-ready, deletes-ready}
 use Rattle.query.proofs.Children.{lent, few-children}
 
 -- ---- keys that rise

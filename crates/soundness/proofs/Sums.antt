@@ -14,9 +14,9 @@ use Rattle.block.specs.HeaderRules.{headerOk}
 use Rattle.block.specs.Node.{storeOf}
 use Rattle.tree.specs.Part.{whole}
 use Rattle.tree.specs.Reach.{reach}
-use Rattle.tree.specs.Sound.{soundAt, mapExact, sound}
+use Rattle.tree.specs.Sound.{soundAt, mapExact, sound, Shaped}
 use Rattle.tree.specs.Walk.{Walk, isBroken, spots, liveSpots, liveCount}
-use Rattle.tree.proofs.Tables.{Shaped, tree-count}
+use Rattle.tree.proofs.Tables.{tree-count}
 use Rattle.query.specs.declared.Tally.{Tally}
 use Rattle.query.specs.Walks.{TableCounted}
 use Rattle.soundness.specs.Checks.{shapedBelow}

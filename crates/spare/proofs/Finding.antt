@@ -2,15 +2,17 @@
 -- Assumes nothing.
 use mathlib.Core.Path.{_≡_, refl, sym, ap, subst, _∙_}
 use mathlib.Core.Logic.{⊎-elim}
-use mathlib.Core.Bool.{Bool, true, false, true≢false}
-use mathlib.Core.List.{List, [], _∷_, _++_, List·Memᴰ, List·Memᴰ·not-nil, List·Memᴰ·cases-cons, append-nil}
+use mathlib.Core.Bool.{true, false, true≢false}
+use mathlib.Core.List.{List, [], _∷_, _++_, List·Memᴰ, List·Memᴰ·not-nil, List·Memᴰ·eq-of-singleton}
 use Prim.Native.Nat.{ℕ, zero, suc, _+_, _/_, _≤_, _<_}
 use native.Mathlib.Omega.{arith}
-use lib.ListN.{length, take, drop, replicate, drop-of-length-le, length-replicate}
+use lib.ListN.{length, take, drop, replicate, length-replicate}
 use lib.Seq.{take-take}
 use Rattle.octets.specs.Lists.{distinct}
 use Rattle.octets.specs.Bitmap.{bit, setBit, FirstClear}
 use Rattle.octets.proofs.Bits.{setBit-length, setBit-same, first-is-clear}
+use Rattle.octets.proofs.Lists.{mem-same, over-all}
+use Rattle.octets.proofs.Tests.{refuted}
 use Rattle.octets.proofs.Sets.{distinct-join}
 use Rattle.block.specs.Table.{blocksOf}
 use Rattle.block.specs.Header.{headOf}
@@ -20,7 +22,7 @@ use Rattle.block.proofs.Facts.{head-facts}
 use Rattle.block.proofs.Making.{sized-least}
 use Rattle.spare.specs.declared.Spare.{Spare}
 use Rattle.spare.specs.Spares.{spareOf, Clear, SpareIn}
-use Rattle.spare.proofs.Taking.{moved, last-or}
+use Rattle.spare.proofs.Taking.{last-or}
 use Rattle.spare.proofs.Marking.{set-stays}
 
 -- m′ is the map m with the blocks found marked
@@ -43,7 +45,7 @@ found-none m blocks s h =
     empty = ap (λ (k : ℕ). take k (s .blocks)) h
 
     none : (b : ℕ) → List·Memᴰ b (spareOf s (s .n)) → ⊥
-    none b i = List·Memᴰ·not-nil (moved empty b i)
+    none b i = List·Memᴰ·not-nil (mem-same empty i)
 
 -- one block more
 module _ (m : List ℕ) (blocks : ℕ) (m′ u : List ℕ) (s r : Spare) (n : ℕ) (f : Found m blocks m′ s) (first : FirstClear m′ n) (low : n < blocks)
@@ -55,17 +57,12 @@ module _ (m : List ℕ) (blocks : ℕ) (m′ u : List ℕ) (s r : Spare) (n : �
   was-clear : bit m′ n ≡ false
   was-clear = first-is-clear m′ n first
 
-  clear-before : (b : Bool) → bit m n ≡ b → bit m n ≡ false
-  clear-before true h = absurd (true≢false (sym (f .kept n h) ∙ was-clear))
-  clear-before false h = h
-
   -- what holds of the blocks before and of the new one
   each : (P : ℕ → Type 0) → ((b : ℕ) → List·Memᴰ b (spareOf s (s .n)) → P b) → P n → (b : ℕ) → List·Memᴰ b (spareOf r (r .n)) → P b
-  each P old new b i = ⊎-elim (λ j. old b j) (λ (q : b ≡ n). subst P (sym q) new) (last-or (spareOf s (s .n)) n b (moved more b i))
+  each P old new b i = ⊎-elim (λ j. old b j) (λ (q : b ≡ n). subst P (sym q) new) (last-or (spareOf s (s .n)) n b (mem-same more i))
 
   off : (b : ℕ) → List·Memᴰ b (spareOf s (s .n)) → List·Memᴰ b (n ∷ []) → ⊥
-  off b i j =
-      ⊎-elim (λ (q : b ≡ n). true≢false (sym (f .marked b i) ∙ ap (bit m′) q ∙ was-clear)) (λ k. List·Memᴰ·not-nil k) (List·Memᴰ·cases-cons j)
+  off b i j = true≢false (sym (f .marked b i) ∙ ap (bit m′) (List·Memᴰ·eq-of-singleton j) ∙ was-clear)
 
   pub found-more : Found m blocks u r
   found-more =
@@ -74,7 +71,7 @@ module _ (m : List ℕ) (blocks : ℕ) (m′ u : List ℕ) (s r : Spare) (n : �
             record {
               few = omega arith;
               below = each (λ b. b < blocks) (f .clear .below) low;
-              clear = each (λ b. bit m b ≡ false) (f .clear .clear) (clear-before (bit m n) refl);
+              clear = each (λ b. bit m b ≡ false) (f .clear .clear) (refuted (bit m n) (λ h. true≢false (sym (f .kept n h) ∙ was-clear)));
               once = ap distinct more ∙ distinct-join (spareOf s (s .n)) (n ∷ []) (f .clear .once) refl off;
             };
         marked =
@@ -91,14 +88,10 @@ pub copied : (t m : List ℕ) → m ≡ take 512 (take 512 (drop 12 t)) ++ drop 
 copied t m e =
     let w : List ℕ = replicate 512 0 in
     let l : length w ≤ 512 = omega (arith, length-replicate {A = ℕ} 512 0) in
-    let f : List ℕ = take 512 (take 512 (drop 12 t)) in
-    e ∙ ap (λ (x : List ℕ). f ++ x) (drop-of-length-le w l) ∙ append-nil f ∙ take-take 512 512 (drop 12 t) (omega arith)
+    e ∙ over-all (take 512 (take 512 (drop 12 t))) w 512 l ∙ take-take 512 512 (drop 12 t) (omega arith)
 
 pub map-inside : (t : List ℕ) → headerOk (length t) (headOf t) ≡ true → 524 ≤ length t
 map-inside t ok = let l = sized-least (length t) (head-facts (length t) (headOf t) ok .sized) in omega arith
-
-pub few-blocks : (t : List ℕ) → headerOk (length t) (headOf t) ≡ true → blocksOf (length t) ≤ 4096
-few-blocks t ok = head-facts (length t) (headOf t) ok .blocks-most
 
 pub spare-in : (t m : List ℕ) (s : Spare) → headerOk (length t) (headOf t) ≡ true → m ≡ take 512 (drop 12 t) → Clear m (blocksOf (length t)) s → SpareIn t s
 spare-in t m s ok e c =

@@ -1,29 +1,26 @@
 -- Block 0 after an update: its numbers written, its map marked, and what it says then.
 -- Assumes nothing.
-use mathlib.Core.Path.{_≡_, sym, ap, _∙_}
-use mathlib.Core.Logic.{inl, ⊎-elim}
-use mathlib.Core.Bool.{true, false, not}
-use mathlib.Core.List.{List, _++_, List·Memᴰ}
-use Prim.Native.Nat.{ℕ, _+_, _-_, _*_, _≤_, _<_}
+use mathlib.Core.Path.{_≡_, ap, _∙_}
+use mathlib.Core.Logic.{⊎-elim}
+use mathlib.Core.Bool.{true, false}
+use mathlib.Core.List.{List, List·Memᴰ}
+use Prim.Native.Nat.{ℕ, _+_, _*_, _≤_, _<_}
 use native.Mathlib.Omega.{arith}
 use lib.ListN.{length, take, drop}
-use lib.Seq.{drop-drop, drop-at, take-at, length-take-le}
 use lib.Dec.{eqb}
-use borrow.Author.Tests.{eq-eqb, le-leb, lt-ltb}
-use borrow.Rule.Slice.PartMut.{midOf, postOf, putMid, drop-put, mid-len}
+use borrow.Rule.Slice.PartMut.{midOf, putMid}
 use Rattle.octets.specs.Lists.{every}
 use Rattle.octets.specs.Bitmap.{bit}
 use Rattle.octets.specs.Bytes.{be, putBe}
-use Rattle.octets.proofs.Bytes.{put-length, drop-put-be, be-put-same, be-put-other, be-left, be-take}
+use Rattle.octets.proofs.Bytes.{put-length, drop-put-be, be-put-same, be-before}
+use Rattle.octets.proofs.Parts.{drop-more}
 use Rattle.octets.proofs.Sets.{in-or-not}
-use Rattle.octets.proofs.Tests.{all-cons, all-nil}
-use Rattle.octets.proofs.UpTo.{every-upTo}
-use Rattle.block.specs.Table.{block, putBlock, blocksOf, blockOk, capacity}
+use Rattle.block.specs.Table.{block, putBlock, blocksOf}
 use Rattle.block.specs.Header.{Header, headerOf, headOf}
-use Rattle.block.specs.HeaderRules.{headerOk, mapShows}
-use Rattle.block.proofs.Facts.{HeadFacts, head-facts}
+use Rattle.block.proofs.Facts.{HeadFacts, head-facts, head-made}
 use Rattle.block.proofs.Making.{sized-least}
-use Rattle.block.proofs.Frames.{put-length as put-block-length, block-put-same, block-put-other}
+use Rattle.block.proofs.Frames.{put-length as put-block-length, block-put-other}
+use Rattle.block.proofs.Heading.{numbers-stay, map-is, tail-stays, head-put}
 use Rattle.spare.specs.declared.Spare.{Spare}
 use Rattle.spare.specs.Spares.{takenOf, TakenFits, Marked, HeadTurned, HeadFits, Reheaded}
 use Rattle.spare.proofs.Taking.{taken-spare}
@@ -41,24 +38,19 @@ module _ (h root n : ℕ) (taken s s₁ s₂ s₃ m u : List ℕ) (lh : h < 256)
   len₃ : length s₃ ≡ 2048
   len₃ = ap length e₃ ∙ put-length 4 s₂ 8 n ∙ len₂
 
-  map-sized : length m ≡ 512
-  map-sized = marks .sized ∙ mid-len 12 524 s₃ (omega (arith, len₃))
-
   -- the map is behind the numbers
   front : (k j : ℕ) → j + k ≤ 12 → be k u j ≡ be k s₃ j
-  front k j l =
-      let t : length (take 12 s₃) ≡ 12 = length-take-le 12 s₃ (omega (arith, len₃)) in
-      ap (λ (x : List ℕ). be k x j) e ∙ be-left k (take 12 s₃) (m ++ postOf 12 512 s₃) j (omega arith) ∙ be-take k 12 s₃ j l
+  front = numbers-stay s₃ m u len₃ (marks .sized) e
 
   -- what is written before stays
   past₁ : (k j : ℕ) → j + k ≤ 5 → be k s₁ j ≡ be k s j
-  past₁ k j l = ap (λ (x : List ℕ). be k x j) e₁ ∙ be-put-other k 1 s 5 h j (inl l)
+  past₁ = be-before 1 s s₁ 5 h e₁
 
   past₂ : (k j : ℕ) → j + k ≤ 6 → be k s₂ j ≡ be k s₁ j
-  past₂ k j l = ap (λ (x : List ℕ). be k x j) e₂ ∙ be-put-other k 2 s₁ 6 root j (inl l)
+  past₂ = be-before 2 s₁ s₂ 6 root e₂
 
   past₃ : (k j : ℕ) → j + k ≤ 8 → be k s₃ j ≡ be k s₂ j
-  past₃ k j l = ap (λ (x : List ℕ). be k x j) e₃ ∙ be-put-other k 4 s₂ 8 n j (inl l)
+  past₃ = be-before 4 s₂ s₃ 8 n e₃
 
   -- the bytes behind the numbers
   behind : drop 12 s₃ ≡ drop 12 s
@@ -66,17 +58,14 @@ module _ (h root n : ℕ) (taken s s₁ s₂ s₃ m u : List ℕ) (lh : h < 256)
       ap (drop 12) e₃ ∙ drop-put-be 4 s₂ 8 n 12 (omega arith) ∙ ap (drop 12) e₂ ∙ drop-put-be 2 s₁ 6 root 12 (omega arith) ∙ ap (drop 12) e₁
       ∙ drop-put-be 1 s 5 h 12 (omega arith)
 
-  map-is : take 512 (drop 12 u) ≡ m
-  map-is =
-      ap (λ (x : List ℕ). take 512 (drop 12 x)) e ∙ ap (take 512) (drop-at (take 12 s₃) (m ++ postOf 12 512 s₃) 12 (length-take-le 12 s₃ (omega (arith, len₃))))
-      ∙ take-at m (postOf 12 512 s₃) 512 map-sized
+  bits-are : (b : ℕ) → bit (take 512 (drop 12 u)) b ≡ bit m b
+  bits-are b = ap (λ (x : List ℕ). bit x b) (map-is s₃ m u len₃ (marks .sized) e)
 
   map-was : take 512 (drop 12 s₃) ≡ take 512 (drop 12 s)
   map-was = ap (take 512) behind
 
   tail-is : drop 524 u ≡ drop 524 s
-  tail-is =
-      ap (drop 524) e ∙ drop-put 12 524 s₃ m (omega arith) (omega (arith, len₃)) map-sized ∙ sym (drop-drop 512 12 s₃) ∙ ap (drop 512) behind ∙ drop-drop 512 12 s
+  tail-is = tail-stays s₃ m u len₃ (marks .sized) e ∙ drop-more s₃ s 12 524 (omega arith) behind
 
   pub head-turned : HeadTurned (headerOf s) (headerOf u) taken h root n
   unfolding headerOf
@@ -91,9 +80,9 @@ module _ (h root n : ℕ) (taken s s₁ s₂ s₃ m u : List ℕ) (lh : h < 256)
         boundIs = front 4 8 (omega arith) ∙ ap (λ (x : List ℕ). be 4 x 8) e₃ ∙ be-put-same 4 s₂ 8 n (omega (arith, len₂)) ln;
         marks =
             record {
-              marked = λ b i. ap (λ (x : List ℕ). bit x b) map-is ∙ marks .marked b i;
-              others = λ b d. ap (λ (x : List ℕ). bit x b) map-is ∙ marks .others b d ∙ ap (λ (x : List ℕ). bit x b) map-was;
-              sized = ap length map-is ∙ marks .sized ∙ ap length map-was;
+              marked = λ b i. bits-are b ∙ marks .marked b i;
+              others = λ b d. bits-are b ∙ marks .others b d ∙ ap (λ (x : List ℕ). bit x b) map-was;
+              sized = ap length (map-is s₃ m u len₃ (marks .sized) e) ∙ marks .sized ∙ ap length map-was;
             };
         blank = ap (every (λ x. eqb x 0)) tail-is;
       }
@@ -131,8 +120,7 @@ module _ (t : List ℕ) (x : Spare) (left h root n : ℕ) (fits : HeadFits t x l
 
   module _ (u s : List ℕ) (len : length s ≡ 2048) (turned : HeadTurned (headOf t) (headerOf s) (takenOf x left) h root n) (e : u ≡ putBlock t 0 s) where
     head-is : headOf u ≡ headerOf s
-    unfolding headOf
-    head-is = ap (λ (l : List ℕ). headerOf (block l 0)) e ∙ ap headerOf (block-put-same t 0 s table-long len)
+    head-is = head-put t u s table-long len e
 
     -- a marked block stays marked
     stays : (b : ℕ) → bit (headOf t .inUse) b ≡ true → bit (headerOf s .inUse) b ≡ true
@@ -144,29 +132,28 @@ module _ (t : List ℕ) (x : Spare) (left h root n : ℕ) (fits : HeadFits t x l
     past-clear : (b : ℕ) → blocksOf (length t) ≤ b → b < 4096 → bit (headerOf s .inUse) b ≡ false
     past-clear b l g = turned .marks .others b (λ i. let z = taken-low b i in omega arith) ∙ facts .past-clear b l g
 
-    map-shows : mapShows (blocksOf (length t)) (headerOf s) ≡ true
-    unfolding mapShows
-    map-shows =
-        let f = facts .blocks-most in
-        all-cons _ _ (stays 0 (facts .zero-used))
-        (all-cons _ _ (ap (bit (headerOf s .inUse)) (turned .rootIs) ∙ root-marked)
-        (all-cons _ _ (every-upTo _ (blocksOf (length t)) (4096 - blocksOf (length t)) (λ b lo hi. ap not (past-clear b lo (omega arith)))) all-nil))
-
-    header-ok : headerOk (length t) (headerOf s) ≡ true
-    unfolding headerOk blockOk
-    header-ok =
-        all-cons _ _ (eq-eqb _ _ (turned .bytes ∙ facts .same-bytes))
-        (all-cons _ _ (eq-eqb _ _ (turned .version ∙ facts .version))
-        (all-cons _ _ (le-leb 1 (headerOf s .levels) (rw (turned .levels) (fits .least)))
-        (all-cons _ _ (le-leb (headerOf s .levels) 7 (rw (turned .levels) (fits .most)))
-        (all-cons _ _ (rw (turned .rootIs) (all-cons _ _ (le-leb 1 root (fits .first)) (all-cons _ _ (lt-ltb root (blocksOf (length t)) (fits .last)) all-nil)))
-        (all-cons _ _ (le-leb (headerOf s .bound) (capacity (length t)) (rw (turned .boundIs) (fits .few)))
-        (all-cons _ _ map-shows (all-cons _ _ (turned .blank ∙ facts .blank) (all-cons _ _ (facts .sized) all-nil))))))))
+    facts-then : HeadFacts (length t) (headerOf s)
+    facts-then =
+        record {
+          same-bytes = turned .bytes ∙ facts .same-bytes;
+          version = turned .version ∙ facts .version;
+          levels-least = rw (turned .levels) (fits .least);
+          levels-most = rw (turned .levels) (fits .most);
+          root-least = rw (turned .rootIs) (fits .first);
+          root-most = rw (turned .rootIs) (fits .last);
+          bound-most = rw (turned .boundIs) (fits .few);
+          zero-used = stays 0 (facts .zero-used);
+          root-used = ap (bit (headerOf s .inUse)) (turned .rootIs) ∙ root-marked;
+          past-clear = past-clear;
+          blank = turned .blank ∙ facts .blank;
+          sized = facts .sized;
+          blocks-most = facts .blocks-most;
+        }
 
     pub reheaded : Reheaded t u (takenOf x left) h root n
     reheaded =
         record {
-          ok = rw head-is header-ok;
+          ok = rw head-is (head-made (length t) (headerOf s) facts-then);
           levels = ap (λ (r : Header). r .levels) head-is ∙ turned .levels;
           rootIs = ap (λ (r : Header). r .root) head-is ∙ turned .rootIs;
           boundIs = ap (λ (r : Header). r .bound) head-is ∙ turned .boundIs;

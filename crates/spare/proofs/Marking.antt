@@ -7,12 +7,13 @@ use mathlib.Core.List.{List, [], _∷_, _++_, List·Memᴰ·head, List·Memᴰ·
 use Prim.Native.Nat.{ℕ, _+_, _*_, _/_, _≤_, _<_}
 use native.Mathlib.Omega.{arith}
 use lib.ListN.{length, take, drop, getD}
+use lib.Seq.{slice-empty}
 use Rattle.octets.specs.Bitmap.{bit, setBit}
 use Rattle.octets.proofs.Bits.{setBit-length, setBit-same, setBit-other}
 use Rattle.octets.proofs.Order.{same-or-not}
 use Rattle.spare.specs.declared.Spare.{Spare}
 use Rattle.spare.specs.Spares.{takenOf, TakenFits, Marked}
-use Rattle.spare.proofs.Taking.{last-or, between-none, between-more, between-at}
+use Rattle.spare.proofs.Taking.{last-or, between-more, between-at}
 
 marked-nil : (m : List ℕ) → Marked m m []
 marked-nil m = record { marked = λ b i. absurd (List·Memᴰ·not-nil i); others = λ b d. refl; sized = refl }
@@ -47,8 +48,7 @@ module _ (s : Spare) (left : ℕ) (m : List ℕ) (fits : TakenFits s left) (long
   pub to-start : MarkedTo s left m m left
   to-start =
       let l = fits .less in
-      let f = fits .few in
-      record { marks = subst (λ (x : List ℕ). Marked m m x) (sym (between-none (s .blocks) left (omega arith))) (marked-nil m); from = omega arith; most = l }
+      record { marks = subst (λ (x : List ℕ). Marked m m x) (sym (slice-empty left (s .blocks))) (marked-nil m); from = omega arith; most = l }
 
   pub to-below : (i : ℕ) → left ≤ i → i < s .n → getD (s .blocks) i 0 < 4096
   to-below i a b = let f = fits .few in fits .below (getD (s .blocks) i 0) (between-at (s .blocks) left i (s .n) 0 a b (omega arith))

@@ -3,22 +3,26 @@
 use mathlib.Core.Path.{_≡_, refl, ap, sym, _∙_}
 use mathlib.Core.Logic.{_⊎_, inl, inr, ⊎-elim}
 use mathlib.Core.Bool.{Bool, true, false, cond, or-true, true≢false}
-use mathlib.Core.List.{List, [], _∷_, _++_, List·Memᴰ, List·Memᴰ·head, List·Memᴰ·tail, List·Memᴰ·not-nil, List·Memᴰ·cases-cons}
+use mathlib.Core.List.{List, [], _∷_, _++_, List·Memᴰ, List·Memᴰ·head, List·Memᴰ·tail, List·Memᴰ·not-nil, List·Memᴰ·cases-cons, Memᴰ·cast}
 use mathlib.Core.Option.{Option, none, some}
 use Prim.Native.Nat.{ℕ, zero, suc, _+_, _<_, _≤_}
 use native.Mathlib.Omega.{arith}
 use lib.Dec.{eqb, leb}
 use lib.ListN.{length}
-use borrow.Author.Tests.{eq-eqb, ne-eqb, le-leb, lt-leb}
+use borrow.Author.Tests.{eq-eqb, ne-eqb}
 use Rattle.octets.specs.Lists.{every, keep, has, distinct, rising, risingFrom, records}
-use Rattle.octets.proofs.Order.{same-or-not, less-or-not}
-use Rattle.octets.proofs.Tests.{cond-mem, every-mem, every-make, keep-mem, keep-length}
+use Rattle.octets.proofs.Order.{same-or-not}
+use Rattle.octets.proofs.Lists.{mem-same}
+use Rattle.octets.proofs.Tests.{cond-mem, every-mem, every-make, keep-mem, keep-in, keep-length}
 use Rattle.octets.proofs.Sets.{distinct-head, distinct-tail, distinct-cons}
-use Rattle.octets.proofs.Rising.{rising-first, rising-rest, rising-make, rising-lower, rising-least, keep-rises as kept-rise}
+use Rattle.octets.proofs.Rising.{rising-rest, rising-least}
 use Rattle.spot.specs.declared.Spot.{Spot}
+use Rattle.spot.specs.Keys.{allKeys, within}
 use Rattle.spot.specs.Spots.{keyAt, spotAt, keys, find, put, putAll}
 use Rattle.spot.specs.Sorted.{only}
-use Rattle.spot.proofs.Canon.{some≢none, cond-none, find-here, find-past, find-put, put-rises, length-put}
+use Rattle.spot.proofs.Card.{keyAt-lt}
+use Rattle.spot.proofs.Places.{within-yes}
+use Rattle.spot.proofs.Canon.{some≢none, find-here, find-past, find-put, put-rises, length-put, keep-rises}
 
 -- ---- names
 
@@ -39,6 +43,27 @@ pub keys-records : (s : List ℕ) (w n at : ℕ) → keys (records (spotAt s) w 
 unfolding spotAt
 keys-records s w zero at = refl
 keys-records s w (suc n) at = ap (λ (l : List ℕ). keyAt s at ∷ l) (keys-records s w n (at + w))
+
+-- a key of a list of spots is that of one of them
+pub keys-from : (ss : List Spot) {k : ℕ} → List·Memᴰ k (keys ss) → (s : Spot) × List·Memᴰ s ss × (k ≡ s .key)
+keys-from [] i = absurd (List·Memᴰ·not-nil i)
+keys-from (s ∷ ss) i =
+    ⊎-elim (λ e. (s, List·Memᴰ·head refl, e)) (λ j. let r = keys-from ss j in (r .0, List·Memᴰ·tail (r .1), r .2)) (List·Memᴰ·cases-cons i)
+
+-- read from bytes, every key has 64 bits
+pub keys-small : (s : List ℕ) (w n at : ℕ) {k : ℕ} → List·Memᴰ k (records (keyAt s) w n at) → k < allKeys
+keys-small s w zero at i = absurd (List·Memᴰ·not-nil i)
+keys-small s w (suc n) at {k} i =
+    ⊎-elim (λ (e : k ≡ keyAt s at). omega (arith, keyAt-lt s at)) (λ j. keys-small s w n (at + w) j) (List·Memᴰ·cases-cons i)
+
+pub spots-small : (s : List ℕ) (w n at : ℕ) {x : Spot} → List·Memᴰ x (records (spotAt s) w n at) → x .key < allKeys
+spots-small s w n at i = keys-small s w n at (mem-same (keys-records s w n at) (keys-mem (records (spotAt s) w n at) i))
+
+pub keys-within : (s : List ℕ) (w n at : ℕ) → every (within 0 allKeys) (records (keyAt s) w n at) ≡ true
+keys-within s w n at = every-make (within 0 allKeys) (records (keyAt s) w n at) (λ k i. within-yes 0 allKeys k (omega arith) (keys-small s w n at i))
+
+pub spots-within : (s : List ℕ) (w n at : ℕ) → every (within 0 allKeys) (keys (records (spotAt s) w n at)) ≡ true
+spots-within s w n at = ap (every (within 0 allKeys)) (keys-records s w n at) ∙ keys-within s w n at
 
 -- what is found is a key, and a key is found
 pub find-mem : (k : ℕ) (ss : List Spot) {a : ℕ} → find k ss ≡ some a → List·Memᴰ k (keys ss)
@@ -89,16 +114,6 @@ find-second k (x ∷ xs) ys n = find-past k x (xs ++ ys) (λ e. n (List·Memᴰ�
 
 -- ---- the spots whose keys pass a test
 
-pub find-only : (g : ℕ → Bool) (k : ℕ) (ss : List Spot) → find k (only g ss) ≡ cond (g k) (find k ss) none
-find-only g k [] = sym (cond-none (g k))
-find-only g k (s ∷ ss) = go (g (s .key)) refl (find-only g k ss)
-  where
-    go : (b : Bool) → g (s .key) ≡ b → find k (only g ss) ≡ cond (g k) (find k ss) none → find k (cond b (s ∷ only g ss) (only g ss)) ≡ cond (g k) (find k (s ∷ ss)) none
-    go true q ih =
-        ⊎-elim (λ (e : k ≡ s .key). rw (ap g e ∙ q, eq-eqb k (s .key) e)) (λ (n : k ≡ s .key → ⊥). rw (ne-eqb k (s .key) n) ih) (same-or-not k (s .key))
-    go false q ih =
-        ⊎-elim (λ (e : k ≡ s .key). ih ∙ rw (ap g e ∙ q)) (λ (n : k ≡ s .key → ⊥). rw (ne-eqb k (s .key) n) ih) (same-or-not k (s .key))
-
 pub keys-only : (g : ℕ → Bool) (ss : List Spot) → keys (only g ss) ≡ keep g (keys ss)
 keys-only g [] = refl
 keys-only g (s ∷ ss) = go (g (s .key)) (keys-only g ss)
@@ -108,7 +123,7 @@ keys-only g (s ∷ ss) = go (g (s .key)) (keys-only g ss)
     go false h = h
 
 pub only-rises : (g : ℕ → Bool) (ss : List Spot) → rising (keys ss) ≡ true → rising (keys (only g ss)) ≡ true
-only-rises g ss h = rw (keys-only g ss) (kept-rise g 0 (keys ss) h)
+only-rises g ss h = keep-rises _ 0 ss h
 
 pub only-mem : (g : ℕ → Bool) (ss : List Spot) {k : ℕ} → List·Memᴰ k (keys (only g ss)) → List·Memᴰ k (keys ss) × (g k ≡ true)
 only-mem g ss i = keep-mem g (keys ss) (rw (keys-only g ss) at i)
@@ -122,20 +137,7 @@ keep-pass g ss = every-make g (keys (only g ss)) (λ k i. only-mem g ss i .1)
 -- ---- the spots that pass a test
 
 pub kept-key : (f : Spot → Bool) (ss : List Spot) {k : ℕ} → List·Memᴰ k (keys (keep f ss)) → List·Memᴰ k (keys ss)
-kept-key f [] i = i
-kept-key f (s ∷ ss) {k} i = go (f s) i (λ j. kept-key f ss j)
-  where
-    go : (b : Bool) → List·Memᴰ k (keys (cond b (s ∷ keep f ss) (keep f ss))) → (List·Memᴰ k (keys (keep f ss)) → List·Memᴰ k (keys ss)) → List·Memᴰ k (keys (s ∷ ss))
-    go true j ih = ⊎-elim (λ e. List·Memᴰ·head e) (λ h. List·Memᴰ·tail (ih h)) (List·Memᴰ·cases-cons j)
-    go false j ih = List·Memᴰ·tail (ih j)
-
-pub keep-rises : (f : Spot → Bool) (a : ℕ) (ss : List Spot) → risingFrom a (keys ss) ≡ true → risingFrom a (keys (keep f ss)) ≡ true
-keep-rises f a [] h = refl
-keep-rises f a (s ∷ ss) h = go (f s) (keep-rises f (suc (s .key)) ss (rising-rest a (s .key) (keys ss) h))
-  where
-    go : (b : Bool) → risingFrom (suc (s .key)) (keys (keep f ss)) ≡ true → risingFrom a (keys (cond b (s ∷ keep f ss) (keep f ss))) ≡ true
-    go true ih = rising-make a (s .key) (keys (keep f ss)) (rising-first a (s .key) (keys ss) h) ih
-    go false ih = rising-lower a (suc (s .key)) (keys (keep f ss)) (omega (arith, rising-first a (s .key) (keys ss) h)) ih
+kept-key f ss i = let r = keys-from (keep f ss) i in Memᴰ·cast (r .2) (keys-mem ss (keep-in f ss (r .1)))
 
 pub keep-every : (f : Spot → Bool) (g : ℕ → Bool) (ss : List Spot) → every g (keys ss) ≡ true → every g (keys (keep f ss)) ≡ true
 keep-every f g ss h = every-make g (keys (keep f ss)) (λ k i. every-mem g (keys ss) h (kept-key f ss i))
@@ -150,13 +152,6 @@ keep-distinct f (s ∷ ss) h = go (f s) (keep-distinct f ss (distinct-tail (s .k
 
 -- ---- a spot put in, and several
 
-pub put-mem : (s : Spot) (ss : List Spot) {k : ℕ} → List·Memᴰ k (keys (put s ss)) → (k ≡ s .key) ⊎ List·Memᴰ k (keys ss)
-put-mem s [] i = ⊎-elim inl (λ j. absurd (List·Memᴰ·not-nil j)) (List·Memᴰ·cases-cons i)
-put-mem s (x ∷ xs) {k} i =
-    ⊎-elim (λ (g : s .key ≤ x .key). List·Memᴰ·cases-cons (rw (le-leb (s .key) (x .key) g) at i))
-    (λ (g : x .key < s .key). ⊎-elim (λ e. inr (List·Memᴰ·head e)) (λ j. ⊎-elim inl (λ h. inr (List·Memᴰ·tail h)) (put-mem s xs j)) (List·Memᴰ·cases-cons (rw (lt-leb (s .key) (x .key) g) at i)))
-    (less-or-not (s .key) (x .key))
-
 -- what is put into a list is new, or was there
 pub put-from : (s : Spot) (xs : List Spot) {x : Spot} → List·Memᴰ x (put s xs) → (x ≡ s) ⊎ List·Memᴰ x xs
 put-from s [] k = List·Memᴰ·cases-cons k
@@ -164,6 +159,11 @@ put-from s (y ∷ ys) k =
     ⊎-elim (λ c. List·Memᴰ·cases-cons (c .1))
     (λ j. ⊎-elim (λ e. inr (List·Memᴰ·head e)) (λ i. ⊎-elim inl (λ h. inr (List·Memᴰ·tail h)) (put-from s ys i)) (List·Memᴰ·cases-cons j))
     (cond-mem (leb (s .key) (y .key)) (s ∷ y ∷ ys) (y ∷ put s ys) k)
+
+pub put-mem : (s : Spot) (ss : List Spot) {k : ℕ} → List·Memᴰ k (keys (put s ss)) → (k ≡ s .key) ⊎ List·Memᴰ k (keys ss)
+put-mem s ss i =
+    let r = keys-from (put s ss) i in
+    ⊎-elim (λ (e : r .0 ≡ s). inl (r .2 ∙ ap (λ (x : Spot). x .key) e)) (λ j. inr (Memᴰ·cast (r .2) (keys-mem ss j))) (put-from s ss (r .1))
 
 pub putAll-from : (own found : List Spot) {x : Spot} → List·Memᴰ x (putAll own found) → List·Memᴰ x own ⊎ List·Memᴰ x found
 putAll-from [] found k = inr k

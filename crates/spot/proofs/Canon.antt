@@ -7,15 +7,16 @@ use mathlib.Core.List.{List, [], _∷_}
 use mathlib.Core.Option.{Option, none, some}
 use Prim.Native.Nat.{ℕ, suc, _<_, _≤_}
 use native.Mathlib.Omega.{arith}
-use lib.Dec.{eqb}
+use lib.Dec.{leb, eqb}
 use lib.ListN.{length}
 use borrow.Author.Tests.{le-leb, lt-leb, eq-eqb, ne-eqb}
-use Rattle.octets.specs.Lists.{risingFrom}
+use Rattle.octets.specs.Lists.{every, keep, risingFrom}
 use Rattle.octets.proofs.Order.{same-or-not, less-or-not}
-use Rattle.octets.proofs.Tests.{keep-length}
-use Rattle.octets.proofs.Rising.{rising-first, rising-rest, rising-make, rising-lower}
+use Rattle.octets.proofs.Tests.{and-left, cond-not, keep-length}
+use Rattle.octets.proofs.Rising.{rising-first, rising-rest, rising-make, rising-lower, rising-from}
 use Rattle.spot.specs.declared.Spot.{Spot}
 use Rattle.spot.specs.Spots.{keys, find, put, without}
+use Rattle.spot.specs.Sorted.{only, but}
 
 pub find-here : (k : ℕ) (s : Spot) (ss : List Spot) → k ≡ s .key → find k (s ∷ ss) ≡ some (s .track)
 find-here k s ss e = rw (eq-eqb k (s .key) e)
@@ -23,23 +24,10 @@ find-here k s ss e = rw (eq-eqb k (s .key) e)
 pub find-past : (k : ℕ) (s : Spot) (ss : List Spot) → (k ≡ s .key → ⊥) → find k (s ∷ ss) ≡ find k ss
 find-past k s ss e = rw (ne-eqb k (s .key) e)
 
--- the facts of a list that rises from a
-pub rises-first : (a : ℕ) (s : Spot) (ss : List Spot) → risingFrom a (keys (s ∷ ss)) ≡ true → a ≤ s .key
-rises-first a s ss h = rising-first a (s .key) (keys ss) h
-
-pub rises-rest : (a : ℕ) (s : Spot) (ss : List Spot) → risingFrom a (keys (s ∷ ss)) ≡ true → risingFrom (suc (s .key)) (keys ss) ≡ true
-rises-rest a s ss h = rising-rest a (s .key) (keys ss) h
-
-pub rises-make : (a : ℕ) (s : Spot) (ss : List Spot) → a ≤ s .key → risingFrom (suc (s .key)) (keys ss) ≡ true → risingFrom a (keys (s ∷ ss)) ≡ true
-rises-make a s ss l h = rising-make a (s .key) (keys ss) l h
-
-pub rises-lower : (b a : ℕ) (ss : List Spot) → b ≤ a → risingFrom a (keys ss) ≡ true → risingFrom b (keys ss) ≡ true
-rises-lower b a ss l h = rising-lower b a (keys ss) l h
-
 pub absent : (a k : ℕ) (ss : List Spot) → risingFrom a (keys ss) ≡ true → k < a → find k ss ≡ none
 absent a k [] h l = refl
 absent a k (s ∷ ss) h l =
-    find-past k s ss (λ e. omega (arith, rises-first a s ss h)) ∙ absent (suc (s .key)) k ss (rises-rest a s ss h) (omega (arith, rises-first a s ss h))
+    find-past k s ss (λ e. omega (arith, rising-first a (s .key) (keys ss) h)) ∙ absent (suc (s .key)) k ss (rising-rest a (s .key) (keys ss) h) (omega (arith, rising-first a (s .key) (keys ss) h))
 
 pub some≢none : {a : ℕ} → some a ≡ none → ⊥
 some≢none {a} e = let z : _≡_ {A = ℕ} 0 1 = cc in omega arith
@@ -59,13 +47,13 @@ canon a (x ∷ xs) (y ∷ ys) hx hy f =
     ap₂ (λ (s : Spot) (l : List Spot). s ∷ l) (spot-eq x y same-key same-track) (canon (suc (x .key)) xs ys rest-x rest-y tails)
   where
     rest-x : risingFrom (suc (x .key)) (keys xs) ≡ true
-    rest-x = rises-rest a x xs hx
+    rest-x = rising-rest a (x .key) (keys xs) hx
 
     not-less : (x .key < y .key) → ⊥
     not-less l =
         some≢none
         (sym (find-here (x .key) x xs refl) ∙ f (x .key) ∙ find-past (x .key) y ys (λ e. omega arith) ∙
-        absent (suc (y .key)) (x .key) ys (rises-rest a y ys hy) (omega arith))
+        absent (suc (y .key)) (x .key) ys (rising-rest a (y .key) (keys ys) hy) (omega arith))
 
     not-more : (y .key < x .key) → ⊥
     not-more l =
@@ -82,7 +70,7 @@ canon a (x ∷ xs) (y ∷ ys) hx hy f =
     same-track = some-inj (sym (find-here (x .key) x xs refl) ∙ f (x .key) ∙ find-here (x .key) y ys same-key)
 
     rest-y : risingFrom (suc (x .key)) (keys ys) ≡ true
-    rest-y = rises-lower (suc (x .key)) (suc (y .key)) ys (omega (arith, same-key)) (rises-rest a y ys hy)
+    rest-y = rising-lower (suc (x .key)) (suc (y .key)) (keys ys) (omega (arith, same-key)) (rising-rest a (y .key) (keys ys) hy)
 
     tails : (k : ℕ) → find k xs ≡ find k ys
     tails k =
@@ -105,7 +93,7 @@ find-put j s (x ∷ xs) =
 
 pub put-rises : (a : ℕ) (s : Spot) (xs : List Spot) → a ≤ s .key → risingFrom a (keys xs) ≡ true → find (s .key) xs ≡ none
     → risingFrom a (keys (put s xs)) ≡ true
-put-rises a s [] l h n = rises-make a s [] l refl
+put-rises a s [] l h n = rising-make a (s .key) (keys []) l refl
 put-rises a s (x ∷ xs) l h n =
     ⊎-elim (λ (g : s .key ≤ x .key). rw (le-leb (s .key) (x .key) g) (before g)) (λ (g : x .key < s .key). rw (lt-leb (s .key) (x .key) g) (later g (put-rises (suc (x .key)) s xs)))
     (less-or-not (s .key) (x .key))
@@ -115,12 +103,12 @@ put-rises a s (x ∷ xs) l h n =
 
     before : s .key ≤ x .key → risingFrom a (keys (s ∷ x ∷ xs)) ≡ true
     before g =
-        ⊎-elim (λ e. absurd (apart e)) (λ (d : s .key ≡ x .key → ⊥). rises-make a s (x ∷ xs) l (rises-make (suc (s .key)) x xs (omega arith) (rises-rest a x xs h)))
+        ⊎-elim (λ e. absurd (apart e)) (λ (d : s .key ≡ x .key → ⊥). rising-make a (s .key) (keys (x ∷ xs)) l (rising-make (suc (s .key)) (x .key) (keys xs) (omega arith) (rising-rest a (x .key) (keys xs) h)))
         (same-or-not (s .key) (x .key))
 
     later : x .key < s .key → (suc (x .key) ≤ s .key → risingFrom (suc (x .key)) (keys xs) ≡ true → find (s .key) xs ≡ none → risingFrom (suc (x .key)) (keys (put s xs)) ≡ true)
         → risingFrom a (keys (x ∷ put s xs)) ≡ true
-    later g ih = rises-make a x (put s xs) (rises-first a x xs h) (ih g (rises-rest a x xs h) (sym (find-past (s .key) x xs apart) ∙ n))
+    later g ih = rising-make a (x .key) (keys (put s xs)) (rising-first a (x .key) (keys xs) h) (ih g (rising-rest a (x .key) (keys xs) h) (sym (find-past (s .key) x xs apart) ∙ n))
 
 pub length-put : (s : Spot) (xs : List Spot) → length (put s xs) ≡ suc (length xs)
 length-put s [] = refl
@@ -128,39 +116,47 @@ length-put s (x ∷ xs) =
     ⊎-elim (λ (g : s .key ≤ x .key). rw (le-leb (s .key) (x .key) g)) (λ (g : x .key < s .key). rw (lt-leb (s .key) (x .key) g) (ap suc (length-put s xs)))
     (less-or-not (s .key) (x .key))
 
--- ---- a key taken out
+-- a spot above none stands first
+pub put-first : (s : Spot) (xs : List Spot) → every (leb (s .key)) (keys xs) ≡ true → put s xs ≡ s ∷ xs
+put-first s [] h = refl
+put-first s (x ∷ xs) h = rw (and-left (leb (s .key) (x .key)) (every (leb (s .key)) (keys xs)) h)
+
+pub put-front : (s : Spot) (xs : List Spot) → risingFrom (suc (s .key)) (keys xs) ≡ true → put s xs ≡ s ∷ xs
+put-front s xs h = put-first s xs (rising-from (s .key) (keys xs) (rising-lower (s .key) (suc (s .key)) (keys xs) (omega arith) h))
+
+-- ---- what is kept
 
 pub cond-none : (b : Bool) → cond {A = Option ℕ} b none none ≡ none
 cond-none true = refl
 cond-none false = refl
 
+pub find-only : (g : ℕ → Bool) (k : ℕ) (ss : List Spot) → find k (only g ss) ≡ cond (g k) (find k ss) none
+find-only g k [] = sym (cond-none (g k))
+find-only g k (s ∷ ss) = go (g (s .key)) refl (find-only g k ss)
+  where
+    go : (b : Bool) → g (s .key) ≡ b → find k (only g ss) ≡ cond (g k) (find k ss) none → find k (cond b (s ∷ only g ss) (only g ss)) ≡ cond (g k) (find k (s ∷ ss)) none
+    go true q ih =
+        ⊎-elim (λ (e : k ≡ s .key). rw (ap g e ∙ q, eq-eqb k (s .key) e)) (λ (n : k ≡ s .key → ⊥). rw (ne-eqb k (s .key) n) ih) (same-or-not k (s .key))
+    go false q ih =
+        ⊎-elim (λ (e : k ≡ s .key). ih ∙ rw (ap g e ∙ q)) (λ (n : k ≡ s .key → ⊥). rw (ne-eqb k (s .key) n) ih) (same-or-not k (s .key))
+
+pub keep-rises : (f : Spot → Bool) (a : ℕ) (ss : List Spot) → risingFrom a (keys ss) ≡ true → risingFrom a (keys (keep f ss)) ≡ true
+keep-rises f a [] h = refl
+keep-rises f a (s ∷ ss) h = go (f s) (keep-rises f (suc (s .key)) ss (rising-rest a (s .key) (keys ss) h))
+  where
+    go : (b : Bool) → risingFrom (suc (s .key)) (keys (keep f ss)) ≡ true → risingFrom a (keys (cond b (s ∷ keep f ss) (keep f ss))) ≡ true
+    go true ih = rising-make a (s .key) (keys (keep f ss)) (rising-first a (s .key) (keys ss) h) ih
+    go false ih = rising-lower a (suc (s .key)) (keys (keep f ss)) (omega (arith, rising-first a (s .key) (keys ss) h)) ih
+
+-- ---- a key taken out
+
 pub find-without : (j k : ℕ) (xs : List Spot) → find j (without k xs) ≡ cond (eqb j k) none (find j xs)
 unfolding without
-find-without j k [] = sym (cond-none (eqb j k))
-find-without j k (x ∷ xs) =
-    ⊎-elim
-    (λ (e : x .key ≡ k).
-    rw (eq-eqb (x .key) k e)
-    (find-without j k xs ∙
-    ⊎-elim (λ (g : j ≡ k). rw (eq-eqb j k g)) (λ (g : j ≡ k → ⊥). rw (ne-eqb j k g, ne-eqb j (x .key) (λ h. g (h ∙ e)))) (same-or-not j k)))
-    (λ (n : x .key ≡ k → ⊥).
-    rw (ne-eqb (x .key) k n)
-    (⊎-elim (λ (g : j ≡ x .key). rw (eq-eqb j (x .key) g, ne-eqb j k (λ h. n (sym g ∙ h)))) (λ (g : j ≡ x .key → ⊥). rw (ne-eqb j (x .key) g) (find-without j k xs))
-    (same-or-not j (x .key))))
-    (same-or-not (x .key) k)
+find-without j k xs = find-only (but k) j xs ∙ cond-not (eqb j k) (find j xs) none
 
 pub without-rises : (a k : ℕ) (xs : List Spot) → risingFrom a (keys xs) ≡ true → risingFrom a (keys (without k xs)) ≡ true
 unfolding without
-without-rises a k [] h = refl
-without-rises a k (x ∷ xs) h =
-    ⊎-elim
-    (λ (e : x .key ≡ k).
-    rw (eq-eqb (x .key) k e)
-    (rises-lower a (suc (x .key)) (without k xs) (omega (arith, rises-first a x xs h)) (without-rises (suc (x .key)) k xs (rises-rest a x xs h))))
-    (λ (n : x .key ≡ k → ⊥).
-    rw (ne-eqb (x .key) k n)
-    (rises-make a x (without k xs) (rises-first a x xs h) (without-rises (suc (x .key)) k xs (rises-rest a x xs h))))
-    (same-or-not (x .key) k)
+without-rises a k xs h = keep-rises _ a xs h
 
 pub length-without : (k : ℕ) (xs : List Spot) → length (without k xs) ≤ length xs
 unfolding without

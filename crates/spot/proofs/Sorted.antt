@@ -11,6 +11,7 @@ use lib.ListN.{length}
 use borrow.Author.Tests.{le-leb, lt-leb, eq-eqb, ne-eqb, eqb-false, not-true}
 use Rattle.octets.specs.Lists.{has, risingFrom}
 use Rattle.octets.proofs.Order.{same-or-not, less-or-not}
+use Rattle.octets.proofs.Tests.{or-swap}
 use Rattle.octets.proofs.Sets.{has-mem, mem-has}
 use Rattle.octets.proofs.Rising.{rising-first, rising-rest, rising-make, rising-least}
 use Rattle.spot.specs.declared.Spot.{Spot}
@@ -23,14 +24,9 @@ pub has-insertKey : (j k : ℕ) (xs : List ℕ) → has j (insertKey k xs) ≡ e
 has-insertKey j k [] = refl
 has-insertKey j k (x ∷ xs) = go (leb k x) (has-insertKey j k xs)
   where
-    swap : (a b c : Bool) → a || (b || c) ≡ b || (a || c)
-    swap true true c = refl
-    swap true false c = refl
-    swap false b c = refl
-
     go : (t : Bool) → has j (insertKey k xs) ≡ eqb j k || has j xs → has j (cond t (k ∷ x ∷ xs) (x ∷ insertKey k xs)) ≡ eqb j k || (eqb j x || has j xs)
     go true ih = refl
-    go false ih = ap (λ (b : Bool). eqb j x || b) ih ∙ swap (eqb j x) (eqb j k) (has j xs)
+    go false ih = ap (λ (b : Bool). eqb j x || b) ih ∙ or-swap (eqb j x) (eqb j k) (has j xs)
 
 pub insertKey-mem : (k : ℕ) (xs : List ℕ) {j : ℕ} → List·Memᴰ j (insertKey k xs) → (j ≡ k) ⊎ List·Memᴰ j xs
 insertKey-mem k xs {j} i = ⊎-elim inl (λ (n : j ≡ k → ⊥). inr (has-mem j xs (rw (ne-eqb j k n) at (sym (has-insertKey j k xs) ∙ mem-has j (insertKey k xs) i)))) (same-or-not j k)

@@ -1,14 +1,15 @@
 -- The posts of the reading calls, one law for each way that a call ends.
 -- Assumes nothing.
-use mathlib.Core.Path.{_≡_, refl, ap, ap₂, sym, subst, _∙_}
+use mathlib.Core.Path.{_≡_, refl, ap, sym, subst, _∙_}
 use mathlib.Core.Bool.{Bool, true, false, cond, not, true≢false, false≢true}
-use mathlib.Core.List.{List, [], _++_, append-nil}
+use mathlib.Core.List.{List, [], _++_}
 use Prim.Native.Nat.{ℕ, zero, suc, _*_, _/_, _≤_, _<_}
 use native.Mathlib.Omega.{arith}
 use lib.ListN.{length, take, drop}
-use lib.Seq.{take-all, drop-length}
+use lib.Seq.{take-all}
 use lib.IntN.{ℤ}
-use borrow.Author.Tests.{eq-eqb, lt-ltb, le-ltb}
+use borrow.Author.Tests.{eq-eqb, lt-ltb, le-ltb, not-true, not-false}
+use Rattle.octets.proofs.Lists.{over-all}
 use Rattle.spot.specs.Spots.{spotsBytes}
 use Rattle.spot.specs.Query.{query, everything}
 use Rattle.spot.specs.declared.Spot.{Spot}
@@ -136,20 +137,12 @@ module _ (c : Call) (w : Walk) (t out map : List ℕ) where
           marks = m ∙ ap (λ (x : Answer). mapLeft (x .number) (blocksRead w) map) (sym a);
         }
 
-broken-by : (ok : Bool) (w : Walk) → ok ≡ not (isBroken w) → ok ≡ false → isBroken w ≡ true
-broken-by ok broken e h = refl
-broken-by ok (walked found blocks) e h = absurd (true≢false (sym e ∙ h))
-
-whole-by : (ok : Bool) (w : Walk) → ok ≡ not (isBroken w) → ok ≡ true → isBroken w ≡ false
-whole-by ok broken e h = absurd (false≢true (sym e ∙ h))
-whole-by ok (walked found blocks) e h = refl
-
 -- a walk that is told not to be whole is broken, and one told to be whole is not
 pub told-broken : (ok : Bool) (t : List ℕ) (q : Query) → ok ≡ not (isBroken (walkTable t q)) → ok ≡ false → isBroken (walkTable t q) ≡ true
-told-broken ok t q e h = broken-by ok (walkTable t q) e h
+told-broken ok t q e h = not-false (isBroken (walkTable t q)) (sym e ∙ h)
 
 pub told-whole : (ok : Bool) (t : List ℕ) (q : Query) → ok ≡ not (isBroken (walkTable t q)) → ok ≡ true → isBroken (walkTable t q) ≡ false
-told-whole ok t q e h = whole-by ok (walkTable t q) e h
+told-whole ok t q e h = not-true (isBroken (walkTable t q)) (sym e ∙ h)
 
 -- Report, whose query the code has made
 module _ (x1 x2 y : ℤ) (q : Query) (same : q ≡ query x1 x2 y) (t out map : List ℕ) where
@@ -190,4 +183,4 @@ output-is ss out out′ n e h = h ∙ ap (λ (i : ℕ). spotsBytes ss ++ drop (1
 
 pub map-is : (from to to′ due : List ℕ) → length from ≡ 512 → length to ≡ 512 → from ≡ due → to′ ≡ take 512 from ++ drop 512 to → to′ ≡ due
 map-is from to to′ due f t e h =
-    h ∙ ap₂ (λ (a b : List ℕ). a ++ b) (take-all 512 from (omega arith)) (ap (λ (n : ℕ). drop n to) (sym t) ∙ drop-length to) ∙ append-nil from ∙ e
+    h ∙ over-all (take 512 from) to 512 (omega arith) ∙ take-all 512 from (omega arith) ∙ e

@@ -6,6 +6,6 @@ pub mod Histories
 pub mod Demand
 pub mod Worked
 pub mod Answering
-pub mod Anew
+pub mod Rebuilding
 pub mod Changes
 pub mod Topping

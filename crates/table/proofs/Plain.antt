@@ -9,7 +9,7 @@ use lib.ListN.{length, take, drop}
 use lib.Dec.{leb, ltb, eqb}
 use lib.IntN.{ℤ}
 use Rattle.octets.specs.Lists.{all, keep}
-use Rattle.octets.proofs.Tests.{and-left, and-right}
+use Rattle.octets.proofs.Tests.{and-left, and-right, cond-not}
 use Rattle.octets.proofs.Order.{eqb-flip, not-leb}
 use Rattle.spot.specs.declared.Spot.{Spot}
 use Rattle.spot.specs.Keys.{key, rankKey, signed32, unsigned32}
@@ -68,10 +68,6 @@ keyed-cond false xs ys = refl
 cond-fit : (b : Bool) (xs ys : List PlainSpot) → AllFit xs → AllFit ys → AllFit (cond b xs ys)
 cond-fit true xs ys f g = f
 cond-fit false xs ys f g = g
-
-cond-not : (b : Bool) (xs ys : List Spot) → cond (not b) xs ys ≡ cond b ys xs
-cond-not true xs ys = refl
-cond-not false xs ys = refl
 
 module _ (f : PlainSpot → Bool) where
   chosen-fit : (ss : List PlainSpot) → AllFit ss → AllFit (chosen f ss)

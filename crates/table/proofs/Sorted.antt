@@ -11,10 +11,9 @@ use lib.Dec.{leb, ltb}
 use borrow.Author.Tests.{leb-true, ltb-true, ltb-false, eqb-false, le-leb, lt-ltb, le-ltb, ne-eqb, leb-false}
 use lib.IntN.{ℤ}
 use Rattle.octets.specs.Lists.{every, keep}
-use Rattle.octets.proofs.Tests.{and-left, and-right, and-both, every-mem, every-make, keep-in, keep-length}
+use Rattle.octets.proofs.Tests.{and-left, and-right, and-both, every-mem, every-make, keep-in, keep-length, neither}
 use Rattle.octets.proofs.Order.{less-or-not, not-leb}
 use Rattle.spot.specs.Keys.{key, signed32, unsigned32}
-use Rattle.tree.proofs.Says.{neither}
 use Rattle.table.specs.Calls.{Call, format, add, withdraw, report, top, count, check, rebuild, Lengths, argumentsFit}
 use Rattle.table.specs.Model.{PlainSpot, hasIdentity, placeBefore, chosen, insertBy, listed, takenOut, broughtIn, Reply, refuse, accept, badTable, badMap, shortScratch, full, handOut, reply}
 use Rattle.table.proofs.Plain.{toKeySpot, SpotFits, AllFit, before-keys, identity-key, out-fit, two-fit}

@@ -2,7 +2,6 @@ pub mod Calls
 pub mod Answers
 pub mod Queries
 pub mod Updates
-pub mod Anew
 pub mod Model
 pub mod History
 pub mod NoneGiven

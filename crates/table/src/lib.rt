@@ -1,14 +1,12 @@
 // The public calls. None has a `requires`: every call ends on any bytes and arguments, and a refused one changes nothing but scratch.
 ghost use mathlib.Core.Path.{_≡_};
 ghost use mathlib.Core.Bool.{true};
-ghost use Prim.Native.Nat.{_≤_};
 ghost use lib.ListN.{length};
 ghost use Rattle.block.specs.Answers.{answer};
 ghost use Rattle.block.specs.Table.{tableSized};
 ghost use Rattle.table.specs.Queries.{ReportPost, TopPost, CountPost, CheckPost};
 ghost use Rattle.table.specs.Updates.{FormatPost, AddPost, WithdrawPost, RebuildPost};
 ghost use Rattle.table.specs.NoneGiven.{NoneGiven};
-ghost use Rattle.table.specs.Anew.{Anew};
 
 fn refuse(number: u32) -> block::Answer
     ensures { λ r. ⌜ r ≡ answer number 0 ⌝ }
@@ -135,8 +133,8 @@ pub fn top(
     }
     let q = spot::top_query(x1, x2, 0);
     let mut read = [0u8; 512];
-    let mut few = [0u8; 768];
-    let all = top::top_run(table, &mut read, q, k as usize, &mut few, 64);
+    let mut few = [0u8; 12288];
+    let all = top::top_run(table, &mut read, q, k as usize, &mut few, 1024);
     if !all.ok {
         return refuse(3);
     }
@@ -147,7 +145,7 @@ pub fn top(
             detail: n as u32,
         };
     }
-    if n <= 64 {
+    if n <= 1024 {
         octets::copy(&few, output, 12 * n);
         octets::copy(&read, read_map, 512);
         return block::Answer {
@@ -202,32 +200,6 @@ pub fn withdraw(table: &mut [u8], scratch: &mut [u8], place: i32, rank: i32) -> 
     refuse(number)
 }
 
-// The live spots laid out anew; false, with the table as it was, where a rule is broken.
-fn laid_anew(table: &mut [u8], scratch: &mut [u8]) -> bool
-    requires { ⌜ (tableSized (length (now table)) ≡ true) × (length (now table) ≤ length (now scratch)) ⌝ }
-    ensures { λ r. ⌜ Anew (now (table .entry)) (now (table .exit)) (now (scratch .entry)) (now (scratch .exit)) r ⌝ }
-{
-    let mut seen = [0u8; 512];
-    let everything = spot::Query {
-        from: 0,
-        last: 18446744073709551615,
-        least: 0,
-    };
-    let all = query::count_table(table, &mut seen, everything);
-    if !all.ok {
-        return false;
-    }
-    if block::capacity_of(table.len()) < all.spots {
-        return false;
-    }
-    query::collect_table(table, scratch, everything);
-    if !block::rises(scratch, 0, 12, all.spots, 0) {
-        return false;
-    }
-    build::build_table(table, scratch, all.spots);
-    true
-}
-
 // The live spots stay, track numbers included, and all waiting changes are carried out.
 pub fn rebuild(table: &mut [u8], scratch: &mut [u8]) -> block::Answer
     ensures { λ r. ⌜ RebuildPost (now (table .entry)) (now (scratch .entry)) r (now (table .exit)) (now (scratch .exit)) ⌝ }
@@ -239,7 +211,7 @@ pub fn rebuild(table: &mut [u8], scratch: &mut [u8]) -> block::Answer
     if scratch.len() < n {
         return refuse(2);
     }
-    let ok = laid_anew(table, scratch);
+    let ok = renew::anew(table, scratch);
     octets::zero(scratch, n);
     if !ok {
         return refuse(3);

@@ -1,20 +1,18 @@
 -- One turn of each loop over a line.
 -- Assumes nothing.
-use mathlib.Core.Path.{_≡_, refl, ap, ap₂, sym, _∙_}
+use mathlib.Core.Path.{_≡_, ap, ap₂, sym, _∙_}
 use mathlib.Core.Bool.{Bool, true, false, cond, _&&_}
 use mathlib.Core.List.{List, [], _∷_}
 use Prim.Native.Nat.{ℕ, suc, _+_, _≤_, _<_}
 use native.Mathlib.Omega.{arith}
-use native.Mathlib.Numerals.{add-one}
 use lib.ListN.{length, getD, take, drop, drop-of-length-le}
-use lib.Seq.{drop-cons, drop-drop}
+use lib.Seq.{drop-drop}
 use borrow.Author.Tests.{eq-eqb, ne-eqb}
+use Rattle.octets.proofs.Tests.{refuted}
+use Rattle.octets.proofs.Lists.{drop-next}
 use Rattle.text.specs.Reading.{front, behind, step, value, alike}
 use Rattle.text.proofs.Words.{front-take, behind-drop}
 use Rattle.text.proofs.Inverse.{alike-same}
-
-pub next-byte : (s : List ℕ) (i : ℕ) → i < length s → drop i s ≡ getD s i 0 ∷ drop (i + 1) s
-next-byte s i h = rw (add-one i) (drop-cons s i 0 h)
 
 -- ---- to the end of a word
 
@@ -22,14 +20,14 @@ module _ (s : List ℕ) (i : ℕ) where
   pub scan-stop : i < length s → getD s i 0 ≡ 32 → i ≡ i + length (front (drop i s))
   scan-stop h e =
       let z : length (front (drop i s)) ≡ 0 =
-      ap (λ (l : List ℕ). length (front l)) (next-byte s i h)
+      ap (λ (l : List ℕ). length (front l)) (drop-next s i 0 h)
       ∙ ap (λ (b : Bool). length (cond b [] (getD s i 0 ∷ front (drop (i + 1) s)))) (eq-eqb 32 (getD s i 0) (sym e)) in
       omega arith
 
   pub scan-next : i < length s → (getD s i 0 ≡ 32 → ⊥) → i + 1 + length (front (drop (i + 1) s)) ≡ i + length (front (drop i s))
   scan-next h e =
       let z : length (front (drop i s)) ≡ suc (length (front (drop (i + 1) s))) =
-      ap (λ (l : List ℕ). length (front l)) (next-byte s i h)
+      ap (λ (l : List ℕ). length (front l)) (drop-next s i 0 h)
       ∙ ap (λ (b : Bool). length (cond b [] (getD s i 0 ∷ front (drop (i + 1) s)))) (ne-eqb 32 (getD s i 0) (λ g. e (sym g))) in
       omega arith
 
@@ -39,28 +37,24 @@ module _ (s : List ℕ) (i : ℕ) where
 -- ---- the digits of a number
 
 pub value-next : (w : List ℕ) (i n : ℕ) → i < length w → value (step n (getD w i 0)) (drop (i + 1) w) ≡ value n (drop i w)
-value-next w i n h = sym (ap (value n) (next-byte w i h))
+value-next w i n h = sym (ap (value n) (drop-next w i 0 h))
 
 pub value-end : (w : List ℕ) (i n : ℕ) → length w ≤ i → n ≡ value n (drop i w)
 value-end w i n h = rw (drop-of-length-le w {i = i} h)
 
 -- ---- the comparison
 
-not-true-false : (b : Bool) → (b ≡ true → ⊥) → b ≡ false
-not-true-false true h = absurd (h refl)
-not-true-false false h = refl
-
 pub alike-lengths : (a b : List ℕ) → (length a ≡ length b → ⊥) → alike a b ≡ false
-alike-lengths a b h = not-true-false (alike a b) (λ (e : alike a b ≡ true). h (ap length (alike-same a b e)))
+alike-lengths a b h = refuted (alike a b) (λ (e : alike a b ≡ true). h (ap length (alike-same a b e)))
 
 module _ (a b : List ℕ) (i : ℕ) (l : i < length a) (m : i < length b) where
   pub alike-next : getD a i 0 ≡ getD b i 0 → alike (drop (i + 1) a) (drop (i + 1) b) ≡ alike (drop i a) (drop i b)
   alike-next e =
-      sym (ap₂ alike (next-byte a i l) (next-byte b i m) ∙ ap (λ (t : Bool). t && alike (drop (i + 1) a) (drop (i + 1) b)) (eq-eqb (getD a i 0) (getD b i 0) e))
+      sym (ap₂ alike (drop-next a i 0 l) (drop-next b i 0 m) ∙ ap (λ (t : Bool). t && alike (drop (i + 1) a) (drop (i + 1) b)) (eq-eqb (getD a i 0) (getD b i 0) e))
 
   pub alike-differ : (getD a i 0 ≡ getD b i 0 → ⊥) → alike (drop i a) (drop i b) ≡ false
   alike-differ e =
-      ap₂ alike (next-byte a i l) (next-byte b i m)
+      ap₂ alike (drop-next a i 0 l) (drop-next b i 0 m)
       ∙ ap (λ (t : Bool). t && alike (drop (i + 1) a) (drop (i + 1) b)) (ne-eqb (getD a i 0) (getD b i 0) e)
 
 pub alike-end : (a b : List ℕ) (i : ℕ) → length a ≤ i → length b ≤ i → alike (drop i a) (drop i b) ≡ true

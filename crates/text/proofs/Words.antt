@@ -1,36 +1,27 @@
 -- Words with one space between, read back one by one.
 -- Assumes nothing.
 use mathlib.Core.Path.{_≡_, refl, ap, _∙_}
-use mathlib.Core.Bool.{Bool, true, false, _||_, cond}
+use mathlib.Core.Bool.{Bool, true, false, cond}
 use mathlib.Core.List.{List, [], _∷_, _++_, append-assoc}
 use Prim.Native.Nat.{ℕ, suc}
-use native.Mathlib.Omega.{arith}
 use lib.Dec.{eqb}
 use lib.ListN.{length, getD, take, drop}
 use Rattle.octets.specs.Lists.{has}
+use Rattle.octets.proofs.Tests.{neither}
 use Rattle.text.specs.Text.{joined}
 use Rattle.text.specs.Reading.{front, behind}
 
--- neither of two tests passes
-neither-left : (a b : Bool) → a || b ≡ false → a ≡ false
-neither-left true b h = h
-neither-left false b h = refl
-
-neither-right : (a b : Bool) → a || b ≡ false → b ≡ false
-neither-right true b h = let z : _≡_ {A = ℕ} 0 1 = cc in absurd (omega arith)
-neither-right false b h = h
-
 front-word : (w r : List ℕ) → has 32 w ≡ false → front (w ++ (32 ∷ r)) ≡ w
 front-word [] r h = refl
-front-word (x ∷ w) r h = rw (neither-left (eqb 32 x) (has 32 w) h) (ap (λ (l : List ℕ). x ∷ l) (front-word w r (neither-right (eqb 32 x) (has 32 w) h)))
+front-word (x ∷ w) r h = rw (neither (eqb 32 x) (has 32 w) h .0) (ap (λ (l : List ℕ). x ∷ l) (front-word w r (neither (eqb 32 x) (has 32 w) h .1)))
 
 front-last : (w : List ℕ) → has 32 w ≡ false → front w ≡ w
 front-last [] h = refl
-front-last (x ∷ w) h = rw (neither-left (eqb 32 x) (has 32 w) h) (ap (λ (l : List ℕ). x ∷ l) (front-last w (neither-right (eqb 32 x) (has 32 w) h)))
+front-last (x ∷ w) h = rw (neither (eqb 32 x) (has 32 w) h .0) (ap (λ (l : List ℕ). x ∷ l) (front-last w (neither (eqb 32 x) (has 32 w) h .1)))
 
 behind-word : (w r : List ℕ) → has 32 w ≡ false → behind (w ++ (32 ∷ r)) ≡ r
 behind-word [] r h = refl
-behind-word (x ∷ w) r h = rw (neither-left (eqb 32 x) (has 32 w) h) (behind-word w r (neither-right (eqb 32 x) (has 32 w) h))
+behind-word (x ∷ w) r h = rw (neither (eqb 32 x) (has 32 w) h .0) (behind-word w r (neither (eqb 32 x) (has 32 w) h .1))
 
 pub joined-front : (w : List ℕ) (ws : List (List ℕ)) → has 32 w ≡ false → front (joined (w ∷ ws)) ≡ w
 unfolding joined

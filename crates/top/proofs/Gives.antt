@@ -14,9 +14,6 @@ use Rattle.spot.specs.Spots.{putSpot}
 use Rattle.spot.specs.Query.{topQuery}
 use Rattle.spot.specs.declared.Spot.{Spot}
 use Rattle.spot.specs.declared.Query.{Query}
-use Rattle.block.specs.Node.{storeOf}
-use Rattle.tree.specs.Walk.{finds}
-use Rattle.visit.specs.Visit.{waitingAbove}
 use Rattle.front.specs.declared.Next.{Next}
 use Rattle.front.specs.declared.Lead.{Lead}
 use Rattle.front.specs.Frontier.{slotAt, headAt, Leads}
@@ -26,14 +23,14 @@ use Rattle.top.proofs.Ups.{shown-is}
 use Rattle.top.proofs.Steps.{spot-given}
 use Rattle.top.proofs.Outs.{written-more}
 
-module _ (t : List ℕ) (q : Query) (k room : ℕ) (rows paths heads heads' : List (List ℕ)) (n floor : ℕ) (out out' : List ℕ) (j : ℕ) (lead : Lead) (v : Leads heads n lead) where
+module _ (t : List ℕ) (q : Query) (k room : ℕ) (rows paths orders orders' heads heads' : List (List ℕ)) (ranks ranks' : List ℕ) (n floor : ℕ) (out out' : List ℕ) (j : ℕ) (lead : Lead) (v : Leads heads n lead) where
   -- the best is given
   pub give-step : lead .next .there && leb floor (rankOf (lead .next .spot .key)) ≡ true → j < k
       → ((s : ℕ) → s < n → Standing t (slotAt rows paths s))
       → out' ≡ cond (ltb j room) (putSpot out (12 * j) (lead .next .spot)) out
-      → {r : ℕ} → r ≡ rankKey (lead .next .spot .key) → Moved t q rows paths heads heads' (lead .slot) r
+      → Moved t q rows paths orders orders' heads heads' ranks ranks' (lead .slot)
       → Passes t q k room rows paths heads heads' n floor out out' j (j + 1)
-  give-step clear less stands o {r} e m x1 x2 cell base blocks asks high s =
+  give-step clear less stands o m x1 x2 cell base blocks asks high s =
       let here = v .here (and-left (lead .next .there) (leb floor (rankOf (lead .next .spot .key))) clear) in
       let i = lead .slot in
       let is : headAt heads i ≡ lead .next = here .1 in
@@ -42,8 +39,7 @@ module _ (t : List ℕ) (q : Query) (k room : ℕ) (rows paths heads heads' : Li
       subst (λ (h : Next). floor ≤ rankOf (h .spot .key)) (sym is) (leb-true floor (rankOf (lead .next .spot .key)) (and-right (lead .next .there) (leb floor (rankOf (lead .next .spot .key))) clear)) in
       let next : Under (rankKey (headAt heads i .spot .key)) (shownOf t (topQuery x1 x2 0) (slotAt rows paths i)) (headAt heads' i) =
       subst (λ (u : Query). Under (rankKey (headAt heads i .spot .key)) (shownOf t u (slotAt rows paths i)) (headAt heads' i)) asks
-      (subst (λ (ss : List Spot). Under (rankKey (headAt heads i .spot .key)) ss (headAt heads' i)) (shown-is t q (slotAt rows paths i) (stands i (here .0)))
-      (subst (λ (z : ℕ). Under z (finds q (waitingAbove t (slotAt rows paths i .path)) (storeOf t (slotAt rows paths i .block))) (headAt heads' i)) (e ∙ ap (λ (h : Next). rankKey (h .spot .key)) (sym is)) (m .next))) in
+      (subst (λ (ss : List Spot). Under (rankKey (headAt heads i .spot .key)) ss (headAt heads' i)) (shown-is t q (slotAt rows paths i) (stands i (here .0))) (m .next)) in
       let c = s .counted in
       record {
         given = s .given ++ (headAt heads i .spot ∷ []);

@@ -1,7 +1,7 @@
 -- The spots left of a node: all when it is read, one fewer when its next spot is given.
 -- Assumes nothing.
 use mathlib.Core.Path.{_≡_, refl, ap, sym, subst, _∙_}
-use mathlib.Core.Logic.{_⊎_, ⊎-elim}
+use mathlib.Core.Logic.{⊎-elim}
 use mathlib.Core.Bool.{Bool, true, false, cond, true≢false}
 use mathlib.Core.List.{List, [], _∷_, List·Memᴰ, List·Memᴰ·head, List·Memᴰ·tail, List·Memᴰ·not-nil, List·Memᴰ·cases-cons, Memᴰ·cast}
 use Prim.Native.Nat.{ℕ, _-_, _≤_, _<_}
@@ -12,6 +12,7 @@ use Rattle.octets.specs.Lists.{keep, distinct}
 use Rattle.octets.proofs.Order.{less-or-not}
 use Rattle.octets.proofs.Tests.{bool-ext, every-make, keep-mem, keep-in, keep-all, keep-same}
 use Rattle.octets.proofs.Sets.{distinct-head, distinct-tail, distinct-cons}
+use Rattle.octets.proofs.Lists.{no-member}
 use Rattle.spot.specs.Keys.{allKeys, rankKey}
 use Rattle.spot.specs.Spots.{keys}
 use Rattle.spot.specs.declared.Spot.{Spot}
@@ -100,10 +101,6 @@ cut (x ∷ xs) s d i = ⊎-elim here (λ j. there j (cut xs s (distinct-tail (rk
 
 -- ---- what is left
 
-no-one : (ss : List Spot) → ((x : Spot) → List·Memᴰ x ss → ⊥) → ss ≡ []
-no-one [] h = refl
-no-one (x ∷ ss) h = absurd (h x (List·Memᴰ·head refl))
-
 pub left-there : (ss : List Spot) (h : Next) → h .there ≡ true → leftOf ss h ≡ keep (λ s. leb (rankKey (s .key)) (rankKey (h .spot .key))) ss
 left-there ss h e = rw e
 
@@ -129,7 +126,7 @@ left-all ss h small b = go (h .there) refl
 
     go : (t : Bool) → h .there ≡ t → leftOf ss h ≡ ss
     go true e = left-there ss h e ∙ keep-all _ ss (every-make _ ss (λ x i. le-leb (rk x) (rk (h .spot)) (b .over x i (low x i))))
-    go false e = left-gone ss h e ∙ sym (no-one ss (λ x i. true≢false (sym (b .some x i (low x i)) ∙ e)))
+    go false e = left-gone ss h e ∙ sym (no-member ss (λ x i. true≢false (sym (b .some x i (low x i)) ∙ e)))
 
 -- the next is given
 pub left-give : (ss : List Spot) (h next : Next) → distinct (ranks ss) ≡ true → h .there ≡ true → List·Memᴰ (h .spot) ss → Under (rk (h .spot)) ss next
@@ -146,7 +143,7 @@ left-give ss h next d t i u =
         (λ l. lt-ltb (rk x) (rk (h .spot)) (let m = leb-true (rk x) (rk (next .spot)) l in omega (arith, u .held e .1))))
         ∙ sym (left-there ss next e)
     go false e =
-        no-one (keep (under (rk (h .spot))) ss)
+        no-member (keep (under (rk (h .spot))) ss)
         (λ x j. let m = keep-mem (under (rk (h .spot))) ss j in true≢false (sym (u .some x (m .0) (ltb-true (rk x) (rk (h .spot)) (m .1))) ∙ e))
         ∙ sym (left-gone ss next e)
 

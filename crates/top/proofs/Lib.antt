@@ -3,6 +3,7 @@ pub mod Lefts
 pub mod Ups
 pub mod Steps
 pub mod Outs
+pub mod Turns
 pub mod Slots
 pub mod Gives
 pub mod Sweeps

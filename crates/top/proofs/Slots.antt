@@ -2,11 +2,12 @@
 -- Assumes nothing.
 use mathlib.Core.Path.{_≡_, refl, ap, ap₂, sym, subst, _∙_}
 use mathlib.Core.Bool.{true, false}
-use mathlib.Core.List.{List, [], _∷_, _++_, List·Memᴰ, List·Memᴰ·head, List·Memᴰ·tail}
-use Prim.Native.Nat.{ℕ, zero, suc, _+_, _-_, _*_, _≤_, _<_}
+use mathlib.Core.List.{List, [], _++_, List·Memᴰ, List·Memᴰ·head}
+use Prim.Native.Nat.{ℕ, _+_, _-_, _*_, _≤_, _<_}
 use native.Mathlib.Omega.{arith}
-use lib.ListN.{length, drop, set}
+use lib.ListN.{length, set}
 use Rattle.octets.specs.Bitmap.{bit, setBit}
+use Rattle.octets.proofs.Lists.{mem-drop}
 use Rattle.spot.specs.Keys.{word, allKeys, rankKey}
 use Rattle.spot.specs.declared.Query.{Query}
 use Rattle.block.specs.declared.Entry.{Entry}
@@ -29,12 +30,15 @@ use Rattle.visit.proofs.Above.{entries-are, above-step, above-root, admitted-si
 use Rattle.query.proofs.Roots.{root-low, levels-few, levels-are, root-part}
 use Rattle.front.specs.declared.Slot.{Slot}
 use Rattle.front.specs.declared.Next.{Next}
-use Rattle.front.specs.Frontier.{slotAt, rowOf, headAt, headRow, kidCount, kidEntry, kidSpan, kidPart, Best, Cells}
+use Rattle.front.specs.Frontier.{slotAt, rowOf, headAt, headRow, rankIn, kidCount, kidEntry, kidSpan, kidPart, Best, Cells}
+use Rattle.front.specs.declared.Order.{Order}
+use Rattle.front.specs.Orders.{Begun, nextBy, Orderly}
 use Rattle.front.proofs.Rows.{slot-put, slot-other, head-put, head-other}
 use Rattle.top.specs.declared.Fresh.{Fresh}
-use Rattle.top.specs.Reading.{rev, namedUp, pendOf, childOf, Standing, Under}
-use Rattle.top.specs.Runs.{Readable, Added, Rooted, Follows, Moved}
+use Rattle.top.specs.Reading.{rev, namedUp, pendOf, childOf, Standing}
+use Rattle.top.specs.Runs.{Readable, Added, Rooted, Follows}
 use Rattle.top.proofs.Ups.{named-up-step}
+use Rattle.top.proofs.Turns.{first-best, orderly-more}
 
 -- ---- the root
 
@@ -54,11 +58,6 @@ rooted t ok span path {root} {levels} p q lo hi none bare =
     }
 
 -- ---- a child
-
-mem-drop : (i : ℕ) (l : List Entry) {x : Entry} → List·Memᴰ x (drop i l) → List·Memᴰ x l
-mem-drop zero l k = k
-mem-drop (suc i) [] k = k
-mem-drop (suc i) (y ∷ l) k = List·Memᴰ·tail (mem-drop i l k)
 
 module _ (t : List ℕ) (s : Slot) (v : Standing t s) (i : ℕ) (below : i < kidCount t (s .block)) where
   kid-in : List·Memᴰ (kidEntry t (s .block) i) (storeOf t (s .block) .entries)
@@ -101,35 +100,31 @@ module _ (t : List ℕ) (s : Slot) (v : Standing t s) (i : ℕ) (below : i < kid
 
 -- ---- one slot more
 
-module _ (t : List ℕ) (q : Query) (seen seen' : List ℕ) (rows rows' paths paths' heads heads' : List (List ℕ)) (kids kids' : List ℕ) (n : ℕ) (s : Slot) (a : Asked)
-    (z : Readable t seen rows paths heads kids n s a) where
-  pub node-added : {next : Next} → bit seen (s .block) ≡ false → nodeOk (s .level) a (storeOf t (s .block)) ≡ true → seen' ≡ setBit seen (s .block)
-      → rows' ≡ set rows n (rowOf s) → paths' ≡ set paths n (s .path .blocks)
-      → heads' ≡ set heads n (headRow next) → next .spot .track < word
-      → Best 18446744073709551615 (finds q (waitingAbove t (s .path)) (storeOf t (s .block))) next
+module _ (t : List ℕ) (q : Query) (seen seen' : List ℕ) (rows rows' paths paths' orders orders' heads heads' : List (List ℕ)) (ranks ranks' kids kids' : List ℕ) (n : ℕ) (s : Slot) (a : Asked)
+    (z : Readable t seen rows paths orders heads ranks kids n s a) where
+  pub node-added : {next : Next} {o : Order} → bit seen (s .block) ≡ false → nodeOk (s .level) a (storeOf t (s .block)) ≡ true → seen' ≡ setBit seen (s .block)
+      → rows' ≡ set rows n (rowOf s) → paths' ≡ set paths n (s .path .blocks) → orders' ≡ set orders n (o .at)
+      → heads' ≡ set heads n (headRow next (o .n) (o .low)) → ranks' ≡ set ranks n (rankIn next) → next .spot .track < word
+      → Begun t (s .block) q (s .path) o → next ≡ nextBy t (s .block) (o .at) (o .n)
       → Cells t (s .block) (s .span) q (8 * n) kids kids'
-      → Added t q seen seen' rows rows' paths paths' heads heads' kids kids' n s a
-  node-added {next} new ok m r p h small b c =
+      → Added t q seen seen' rows rows' paths paths' orders orders' heads heads' ranks ranks' kids kids' n s a
+  node-added {next} {o} new ok m r p x h k small b e c =
       record {
         new = new;
         ok = ok;
         marked = m;
         slots = λ j l. ap₂ (λ (x y : List (List ℕ)). slotAt x y j) r p ∙ slot-other rows paths n s j (λ e. let y : ⊥ = omega arith in y);
         slotted = ap₂ (λ (x y : List (List ℕ)). slotAt x y n) r p ∙ slot-put rows paths n s (z .row) (z .pathed);
-        headsKept = λ j l. ap (λ (x : List (List ℕ)). headAt x j) h ∙ head-other heads n next j (λ e. let y : ⊥ = omega arith in y);
-        headed = subst (Best 18446744073709551615 (finds q (waitingAbove t (s .path)) (storeOf t (s .block)))) (sym (ap (λ (x : List (List ℕ)). headAt x n) h ∙ head-put heads n next (z .head) small)) b;
+        headsKept = λ j l. ap (λ (x : List (List ℕ)). headAt x j) h ∙ head-other heads n next (o .n) (o .low) j (λ e. let y : ⊥ = omega arith in y);
+        headed =
+            subst (Best 18446744073709551615 (finds q (waitingAbove t (s .path)) (storeOf t (s .block)))) (sym (ap (λ (x : List (List ℕ)). headAt x n) h ∙ head-put heads n next (o .n) (o .low) (z .head) small ∙ e))
+            (first-best t (s .block) q (s .path) (o .low) (o .n) (o .at) (record { level = s .level; asked = a; ok = ok; inside = z .inside }) (b .ordered) (b .some) (b .none));
+        orderly = λ w.
+            subst (λ (x : List (List ℕ)). Orderly t q x paths' orders' heads' ranks' (n + 1)) (sym r)
+            (subst (λ (x : List (List ℕ)). Orderly t q (set rows n (rowOf s)) x orders' heads' ranks' (n + 1)) (sym p)
+            (subst (λ (x : List (List ℕ)). Orderly t q (set rows n (rowOf s)) (set paths n (s .path .blocks)) x heads' ranks' (n + 1)) (sym x)
+            (subst (λ (x : List (List ℕ)). Orderly t q (set rows n (rowOf s)) (set paths n (s .path .blocks)) (set orders n (o .at)) x ranks' (n + 1)) (sym h)
+            (subst (λ (x : List ℕ). Orderly t q (set rows n (rowOf s)) (set paths n (s .path .blocks)) (set orders n (o .at)) (set heads n (headRow next (o .n) (o .low))) x (n + 1)) (sym k)
+            (orderly-more t q rows paths orders heads ranks n w s (o .at) next (o .n) (o .low) (z .row) (z .pathed) (z .ordered) (z .head) (z .ranked) small e (b .ordered))))));
         cells = c;
       }
-
--- ---- the next spot of a slot moves on
-
-pub head-moved : (t : List ℕ) (q : Query) (rows paths heads heads' : List (List ℕ)) (j r : ℕ) {s : Slot} {next : Next} → j < length heads → s ≡ slotAt rows paths j
-    → heads' ≡ set heads j (headRow next) → next .spot .track < word → Under r (finds q (waitingAbove t (s .path)) (storeOf t (s .block))) next
-    → Moved t q rows paths heads heads' j r
-head-moved t q rows paths heads heads' j r {s} {next} l e h small u =
-    record {
-      others = λ i d. ap (λ (x : List (List ℕ)). headAt x i) h ∙ head-other heads j next i d;
-      next =
-          subst (λ (x : Slot). Under r (finds q (waitingAbove t (x .path)) (storeOf t (x .block))) (headAt heads' j)) e
-          (subst (Under r (finds q (waitingAbove t (s .path)) (storeOf t (s .block)))) (sym (ap (λ (x : List (List ℕ)). headAt x j) h ∙ head-put heads j next l small)) u);
-    }

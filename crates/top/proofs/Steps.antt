@@ -2,7 +2,7 @@
 -- Assumes nothing.
 use mathlib.Core.Path.{_≡_, refl, ap, ap₂, sym, subst, _∙_}
 use mathlib.Core.Logic.{_⊎_, inl, inr, ⊎-elim}
-use mathlib.Core.Bool.{Bool, true, false}
+use mathlib.Core.Bool.{true, false}
 use mathlib.Core.List.{List, [], _∷_, _++_, List·Memᴰ, List·Memᴰ·not-nil, List·Memᴰ·eq-of-singleton}
 use Prim.Native.Nat.{ℕ, zero, suc, _+_, _-_, _*_, _/_, _%_, _≤_, _<_}
 use native.Mathlib.Numerals.{add-one}
@@ -11,6 +11,7 @@ use lib.ListN.{length}
 use lib.IntN.{ℤ}
 use Rattle.octets.specs.Lists.{has}
 use Rattle.octets.proofs.Order.{same-or-not, less-or-not}
+use Rattle.octets.proofs.Tests.{refuted}
 use Rattle.spot.specs.Keys.{rankOf}
 use Rattle.spot.specs.Query.{topQuery}
 use Rattle.spot.specs.declared.Spot.{Spot}
@@ -312,11 +313,7 @@ module _ (t : List ℕ) (x1 x2 : ℤ) (k : ℕ) (slot : ℕ → Slot) (head : �
   ends-empty none gone =
       done-empty t x1 x2 k (unreadOf t slot cell n) (foundOf t (topQuery x1 x2 0) slot head n) given blocks (g .progress)
       (flat-none (seats t slot cell) (8 * n) (λ c l. ap (λ (v : ℕ). seat v (childOf t (slot (c / 8)) (c % 8))) (none c l)))
-      (flat-none (lefts t (topQuery x1 x2 0) slot head) n (λ s l. left-gone (shownOf t (topQuery x1 x2 0) (slot s)) (head s) (not-there (head s .there) (gone s l))))
-    where
-      not-there : (b : Bool) → (b ≡ true → ⊥) → b ≡ false
-      not-there true h = absurd (h refl)
-      not-there false h = refl
+      (flat-none (lefts t (topQuery x1 x2 0) slot head) n (λ s l. left-gone (shownOf t (topQuery x1 x2 0) (slot s)) (head s) (refuted (head s .there) (gone s l))))
 
   -- there are fewer slots than blocks
   pub slots-few : n ≤ blocksOf (length t) - 1

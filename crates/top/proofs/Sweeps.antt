@@ -2,12 +2,12 @@
 -- Assumes nothing.
 use mathlib.Core.Path.{_≡_, refl, ap, sym, subst, _∙_}
 use mathlib.Core.Logic.{_⊎_, ⊎-elim}
-use mathlib.Core.Bool.{Bool, true, false, _||_, or-comm, true≢false}
-use mathlib.Core.List.{List, [], _∷_, _++_, append-nil}
+use mathlib.Core.Bool.{Bool, true, false, _||_, or-comm, true≢false, false≢true}
+use mathlib.Core.List.{List, [], _∷_, _++_}
 use Prim.Native.Nat.{ℕ, _+_, _-_, _*_, _/_, _%_, _≤_, _<_}
 use native.Mathlib.Omega.{arith}
 use lib.ListN.{length, getD, set, drop, replicate, length-set}
-use lib.Seq.{drop-length, getD-set-same, getD-set-other}
+use lib.Seq.{getD-set-same, getD-set-other}
 use lib.Dec.{leb, eqb}
 use lib.IntN.{ℤ}
 use borrow.Author.Tests.{leb-true, leb-false, eqb-true, eqb-false}
@@ -15,6 +15,7 @@ use Rattle.octets.specs.Lists.{has}
 use Rattle.octets.specs.Bitmap.{bit, setBit}
 use Rattle.octets.proofs.Bits.{setBit-length}
 use Rattle.octets.proofs.Tests.{or-either}
+use Rattle.octets.proofs.Lists.{over-all}
 use Rattle.spot.specs.Keys.{rankOf}
 use Rattle.spot.specs.Query.{topQuery}
 use Rattle.spot.specs.declared.Spot.{Spot}
@@ -48,12 +49,14 @@ use Rattle.top.proofs.Slots.{follows-pend, follows-inside, follows-abov
 
 -- ---- lengths that stay
 
-pub record Lens (seen out : List ℕ) (rows paths heads : List (List ℕ)) (kids seen' out' : List ℕ) (rows' paths' heads' : List (List ℕ)) (kids' : List ℕ) : Type 0 where
+pub record Lens (seen out : List ℕ) (rows paths orders heads : List (List ℕ)) (ranks kids seen' out' : List ℕ) (rows' paths' orders' heads' : List (List ℕ)) (ranks' kids' : List ℕ) : Type 0 where
   pub map : length seen' ≡ length seen
   pub output : length out' ≡ length out
   pub row : length rows' ≡ length rows
   pub path : length paths' ≡ length paths
+  pub order : length orders' ≡ length orders
   pub head : length heads' ≡ length heads
+  pub rank : length ranks' ≡ length ranks
   pub cells : length kids' ≡ length kids
 
 -- ---- the map
@@ -81,15 +84,15 @@ seen-map {seen} {blocks} s =
 
 -- ---- a node is read
 
-module _ (t : List ℕ) (x1 x2 : ℤ) (k : ℕ) (q : Query) (asks : q ≡ topQuery x1 x2 0) (seen seen' : List ℕ) (rows rows' paths paths' heads heads' : List (List ℕ)) (kids kids' : List ℕ) (n : ℕ) (s : Slot) (a : Asked)
-    (z : Readable t seen rows paths heads kids n s a) (given : List Spot) (blocks : List ℕ)
+module _ (t : List ℕ) (x1 x2 : ℤ) (k : ℕ) (q : Query) (asks : q ≡ topQuery x1 x2 0) (seen seen' : List ℕ) (rows rows' paths paths' orders orders' heads heads' : List (List ℕ)) (ranks ranks' kids kids' : List ℕ) (n : ℕ) (s : Slot) (a : Asked)
+    (z : Readable t seen rows paths orders heads ranks kids n s a) (given : List Spot) (blocks : List ℕ)
     (g : Poised t x1 x2 k (slotAt rows paths) (headAt heads) (cellAt kids) n given blocks (pendOf t s a)) (w : Seen seen blocks) where
   pub read-broken : (bit seen (s .block) ≡ true) ⊎ (nodeOk (s .level) a (storeOf t (s .block)) ≡ false) → topWalk t x1 x2 k ≡ broken
   read-broken =
       ⊎-elim (λ h. twice-breaks t x1 x2 k (slotAt rows paths) (headAt heads) (cellAt kids) n given blocks s a g (sym (w .bits (s .block)) ∙ h))
       (λ h. node-breaks t x1 x2 k (slotAt rows paths) (headAt heads) (cellAt kids) n given blocks s a g h)
 
-  module _ (d : Added t q seen seen' rows rows' paths paths' heads heads' kids kids' n s a) where
+  module _ (d : Added t q seen seen' rows rows' paths paths' orders orders' heads heads' ranks ranks' kids kids' n s a) where
     standing : Standing t s
     standing = record { asked = a; ok = d .ok; inside = z .inside; ancestors = z .ancestors; deep = z .deep }
 
@@ -109,33 +112,33 @@ module _ (t : List ℕ) (x1 x2 : ℤ) (k : ℕ) (q : Query) (asks : q ≡ topQue
 
 -- ---- the root
 
-module _ (t : List ℕ) (x1 x2 : ℤ) (k room : ℕ) (rows paths heads : List (List ℕ)) (kids : List ℕ) (s : Slot) (r : Rooted t s) (some : 0 < k) (ok : headerOk (length t) (headOf t) ≡ true) where
+module _ (t : List ℕ) (x1 x2 : ℤ) (k room : ℕ) (rows paths orders heads : List (List ℕ)) (ranks kids : List ℕ) (s : Slot) (r : Rooted t s) (some : 0 < k) (ok : headerOk (length t) (headOf t) ≡ true) where
   pub poised-root : Poised t x1 x2 k (slotAt rows paths) (headAt heads) (cellAt kids) 0 [] [] (pendOf t s Root)
   poised-root =
       subst (λ (p : Pending). Poised t x1 x2 k (slotAt rows paths) (headAt heads) (cellAt kids) 0 [] [] p) (sym (r .same))
       (root-poised t x1 x2 k (slotAt rows paths) (headAt heads) (cellAt kids) some ok)
 
-  pub root-swept : {q : Query} {seen seen' out : List ℕ} {rows' paths' heads' : List (List ℕ)} {kids' : List ℕ} → q ≡ topQuery x1 x2 0 → seen ≡ replicate 512 0
-      → Readable t seen rows paths heads kids 0 s Root → Added t q seen seen' rows rows' paths paths' heads heads' kids kids' 0 s Root → 12 * room ≤ length out
+  pub root-swept : {q : Query} {seen seen' out : List ℕ} {rows' paths' orders' heads' : List (List ℕ)} {ranks' kids' : List ℕ} → q ≡ topQuery x1 x2 0 → seen ≡ replicate 512 0
+      → Readable t seen rows paths orders heads ranks kids 0 s Root → Added t q seen seen' rows rows' paths paths' orders orders' heads heads' ranks ranks' kids kids' 0 s Root → 12 * room ≤ length out
       → Swept t x1 x2 k room out seen' out rows' paths' heads' kids' 1 0
-  root-swept {q} {seen} {seen'} {out} {rows'} {paths'} {heads'} {kids'} asks e z d fits =
+  root-swept {q} {seen} {seen'} {out} {rows'} {paths'} {orders'} {heads'} {ranks'} {kids'} asks e z d fits =
       record {
         blocks = s .block ∷ [];
         sofar =
             record {
               given = [];
-              going = read-going t x1 x2 k q asks seen seen' rows rows' paths paths' heads heads' kids kids' 0 s Root z [] [] poised-root (seen-start e) d;
+              going = read-going t x1 x2 k q asks seen seen' rows rows' paths paths' orders orders' heads heads' ranks ranks' kids kids' 0 s Root z [] [] poised-root (seen-start e) d;
               counted = refl;
               output = written-none room out;
               fits = fits;
             };
-        seenIs = read-seen t x1 x2 k q asks seen seen' rows rows' paths paths' heads heads' kids kids' 0 s Root z [] [] poised-root (seen-start e) d;
+        seenIs = read-seen t x1 x2 k q asks seen seen' rows rows' paths paths' orders orders' heads heads' ranks ranks' kids kids' 0 s Root z [] [] poised-root (seen-start e) d;
       }
 
 -- ---- spots given
 
-module _ (t : List ℕ) (q : Query) (k room : ℕ) (base seen out : List ℕ) (rows paths heads : List (List ℕ)) (kids : List ℕ) (n count c floor : ℕ) (high : Highest kids (8 * n) c) (is : floor ≡ getD kids c 0)
-    (out' : List ℕ) (heads' : List (List ℕ)) (r : ℕ) (v : Gave t q k room rows paths heads heads' n floor out out' count r) where
+module _ (t : List ℕ) (q : Query) (k room : ℕ) (base seen out : List ℕ) (rows paths orders heads : List (List ℕ)) (ranks kids : List ℕ) (n count c floor : ℕ) (high : Highest kids (8 * n) c) (is : floor ≡ getD kids c 0)
+    (out' : List ℕ) (orders' heads' : List (List ℕ)) (ranks' : List ℕ) (r : ℕ) (v : Gave t q k room rows paths orders orders' heads heads' ranks ranks' n floor out out' count r) where
   low : (i : ℕ) → i < 8 * n → cellAt kids i ≤ floor
   low i l = omega (arith, high .most i l, is)
 
@@ -209,9 +212,9 @@ module _ (t : List ℕ) (q : Query) (k room : ℕ) (base seen out : List ℕ) (r
             (getD-set-same kids c 0 0 l)
             (λ j d. getD-set-other kids c j 0 0 d))
 
-        pub kid-readable : blocksOf (length t) ≤ 4096 → n < length rows → n < length paths → n < length heads' → 8 * n + 8 ≤ length kids
-            → Readable t seen rows paths heads' (set kids c 0) n (f .slot) (Child (f .entry))
-        kid-readable few l m o y =
+        pub kid-readable : blocksOf (length t) ≤ 4096 → n < length rows → n < length paths → n < length orders' → n < length heads' → n < length ranks' → 8 * n + 8 ≤ length kids
+            → Readable t seen rows paths orders' heads' ranks' (set kids c 0) n (f .slot) (Child (f .entry))
+        kid-readable few l m p o i y =
             let inside = follows-inside t (slotAt rows paths (c / 8)) kid-parent (c % 8) (kid-awaits .below) f u (topQuery x1 x2 0) (kid-awaits .admitted) in
             record {
               inside = inside;
@@ -220,32 +223,34 @@ module _ (t : List ℕ) (q : Query) (k room : ℕ) (base seen out : List ℕ) (r
               few = let b = slots-few t x1 x2 k (slotAt rows paths) (headAt heads') (cellAt kids) n (gave-sofar .given) (s .blocks) going in omega arith;
               row = l;
               pathed = m;
+              ordered = p;
               head = o;
+              ranked = i;
               cells = omega (arith, length-set kids c 0);
               ancestors = follows-above t (slotAt rows paths (c / 8)) kid-parent (c % 8) (kid-awaits .below) f u (topQuery x1 x2 0) (kid-awaits .admitted);
               deep = follows-deep t (slotAt rows paths (c / 8)) kid-parent (c % 8) (kid-awaits .below) f u (topQuery x1 x2 0) (kid-awaits .admitted);
             }
 
-        module _ (l : c < length kids) (z : Readable t seen rows paths heads' (set kids c 0) n (f .slot) (Child (f .entry))) where
+        module _ (l : c < length kids) (z : Readable t seen rows paths orders' heads' ranks' (set kids c 0) n (f .slot) (Child (f .entry))) where
           pub kid-broken : (bit seen (f .slot .block) ≡ true) ⊎ (nodeOk (f .slot .level) (Child (f .entry)) (storeOf t (f .slot .block)) ≡ false) → topWalk t x1 x2 k ≡ broken
           kid-broken =
-              read-broken t x1 x2 k q asks seen seen rows rows paths paths heads' heads' (set kids c 0) kids n (f .slot) (Child (f .entry)) z (gave-sofar .given) (s .blocks) (poised-kid l) (s .seenIs)
+              read-broken t x1 x2 k q asks seen seen rows rows paths paths orders' orders' heads' heads' ranks' ranks' (set kids c 0) kids n (f .slot) (Child (f .entry)) z (gave-sofar .given) (s .blocks) (poised-kid l) (s .seenIs)
 
-          pub kid-swept : {seen' : List ℕ} {rows' paths' heads'' : List (List ℕ)} {kids' : List ℕ} → Added t q seen seen' rows rows' paths paths' heads' heads'' (set kids c 0) kids' n (f .slot) (Child (f .entry))
+          pub kid-swept : {seen' : List ℕ} {rows' paths' orders'' heads'' : List (List ℕ)} {ranks'' kids' : List ℕ} → Added t q seen seen' rows rows' paths paths' orders' orders'' heads' heads'' ranks' ranks'' (set kids c 0) kids' n (f .slot) (Child (f .entry))
               → Swept t x1 x2 k room base seen' out' rows' paths' heads'' kids' (n + 1) r
-          kid-swept {seen'} {rows'} {paths'} {heads''} {kids'} d =
+          kid-swept {seen'} {rows'} {paths'} {orders''} {heads''} {ranks''} {kids'} d =
               let o = gave-sofar in
               record {
                 blocks = f .slot .block ∷ s .blocks;
                 sofar =
                     record {
                       given = o .given;
-                      going = read-going t x1 x2 k q asks seen seen' rows rows' paths paths' heads' heads'' (set kids c 0) kids' n (f .slot) (Child (f .entry)) z (o .given) (s .blocks) (poised-kid l) (s .seenIs) d;
+                      going = read-going t x1 x2 k q asks seen seen' rows rows' paths paths' orders' orders'' heads' heads'' ranks' ranks'' (set kids c 0) kids' n (f .slot) (Child (f .entry)) z (o .given) (s .blocks) (poised-kid l) (s .seenIs) d;
                       counted = o .counted;
                       output = o .output;
                       fits = o .fits;
                     };
-                seenIs = read-seen t x1 x2 k q asks seen seen' rows rows' paths paths' heads' heads'' (set kids c 0) kids' n (f .slot) (Child (f .entry)) z (o .given) (s .blocks) (poised-kid l) (s .seenIs) d;
+                seenIs = read-seen t x1 x2 k q asks seen seen' rows rows' paths paths' orders' orders'' heads' heads'' ranks' ranks'' (set kids c 0) kids' n (f .slot) (Child (f .entry)) z (o .given) (s .blocks) (poised-kid l) (s .seenIs) d;
               }
 
 -- ---- the slots run out only where they are few
@@ -257,10 +262,10 @@ swept-few {t} {x1} {x2} {k} {rows = rows} {paths = paths} {heads = heads} {kids 
 
 -- ---- from the root
 
-pub root-readable : {t seen : List ℕ} {rows paths heads : List (List ℕ)} {kids : List ℕ} {s : Slot} → Rooted t s → seen ≡ replicate 512 0 → 1 ≤ length rows → length paths ≡ length rows
-    → length heads ≡ length rows → length kids ≡ 8 * length rows
-    → Readable t seen rows paths heads kids 0 s Root
-root-readable r e l p h c =
+pub root-readable : {t seen : List ℕ} {rows paths orders heads : List (List ℕ)} {ranks kids : List ℕ} {s : Slot} → Rooted t s → seen ≡ replicate 512 0 → 1 ≤ length rows → length paths ≡ length rows
+    → length orders ≡ length rows → length heads ≡ length rows → length ranks ≡ length rows → length kids ≡ 8 * length rows
+    → Readable t seen rows paths orders heads ranks kids 0 s Root
+root-readable r e l p o h k c =
     record {
       inside = r .inside;
       near = r .near;
@@ -268,18 +273,32 @@ root-readable r e l p h c =
       few = omega arith;
       row = omega arith;
       pathed = omega arith;
+      ordered = omega arith;
       head = omega arith;
+      ranked = omega arith;
       cells = omega arith;
       ancestors = r .ancestors;
       deep = r .deep;
     }
 
-pub root-broken : {t : List ℕ} (x1 x2 : ℤ) {k : ℕ} {q : Query} {seen : List ℕ} {rows paths heads : List (List ℕ)} {kids : List ℕ} {s : Slot} (r : Rooted t s) → 0 < k → headerOk (length t) (headOf t) ≡ true
-    → q ≡ topQuery x1 x2 0 → seen ≡ replicate 512 0 → Readable t seen rows paths heads kids 0 s Root
+pub root-broken : {t : List ℕ} (x1 x2 : ℤ) {k : ℕ} {q : Query} {seen : List ℕ} {rows paths orders heads : List (List ℕ)} {ranks kids : List ℕ} {s : Slot} (r : Rooted t s) → 0 < k → headerOk (length t) (headOf t) ≡ true
+    → q ≡ topQuery x1 x2 0 → seen ≡ replicate 512 0 → Readable t seen rows paths orders heads ranks kids 0 s Root
     → (bit seen (s .block) ≡ true) ⊎ (nodeOk (s .level) Root (storeOf t (s .block)) ≡ false)
     → topWalk t x1 x2 k ≡ broken
-root-broken {t} x1 x2 {k} {q} {seen} {rows} {paths} {heads} {kids} {s} r some ok asks e z =
-    read-broken t x1 x2 k q asks seen seen rows rows paths paths heads heads kids kids 0 s Root z [] [] (poised-root t x1 x2 k 0 rows paths heads kids s r some ok) (seen-start e)
+root-broken {t} x1 x2 {k} {q} {seen} {rows} {paths} {orders} {heads} {ranks} {kids} {s} r some ok asks e z =
+    read-broken t x1 x2 k q asks seen seen rows rows paths paths orders orders heads heads ranks ranks kids kids 0 s Root z [] [] (poised-root t x1 x2 k 0 rows paths orders heads ranks kids s r some ok) (seen-start e)
+
+-- a search that gives nothing: a rule is broken, or the slots are few
+module _ {t : List ℕ} {q : Query} {k room cap : ℕ} {out seen' out' : List ℕ} {r : Search} where
+  pub searched-broken : r ≡ record { ok = false; short = false; spots = 0 } → ((x1 x2 : ℤ) → q ≡ topQuery x1 x2 0 → topWalk t x1 x2 k ≡ broken) → Searched t q k room cap out seen' out' r
+  searched-broken e h =
+      subst (Searched t q k room cap out seen' out') (sym e)
+      (record { short = λ z. absurd (false≢true z); fails = λ x1 x2 a y z. h x1 x2 a; ends = λ x1 x2 a z. absurd (false≢true z) })
+
+  pub searched-short : r ≡ record { ok = false; short = true; spots = 0 } → cap ≤ 4095 → Searched t q k room cap out seen' out' r
+  searched-short e l =
+      subst (Searched t q k room cap out seen' out') (sym e)
+      (record { short = λ z. l; fails = λ x1 x2 a y z. absurd (true≢false y); ends = λ x1 x2 a z. absurd (false≢true z) })
 
 -- with the same number of slots
 pub searched-as : {t : List ℕ} {q : Query} {k room cap cap' : ℕ} {out seen' out' : List ℕ} {r : Search} → cap ≡ cap' → Searched t q k room cap out seen' out' r → Searched t q k room cap' out seen' out' r
@@ -307,4 +326,4 @@ pub run-again : {t : List ℕ} {q : Query} {k room : ℕ} {out via seen' out' : 
 run-again {via = via} e s = record { fails = s .fails; ends = λ x1 x2 a g. (via, e, s .ends x1 x2 a g) }
 
 pub zeroed : (seen : List ℕ) {after : List ℕ} → length seen ≡ 512 → after ≡ replicate 512 0 ++ drop 512 seen → after ≡ replicate 512 0
-zeroed seen l e = e ∙ ap (λ (n : ℕ). replicate 512 0 ++ drop n seen) (sym l) ∙ ap (λ (x : List ℕ). replicate 512 0 ++ x) (drop-length seen) ∙ append-nil (replicate 512 0)
+zeroed seen l e = e ∙ over-all (replicate 512 0) seen 512 (omega arith)

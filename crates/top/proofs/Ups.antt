@@ -1,7 +1,7 @@
 -- A slot's node: what the nodes above it name, the spots that a query finds in it, and the children that become known.
 -- Assumes nothing.
 use mathlib.Core.Path.{_≡_, refl, ap, ap₂, sym, _∙_}
-use mathlib.Core.Logic.{_⊎_, ⊎-elim}
+use mathlib.Core.Logic.{⊎-elim}
 use mathlib.Core.Bool.{Bool, true, false, cond, not, _||_, or-assoc, or-comm, or-false}
 use mathlib.Core.List.{List, [], _∷_, _++_, append-nil, append-assoc, List·Memᴰ}
 use Prim.Native.Nat.{ℕ, zero, suc, _+_, _≤_, _<_}
@@ -17,6 +17,7 @@ use Rattle.spot.specs.Spots.{keys}
 use Rattle.spot.specs.Query.{wantsKey}
 use Rattle.spot.specs.declared.Spot.{Spot}
 use Rattle.spot.specs.declared.Query.{Query}
+use Rattle.spot.proofs.Buffers.{keys-append}
 use Rattle.block.specs.declared.Asked.{Asked}
 use Rattle.block.specs.declared.Entry.{Entry}
 use Rattle.block.specs.Table.{block, blocksOf}
@@ -34,7 +35,7 @@ use Rattle.visit.proofs.Above.{finds-waiting, entries-are}
 use Rattle.visit.proofs.Runs.{runs-of}
 use Rattle.front.specs.declared.Slot.{Slot}
 use Rattle.front.specs.Frontier.{kidCount, kidEntry, kidLow, kidPart, kidCell}
-use Rattle.front.proofs.Picks.{node-small}
+use Rattle.front.proofs.Orders.{node-small}
 use Rattle.front.proofs.Kids.{kid-next, kid-none, cell-is, cell-past}
 use Rattle.top.specs.Reading.{flat, rev, namedUp, pendOf, childOf, seat, shownOf, Standing}
 use Rattle.top.proofs.Lefts.{ranks, ranks-distinct, ranks-keep}
@@ -82,15 +83,11 @@ module _ (t : List ℕ) (q : Query) (s : Slot) (v : Standing t s) where
       ∙ finds-waiting t (s .block) (s .level) (v .asked) (v .ok) q (s .path) (v .ancestors))
 
   node-keys : {x : Spot} → List·Memᴰ x (storeOf t (s .block) .points ++ storeOf t (s .block) .inserts) → x .key < allKeys
-  node-keys i = node-small t (s .block) (frontOf (block t (s .block))) (runs-of t (s .block) stands-valid refl) q (s .path) 0 i
+  node-keys i = node-small t (s .block) (frontOf (block t (s .block))) (runs-of t (s .block) stands-valid refl) i
 
   pub shown-small : (x : Spot) → List·Memᴰ x (shownOf t q s) → x .key < allKeys
   unfolding finds
   shown-small x i = let n = storeOf t (s .block) in node-keys (keep-in (takes q (namedUp t (s .path))) (n .points ++ n .inserts) i)
-
-  keys-join : (xs ys : List Spot) → keys (xs ++ ys) ≡ keys xs ++ keys ys
-  keys-join [] ys = refl
-  keys-join (x ∷ xs) ys = ap (λ (l : List ℕ). x .key ∷ l) (keys-join xs ys)
 
   pub shown-once : distinct (ranks (shownOf t q s)) ≡ true
   unfolding finds names
@@ -98,7 +95,7 @@ module _ (t : List ℕ) (q : Query) (s : Slot) (v : Standing t s) where
       let n = storeOf t (s .block) in
       ranks-keep (takes q (namedUp t (s .path))) (n .points ++ n .inserts)
       (ranks-distinct (n .points ++ n .inserts) (λ x i. node-keys i)
-      (ap distinct (keys-join (n .points) (n .inserts)) ∙ distinct-left (keys (n .points) ++ keys (n .inserts)) (n .deletes) (node-facts (s .level) (v .asked) n (v .ok) .once)))
+      (ap distinct (keys-append (n .points) (n .inserts)) ∙ distinct-left (keys (n .points) ++ keys (n .inserts)) (n .deletes) (node-facts (s .level) (v .asked) n (v .ok) .once)))
 
   few : kidCount t (s .block) ≤ 8
   unfolding storeOf frontOf

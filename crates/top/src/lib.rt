@@ -1,6 +1,6 @@
 // Top: reads best first, and gives the highest spots, the highest first.
 ghost use mathlib.Core.Path.{_≡_};
-ghost use mathlib.Core.Bool.{true, cond, _&&_};
+ghost use mathlib.Core.Bool.{true, false, cond, _&&_};
 ghost use Prim.Native.Nat.{_+_, _*_, _/_, _%_, _≤_, _<_};
 ghost use lib.Dec.{leb, ltb};
 ghost use lib.ListN.{length};
@@ -9,13 +9,9 @@ ghost use Rattle.spot.specs.Spots.{putSpot};
 ghost use Rattle.block.specs.Header.{headOf};
 ghost use Rattle.block.specs.HeaderRules.{headerOk};
 ghost use Rattle.block.specs.Table.{tableSized};
-ghost use Rattle.block.specs.Node.{storeOf};
-ghost use Rattle.block.specs.NodeRules.{ValidBlock};
-ghost use Rattle.tree.specs.Walk.{finds};
-ghost use Rattle.visit.specs.Visit.{ValidPath, waitingAbove};
 ghost use Rattle.front.specs.Frontier.{slotAt, kidCount};
-ghost use Rattle.top.specs.Reading.{Standing, Under};
-ghost use Rattle.top.specs.Runs.{Readable, NodeRead, Rooted, Follows, Moved, Givable, Gave, Sweepable, Searchable, Searched, Runnable, TopRun, TopFront};
+ghost use Rattle.top.specs.Reading.{Standing};
+ghost use Rattle.top.specs.Runs.{Readable, NodeRead, Rooted, Follows, NextKid, KidRead, Movable, Moved, Givable, Gave, Sweepable, Searchable, Searched, Runnable, TopRun, TopFront};
 
 // A child on its way to a slot, and the entry that leads to it.
 pub struct Fresh {
@@ -42,15 +38,17 @@ fn read_node(
     seen: &mut [u8],
     rows: &mut [[u64; 6]],
     paths: &mut [[usize; 8]],
-    heads: &mut [[u64; 3]],
+    orders: &mut [[u8; 64]],
+    heads: &mut [[u64; 5]],
+    ranks: &mut [u64],
     kids: &mut [u64],
     n: usize,
     s: front::Slot,
     asked: block::Asked,
     q: spot::Query,
 ) -> bool
-    requires { ⌜ Readable (now t) (now seen) (now rows) (now paths) (now heads) (now kids) n s asked ⌝ }
-    ensures { λ r. ⌜ NodeRead (now (t .entry)) q (now (seen .entry)) (now (seen .exit)) (now (rows .entry)) (now (rows .exit)) (now (paths .entry)) (now (paths .exit)) (now (heads .entry)) (now (heads .exit)) (now (kids .entry)) (now (kids .exit)) n s asked r ⌝ }
+    requires { ⌜ Readable (now t) (now seen) (now rows) (now paths) (now orders) (now heads) (now ranks) (now kids) n s asked ⌝ }
+    ensures { λ r. ⌜ NodeRead (now (t .entry)) q (now (seen .entry)) (now (seen .exit)) (now (rows .entry)) (now (rows .exit)) (now (paths .entry)) (now (paths .exit)) (now (orders .entry)) (now (orders .exit)) (now (heads .entry)) (now (heads .exit)) (now (ranks .entry)) (now (ranks .exit)) (now (kids .entry)) (now (kids .exit)) n s asked r ⌝ }
 {
     if octets::test_bit(seen, s.block) {
         return false;
@@ -60,8 +58,13 @@ fn read_node(
     }
     octets::set_bit(seen, s.block);
     front::put_slot(rows, paths, n, s);
-    let next = front::next_spot(t, s.block, q, s.path, 18446744073709551615);
-    front::put_head(heads, n, next);
+    let order = front::order_of(t, s.block, q, s.path);
+    let left = order.n;
+    let low = order.low;
+    let at = order.at;
+    orders[n] = at;
+    let next = front::next_by(t, s.block, orders, n, left);
+    front::put_head(heads, ranks, n, next, left, low);
     front::open_kids(t, kids, 8 * n, s.block, s.span, q);
     true
 }
@@ -102,36 +105,71 @@ fn next_kid(t: &[u8], rows: &[[u64; 6]], paths: &[[usize; 8]], c: usize) -> Fres
     Fresh { slot, entry }
 }
 
-// The best spot of a slot's node under the rank key r.
-fn lower(t: &[u8], s: front::Slot, q: spot::Query, r: u64) -> front::Next
-    requires { ⌜ ValidBlock (now t) (s .block) × ValidPath (now t) (s .path) ⌝ }
-    ensures { λ h. ⌜ Under r (finds q (waitingAbove (now (t .entry)) (s .path)) (storeOf (now (t .entry)) (s .block))) h ⌝ }
+// Clears the cell c and reads its child into slot n; false if that fails.
+fn read_kid(
+    t: &[u8],
+    seen: &mut [u8],
+    rows: &mut [[u64; 6]],
+    paths: &mut [[usize; 8]],
+    orders: &mut [[u8; 64]],
+    heads: &mut [[u64; 5]],
+    ranks: &mut [u64],
+    kids: &mut [u64],
+    n: usize,
+    c: usize,
+    q: spot::Query,
+) -> bool
+    requires { ⌜ NextKid (now t) (now seen) (now rows) (now paths) (now orders) (now heads) (now ranks) (now kids) n c ⌝ }
+    ensures { λ r. ⌜ KidRead (now (t .entry)) q (now (seen .entry)) (now (seen .exit)) (now (rows .entry)) (now (rows .exit)) (now (paths .entry)) (now (paths .exit)) (now (orders .entry)) (now (orders .exit)) (now (heads .entry)) (now (heads .exit)) (now (ranks .entry)) (now (ranks .exit)) (now (kids .entry)) (now (kids .exit)) n c r ⌝ }
 {
-    if r == 0 {
-        return front::Next {
-            there: false,
-            spot: spot::Spot { key: 0, track: 0 },
-        };
-    }
-    front::next_spot(t, s.block, q, s.path, r - 1)
+    let kid = next_kid(t, rows, paths, c);
+    let slot = kid.slot;
+    let entry = kid.entry;
+    kids[c] = 0;
+    read_node(
+        t,
+        seen,
+        rows,
+        paths,
+        orders,
+        heads,
+        ranks,
+        kids,
+        n,
+        slot,
+        block::Asked::Child(entry),
+        q,
+    )
 }
 
-// Slot j's next spot is given: the one after it takes its place.
+// Slot j's next spot is given: the one after it in its order takes its place, and after the last point the highest insert.
 fn move_on(
     t: &[u8],
     rows: &[[u64; 6]],
     paths: &[[usize; 8]],
-    heads: &mut [[u64; 3]],
+    orders: &mut [[u8; 64]],
+    heads: &mut [[u64; 5]],
+    ranks: &mut [u64],
     j: usize,
-    r: u64,
     q: spot::Query,
 )
-    requires { ⌜ (j < length (now rows)) × (j < length (now paths)) × (j < length (now heads)) × Standing (now t) (slotAt (now rows) (now paths) j) ⌝ }
-    ensures { λ u. ⌜ Moved (now (t .entry)) q (now (rows .entry)) (now (paths .entry)) (now (heads .entry)) (now (heads .exit)) j r ⌝ }
+    requires { ⌜ Movable (now t) q (now rows) (now paths) (now orders) (now heads) (now ranks) j ⌝ }
+    ensures { λ u. ⌜ Moved (now (t .entry)) q (now (rows .entry)) (now (paths .entry)) (now (orders .entry)) (now (orders .exit)) (now (heads .entry)) (now (heads .exit)) (now (ranks .entry)) (now (ranks .exit)) j ⌝ }
 {
     let s = front::slot_at(rows, paths, j);
-    let next = lower(t, s, q, r);
-    front::put_head(heads, j, next);
+    let left = front::left_at(heads, j) - 1;
+    let low = front::low_at(heads, j);
+    if (left == 0) & !low {
+        let order = front::low_order(t, s.block, q, s.path);
+        let n = order.n;
+        let at = order.at;
+        orders[j] = at;
+        let first = front::next_by(t, s.block, orders, j, n);
+        front::put_head(heads, ranks, j, first, n, true);
+        return;
+    }
+    let next = front::next_by(t, s.block, orders, j, left);
+    front::put_head(heads, ranks, j, next, left, low);
 }
 
 // Writes the j-th spot, if there is room.
@@ -156,7 +194,9 @@ fn give_above(
     t: &[u8],
     rows: &[[u64; 6]],
     paths: &[[usize; 8]],
-    heads: &mut [[u64; 3]],
+    orders: &mut [[u8; 64]],
+    heads: &mut [[u64; 5]],
+    ranks: &mut [u64],
     n: usize,
     q: spot::Query,
     floor: u64,
@@ -165,37 +205,49 @@ fn give_above(
     out: &mut [u8],
     room: usize,
 ) -> usize
-    requires { ⌜ Givable (now t) (now out) (now rows) (now paths) (now heads) n room ⌝ }
-    ensures { λ r. ⌜ Gave (now (t .entry)) q k room (now (rows .entry)) (now (paths .entry)) (now (heads .entry)) (now (heads .exit)) n floor (now (out .entry)) (now (out .exit)) given r ⌝ }
+    requires { ⌜ Givable (now t) q (now out) (now rows) (now paths) (now orders) (now heads) (now ranks) n room ⌝ }
+    ensures { λ r. ⌜ Gave (now (t .entry)) q k room (now (rows .entry)) (now (paths .entry)) (now (orders .entry)) (now (orders .exit)) (now (heads .entry)) (now (heads .exit)) (now (ranks .entry)) (now (ranks .exit)) n floor (now (out .entry)) (now (out .exit)) given r ⌝ }
 {
     let mut j = given;
     while j < k {
-        let lead = front::best_head(heads, n);
+        let lead = front::lead_of(heads, ranks, n);
         if !clears(lead.next, floor) {
             return j;
         }
         put_out(out, j, room, lead.next.spot);
-        let r = spot::rank_key(lead.next.spot.key);
-        move_on(t, rows, paths, heads, lead.slot, r, q);
+        move_on(t, rows, paths, orders, heads, ranks, lead.slot, q);
         j += 1;
     }
     j
+}
+
+// A search that gives nothing.
+fn stops(short: bool) -> Search
+    ensures { λ r. ⌜ r ≡ record { ok = false; short = short; spots = 0 } ⌝ }
+{
+    Search {
+        ok: false,
+        short,
+        spots: 0,
+    }
 }
 
 // The search once the root is read, with as many slots as are lent; `seen` becomes the map of the blocks read.
 fn sweep(
     t: &[u8],
     seen: &mut [u8],
+    rows: &mut [[u64; 6]],
+    paths: &mut [[usize; 8]],
+    orders: &mut [[u8; 64]],
+    heads: &mut [[u64; 5]],
+    ranks: &mut [u64],
+    kids: &mut [u64],
     q: spot::Query,
     k: usize,
     out: &mut [u8],
     room: usize,
-    rows: &mut [[u64; 6]],
-    paths: &mut [[usize; 8]],
-    heads: &mut [[u64; 3]],
-    kids: &mut [u64],
 ) -> Search
-    requires { ⌜ Sweepable (now t) q (now seen) (now out) (now rows) (now paths) (now heads) (now kids) k room ⌝ }
+    requires { ⌜ Sweepable (now t) q (now seen) (now out) (now rows) (now paths) (now orders) (now heads) (now ranks) (now kids) k room ⌝ }
     ensures { λ r. ⌜ Searched (now (t .entry)) q k room (length (now (rows .entry))) (now (out .entry)) (now (seen .exit)) (now (out .exit)) r ⌝ }
 {
     let cap = rows.len();
@@ -204,7 +256,21 @@ fn sweep(
     while n < cap {
         let c = front::highest(kids, 8 * n);
         let floor = kids[c];
-        given = give_above(t, rows, paths, heads, n, q, floor, given, k, out, room);
+        given = give_above(
+            t,
+            rows,
+            paths,
+            orders,
+            heads,
+            ranks,
+            n,
+            q,
+            floor,
+            given,
+            k,
+            out,
+            room,
+        );
         if (k <= given) | (floor == 0) {
             octets::set_bit(seen, 0);
             return Search {
@@ -213,35 +279,12 @@ fn sweep(
                 spots: given,
             };
         }
-        let kid = next_kid(t, rows, paths, c);
-        let slot = kid.slot;
-        let entry = kid.entry;
-        kids[c] = 0;
-        if !read_node(
-            t,
-            seen,
-            rows,
-            paths,
-            heads,
-            kids,
-            n,
-            slot,
-            block::Asked::Child(entry),
-            q,
-        ) {
-            return Search {
-                ok: false,
-                short: false,
-                spots: 0,
-            };
+        if !read_kid(t, seen, rows, paths, orders, heads, ranks, kids, n, c, q) {
+            return stops(false);
         }
         n += 1;
     }
-    Search {
-        ok: false,
-        short: true,
-        spots: 0,
-    }
+    stops(true)
 }
 
 // The search of a table from its root.
@@ -254,19 +297,16 @@ fn look(
     room: usize,
     rows: &mut [[u64; 6]],
     paths: &mut [[usize; 8]],
-    heads: &mut [[u64; 3]],
+    orders: &mut [[u8; 64]],
+    heads: &mut [[u64; 5]],
+    ranks: &mut [u64],
     kids: &mut [u64],
 ) -> Search
-    requires { ⌜ Searchable (now t) q (now seen) (now out) (now rows) (now paths) (now heads) (now kids) k room ⌝ }
+    requires { ⌜ Searchable (now t) q (now seen) (now out) (now rows) (now paths) (now orders) (now heads) (now ranks) (now kids) k room ⌝ }
     ensures { λ r. ⌜ Searched (now (t .entry)) q k room (length (now (rows .entry))) (now (out .entry)) (now (seen .exit)) (now (out .exit)) r ⌝ }
 {
-    let none = Search {
-        ok: false,
-        short: false,
-        spots: 0,
-    };
     if !block::header_ok(t) {
-        return none;
+        return stops(false);
     }
     let root = root_slot(t);
     if !read_node(
@@ -274,16 +314,31 @@ fn look(
         seen,
         rows,
         paths,
+        orders,
         heads,
+        ranks,
         kids,
         0,
         root,
         block::Asked::Root,
         q,
     ) {
-        return none;
+        return stops(false);
     }
-    sweep(t, seen, q, k, out, room, rows, paths, heads, kids)
+    sweep(
+        t,
+        seen,
+        rows,
+        paths,
+        orders,
+        heads,
+        ranks,
+        kids,
+        q,
+        k,
+        out,
+        room,
+    )
 }
 
 // Top of a table, with a slot for every block that a table may have.
@@ -300,7 +355,9 @@ pub fn wide_run(
 {
     let mut rows = [[0u64; 6]; 4096];
     let mut paths = [[0usize; 8]; 4096];
-    let mut heads = [[0u64; 3]; 4096];
+    let mut orders = [[0u8; 64]; 4096];
+    let mut heads = [[0u64; 5]; 4096];
+    let mut ranks = [0u64; 4096];
     let mut kids = [0u64; 32768];
     let all = look(
         t,
@@ -311,7 +368,9 @@ pub fn wide_run(
         room,
         &mut rows,
         &mut paths,
+        &mut orders,
         &mut heads,
+        &mut ranks,
         &mut kids,
     );
     TopTally {
@@ -332,10 +391,12 @@ pub fn top_run(
     requires { ⌜ Runnable (now t) q (now seen) (now out) k room ⌝ }
     ensures { λ r. ⌜ TopFront (now (t .entry)) q k room (now (out .entry)) (now (seen .exit)) (now (out .exit)) r ⌝ }
 {
-    let mut rows = [[0u64; 6]; 64];
-    let mut paths = [[0usize; 8]; 64];
-    let mut heads = [[0u64; 3]; 64];
-    let mut kids = [0u64; 512];
+    let mut rows = [[0u64; 6]; 128];
+    let mut paths = [[0usize; 8]; 128];
+    let mut orders = [[0u8; 64]; 128];
+    let mut heads = [[0u64; 5]; 128];
+    let mut ranks = [0u64; 128];
+    let mut kids = [0u64; 1024];
     let some = look(
         t,
         seen,
@@ -345,7 +406,9 @@ pub fn top_run(
         room,
         &mut rows,
         &mut paths,
+        &mut orders,
         &mut heads,
+        &mut ranks,
         &mut kids,
     );
     if !some.short {

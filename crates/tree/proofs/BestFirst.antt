@@ -4,7 +4,7 @@
 use mathlib.Core.Path.{_≡_, refl, ap, sym, subst}
 use mathlib.Core.Logic.{_⊎_, inl, inr, ⊎-elim}
 use mathlib.Core.Bool.{Bool, true, false}
-use mathlib.Core.List.{List, [], _∷_, _++_, append-assoc, List·Memᴰ, List·Memᴰ·head, List·Memᴰ·not-nil, List·Memᴰ·cases-cons, List·Memᴰ·append-cases, Memᴰ·append-left}
+use mathlib.Core.List.{List, [], _∷_, _++_, append-assoc, List·Memᴰ, List·Memᴰ·not-nil, List·Memᴰ·cases-cons, List·Memᴰ·append-cases, Memᴰ·append-left}
 use Prim.Native.Nat.{ℕ, suc, _+_, _-_, _*_, _≤_, _<_}
 use native.Mathlib.Omega.{arith}
 use lib.Dec.{leb, ltb}
@@ -13,6 +13,7 @@ use lib.ListN.{length, length-append}
 use borrow.Author.Tests.{leb-true, ltb-true, le-leb, lt-ltb}
 use Rattle.octets.specs.Lists.{has, distinct, upTo}
 use Rattle.octets.specs.Bitmap.{digit}
+use Rattle.octets.proofs.Lists.{no-member, mem-less}
 use Rattle.octets.proofs.Order.{less-or-not}
 use Rattle.octets.proofs.Once.{fewer, once-distinct}
 use Rattle.octets.proofs.Marks.{digit-small}
@@ -30,7 +31,7 @@ use Rattle.tree.specs.Walk.{broken}
 use Rattle.tree.specs.Top.{topWalk}
 use Rattle.tree.specs.BestFirst.{Pending, promised, opened, shown, NonePromises, NoneAbove}
 use Rattle.tree.proofs.Sources.{Source, InTable}
-use Rattle.tree.proofs.BestFirstSums.{sum, Reordered, count, count-all, count-some, count-le, sum-append, sum-middle, mem-less, reordered-none, reordered-join, reordered-out}
+use Rattle.tree.proofs.BestFirstSums.{sum, Reordered, count, count-all, count-some, count-le, sum-append, sum-middle, reordered-none, reordered-join, reordered-out}
 use Rattle.tree.proofs.BestFirstTree.{rootOf}
 use Rattle.tree.proofs.BestFirstParts.{Fit}
 use Rattle.tree.proofs.BestFirstSteps.{NoneRanks, Course, begin, open-part, give-spot, reorder-course}
@@ -52,6 +53,7 @@ pub record Progress (t : List ℕ) (x1 x2 : ℤ) (k : ℕ) (unread : List Pendin
   pub spare : (d : Spot) → List·Memᴰ d dropped → k ≤ length given + notUnder (rk d) found
   pub later : (u : Pending) → List·Memᴰ u skipped → k ≤ length given + beyond (promised u) found
 
+-- at first the root is all that is known of, and nothing is left out
 pub start : (t : List ℕ) (x1 x2 : ℤ) (k : ℕ) → headerOk (length t) (headOf t) ≡ true → Progress t x1 x2 (suc k) (rootOf t ∷ []) [] [] []
 start t x1 x2 k h =
     record {
@@ -94,6 +96,7 @@ module _ (t : List ℕ) (x1 x2 : ℤ) (k : ℕ) (us : List Pending) (p : Pending
       (λ j. let r = over-dropped t x1 x2 k (us ++ (p ∷ vs)) found given blocks g room s j in let z = low (r .0) (r .1) in omega (arith, r .2))
       (List·Memᴰ·append-cases found i)
 
+  -- the part that promises most is read where no spot found ranks above its promise: its spots are found, its children become known; what was left out still has k before it, as spots only join
   pub read-part : (l : ℕ) → p .levels ≡ suc l → nodeOk l (p .part .asked) (storeOf t (p .part .block)) ≡ true → has (p .part .block) blocks ≡ false
       → Progress t x1 x2 k (us ++ (opened (storeOf t) (topQuery x1 x2 0) l p ++ vs)) (shown (storeOf t) (topQuery x1 x2 0) p ++ found) given (p .part .block ∷ blocks)
   read-part l e ok new =
@@ -113,9 +116,11 @@ module _ (t : List ℕ) (x1 x2 : ℤ) (k : ℕ) (us : List Pending) (p : Pending
   pub broken-level : p .levels ≡ 0 → topWalk t x1 x2 k ≡ broken
   broken-level = breaks-level t x1 x2 k us p (vs ++ g .skipped) (found ++ g .dropped) given blocks here here-most here-low room
 
+  -- .. since the walk at the rank reached reads this node as well
   pub broken-node : (l : ℕ) → p .levels ≡ suc l → nodeOk l (p .part .asked) (storeOf t (p .part .block)) ≡ false → topWalk t x1 x2 k ≡ broken
   broken-node = breaks-node t x1 x2 k us p (vs ++ g .skipped) (found ++ g .dropped) given blocks here here-most here-low room
 
+  -- .. since the walk at the rank reached reads this block from both places
   pub broken-twice : has (p .part .block) blocks ≡ true → topWalk t x1 x2 k ≡ broken
   broken-twice = breaks-twice t x1 x2 k us p (vs ++ g .skipped) (found ++ g .dropped) given blocks here here-most here-low room
 
@@ -129,6 +134,7 @@ module _ (t : List ℕ) (x1 x2 : ℤ) (k : ℕ) (unread : List Pending) (us : Li
   one-fewer : (f : Spot → ℕ) → f s ≤ 1 → k ≤ length given + sum f (us ++ (s ∷ vs)) → k ≤ length (given ++ (s ∷ [])) + sum f (us ++ vs)
   one-fewer f o h = omega (arith, sum-middle f us s vs, length-append given (s ∷ []))
 
+  -- the highest spot found is given where every part unread promises less: no spot that is left out, or found later, comes before it
   pub give : Progress t x1 x2 k unread (us ++ vs) (given ++ (s ∷ [])) blocks
   give =
       record {
@@ -170,6 +176,7 @@ module _ (t : List ℕ) (x1 x2 : ℤ) (k : ℕ) (unread : List Pending) (us : Li
       go true e = omega (arith, count-le (λ x. leb (rk s) (rk x)) f (us ++ vs) (λ x i l. up x e (leb-true (rk s) (rk x) l)))
       go false e = omega (arith, sum-middle (λ x. digit (f x)) us s vs, ap digit e)
 
+  -- a spot that k others come before is never given: each that it came before is still counted without it
   pub drop-spot : k ≤ length given + notUnder (rk s) (us ++ vs) → Progress t x1 x2 k unread (us ++ vs) given blocks
   drop-spot h =
       record {
@@ -197,6 +204,7 @@ module _ (t : List ℕ) (x1 x2 : ℤ) (k : ℕ) (unread : List Pending) (us : Li
   drop-lowest low h = drop-spot (omega (arith, count-all (λ x. leb (rk s) (rk x)) (us ++ vs) (λ x i. le-leb (rk s) (rk x) (low x i))))
 
 module _ (t : List ℕ) (x1 x2 : ℤ) (k : ℕ) (us : List Pending) (p : Pending) (vs : List Pending) (found given : List Spot) (blocks : List ℕ) (g : Progress t x1 x2 k (us ++ (p ∷ vs)) found given blocks) where
+  -- nor is a part read whose promise k spots are above
   pub skip-part : k ≤ length given + beyond (promised p) found → Progress t x1 x2 k (us ++ vs) found given blocks
   skip-part h =
       record {
@@ -213,6 +221,7 @@ module _ (t : List ℕ) (x1 x2 : ℤ) (k : ℕ) (us : List Pending) (p : Pending
 -- ---- in another order
 
 module _ (t : List ℕ) (x1 x2 : ℤ) (k : ℕ) (unread after : List Pending) (found left : List Spot) (given : List Spot) (blocks : List ℕ) (g : Progress t x1 x2 k unread found given blocks) (a : Reordered unread after) (b : Reordered found left) where
+  -- sums and members are all that the invariant speaks of, so the order of the two lists is free
   pub reorder : Progress t x1 x2 k after left given blocks
   reorder =
       record {
@@ -239,16 +248,12 @@ module _ (t : List ℕ) (x1 x2 : ℤ) (k : ℕ) (unread : List Pending) (found g
       ⊎-elim (λ (h : k ≤ length given). done-full h)
       (λ (h : length given < k).
       ends-empty t x1 x2 k (unread ++ g .skipped) (found ++ g .dropped) given blocks (g .course)
-      (rw n (none (g .skipped) (λ u i. let r = over-skipped t x1 x2 k unread found given blocks g h u i in gone (r .0) (r .1))))
-      (rw e (none (g .dropped) (λ d i. let r = over-dropped t x1 x2 k unread found given blocks g h d i in gone (r .0) (r .1)))))
+      (rw n (no-member (g .skipped) (λ u i. let r = over-skipped t x1 x2 k unread found given blocks g h u i in gone (r .0) (r .1))))
+      (rw e (no-member (g .dropped) (λ d i. let r = over-dropped t x1 x2 k unread found given blocks g h d i in gone (r .0) (r .1)))))
       (less-or-not k (length given))
     where
       gone : (s : Spot) → List·Memᴰ s found → ⊥
       gone s i = List·Memᴰ·not-nil (subst (λ (ss : List Spot). List·Memᴰ s ss) e i)
-
-      none : {A : Type 0} (xs : List A) → ((x : A) → List·Memᴰ x xs → ⊥) → xs ≡ []
-      none [] h = refl
-      none (x ∷ xs) h = absurd (h x (List·Memᴰ·head refl))
 
   -- an unread part has a level left, and stands in the table
   pub unread-fit : (u : Pending) → List·Memᴰ u unread → Fit t (topQuery x1 x2 0) u
@@ -264,9 +269,11 @@ module _ (t : List ℕ) (x1 x2 : ℤ) (k : ℕ) (unread : List Pending) (found g
   pub blocks-once : distinct blocks ≡ true
   blocks-once = g .course .once
 
+  -- each block read is one of the table's
   pub blocks-in : (b : ℕ) → List·Memᴰ b blocks → InTable t b
   blocks-in = g .course .places
 
+  -- no block is read twice, and block 0 never is: there are no more than the others
   pub blocks-few : length blocks ≤ blocksOf (length t) - 1
   blocks-few =
       let n = blocksOf (length t) - 1 in
@@ -277,8 +284,10 @@ module _ (t : List ℕ) (x1 x2 : ℤ) (k : ℕ) (unread : List Pending) (found g
   pub unread-few : length unread ≤ 1 + 7 * length blocks
   unread-few = omega (arith, g .course .wide, length-append unread (g .skipped))
 
+  -- a node shows at most 128 spots
   pub found-few : length found + length given ≤ 128 * length blocks
   found-few = omega (arith, g .course .shows, length-append found (g .dropped))
 
+  -- no more than k are given
   pub given-few : length given ≤ k
   given-few = g .course .few

@@ -10,6 +10,7 @@ use native.Mathlib.Omega.{arith}
 use lib.IntN.{ℤ}
 use lib.ListN.{length, length-append}
 use borrow.Author.Tests.{le-leb, lt-leb}
+use Rattle.octets.proofs.Lists.{mem-here}
 use Rattle.octets.proofs.Order.{less-or-not}
 use Rattle.octets.proofs.Tests.{all-at, keep-mem}
 use Rattle.octets.proofs.UpTo.{largest-hit, largest-le, largest-above}
@@ -22,7 +23,7 @@ use Rattle.tree.specs.Walk.{spots, takes, takesKey, finds, walkTable}
 use Rattle.tree.specs.Top.{enough, threshold, topWalk}
 use Rattle.tree.specs.BestFirst.{Pending, promised, shown}
 use Rattle.tree.proofs.Sources.{Source}
-use Rattle.tree.proofs.BestFirstSums.{sum, counted, one, counted-yes, counted-no, counted-le, sum-same, sum-le, sum-none, sum-length, mem-here, mark, distinct-marks}
+use Rattle.tree.proofs.BestFirstSums.{sum, counted, one, counted-yes, counted-no, counted-le, sum-same, sum-le, sum-none, sum-length, mark, distinct-marks}
 use Rattle.tree.proofs.BestFirstSpots.{spotMark, spot-from, Descends}
 use Rattle.tree.proofs.BestFirstTree.{weighs, atNode, onBlock, onSpots, faultAt, fault, rootOf, Whole, walk-whole}
 use Rattle.tree.proofs.BestFirstParts.{due, finds-rank, held-small}
@@ -31,6 +32,7 @@ use Rattle.tree.proofs.BestFirstSteps.{NoneRanks, numbers, Course}
 -- ---- the threshold
 
 module _ (t : List ℕ) (x1 x2 : ℤ) (k : ℕ) where
+  -- the threshold is sought among the ranks, and is past them where none finds k
   pub threshold-le : threshold t x1 x2 k ≤ word
   unfolding threshold
   threshold-le = largest-le (λ y. enough k (walkTable t (topQuery x1 x2 y))) word
@@ -43,6 +45,7 @@ module _ (t : List ℕ) (x1 x2 : ℤ) (k : ℕ) where
   unfolding threshold
   threshold-above y = largest-above (λ y. enough k (walkTable t (topQuery x1 x2 y))) word y
 
+  -- for k above 0 the walk of Top is the walk at its threshold, by definition
   pub top-walk : 0 < k → topWalk t x1 x2 k ≡ walkTable t (topQuery x1 x2 (threshold t x1 x2 k))
   unfolding topWalk
   top-walk h = go k h refl
@@ -75,6 +78,7 @@ sum-numbers : (f : ℕ → ℕ) (rs : List Pending) → sum f (numbers rs) ≡ s
 sum-numbers f [] = refl
 sum-numbers f (r ∷ rs) = omega (arith, sum-numbers f rs)
 
+-- a block among the numbers of some parts is the block of one of them
 pub numbers-mem : (rs : List Pending) {b : ℕ} → List·Memᴰ b (numbers rs) → (r : Pending) × List·Memᴰ r rs × (b ≡ r .part .block)
 numbers-mem [] i = absurd (List·Memᴰ·not-nil i)
 numbers-mem (r ∷ rs) i =
@@ -93,6 +97,7 @@ at-node m u h x = go (u .levels) h
     go zero e = let z : ⊥ = omega arith in absurd z
     go (suc n) e = refl
 
+-- a part with a level left counts
 pub at-some : (n x : ℕ) → 1 ≤ n → atNode n x ≡ x
 at-some zero x h = let z : ⊥ = omega arith in absurd z
 at-some (suc n) x h = refl
@@ -105,6 +110,7 @@ none-of r z ss h l = sum-none (counted (ofRank z) one) ss (λ s i. counted-no (o
 pub all-of : (y : ℕ) (f : Spot → ℕ) (ss : List Spot) → ((s : Spot) → List·Memᴰ s ss → y ≤ rankOf (s .key)) → sum (counted (ofRank y) f) ss ≡ sum f ss
 all-of y f ss h = sum-same (counted (ofRank y) f) f ss (λ s i. counted-yes (ofRank y) f s (le-leb y (rankOf (s .key)) (h s i)))
 
+-- those of a rank are no more than all
 pub at-most : (y : ℕ) (ss : List Spot) → sum (counted (ofRank y) one) ss ≤ length ss
 at-most y ss = omega (arith, sum-le (counted (ofRank y) one) one ss (λ s i. counted-le (ofRank y) one s), sum-length ss)
 
@@ -136,6 +142,7 @@ module _ (t : List ℕ) (x1 x2 : ℤ) (k : ℕ) (unread : List Pending) (found g
       ⊎-elim (λ i. spot-from s found (shown (storeOf t) (topQuery x1 x2 0)) (g .read) i (omega (arith, g .spots (spotMark s))))
       (λ i. spot-from s given (shown (storeOf t) (topQuery x1 x2 0)) (g .read) i (omega (arith, g .spots (spotMark s))))
 
+  -- a spot that is found or given was shown by a node that was read
   pub source : (s : Spot) → List·Memᴰ s found ⊎ List·Memᴰ s given → Source (storeOf t) (topQuery x1 x2 0) blocks s
   unfolding finds takesKey
   source s i =
@@ -149,6 +156,7 @@ module _ (t : List ℕ) (x1 x2 : ℤ) (k : ℕ) (unread : List Pending) (found g
         held = h .0;
       }
 
+  -- .. so its key is one of 8 bytes
   pub small : (s : Spot) → List·Memᴰ s found ⊎ List·Memᴰ s given → s .key < allKeys
   small s i = let r = source s i in held-small t (r .block) (r .held)
 

@@ -10,19 +10,19 @@ use native.Mathlib.Omega.{arith}
 use lib.Dec.{leb, ltb, eqb}
 use lib.IntN.{ℤ}
 use lib.ListN.{length, length-append}
-use borrow.Author.Tests.{ltb-true, le-leb, lt-ltb, eqb-false, not-true}
-use Rattle.octets.specs.Lists.{all, has, keep, records}
+use borrow.Author.Tests.{ltb-true, le-leb, lt-ltb}
+use Rattle.octets.specs.Lists.{all, has, keep}
 use Rattle.octets.specs.Bytes.{be}
 use Rattle.octets.proofs.Tests.{all-at, every-mem, keep-mem, keep-in, keep-length, keep-keep}
-use Rattle.octets.proofs.Records.{every-records, tests-make}
+use Rattle.octets.proofs.Records.{tests-make}
 use Rattle.spot.specs.declared.Spot.{Spot}
 use Rattle.spot.specs.declared.Query.{Query}
 use Rattle.spot.specs.Keys.{word, allKeys, rankKey, rankOf}
-use Rattle.spot.specs.Spots.{keyAt, spotAt, keys}
+use Rattle.spot.specs.Spots.{keyAt, keys}
 use Rattle.spot.specs.Query.{topQuery, meets, wants}
 use Rattle.spot.proofs.Card.{keyAt-lt}
 use Rattle.spot.proofs.Halves.{rank-of-low}
-use Rattle.spot.proofs.Buffers.{keys-mem}
+use Rattle.spot.proofs.Buffers.{keys-mem, spots-small}
 use Rattle.spot.proofs.Ranks.{ofRank, wants-high}
 use Rattle.block.specs.declared.Entry.{Entry}
 use Rattle.block.specs.declared.Asked.{Asked}
@@ -37,6 +37,7 @@ use Rattle.tree.specs.Part.{Part, children}
 use Rattle.tree.specs.Walk.{topped, admits, takes, takesKey, finds}
 use Rattle.tree.specs.Trace.{admitted}
 use Rattle.tree.specs.BestFirst.{Pending, promise, promised, known, opened, shown}
+use Rattle.tree.proofs.Live.{topped-size}
 use Rattle.tree.proofs.Ranges.{parts-mem, parts-length}
 use Rattle.tree.proofs.Below.{tops-mem}
 use Rattle.tree.proofs.Entries.{Highest, agree-held, agree-top}
@@ -95,6 +96,7 @@ module _ (x1 x2 : ℤ) (y : ℕ) where
       go true false false = refl
       go false b d = refl
 
+  -- what a node shows at least rank y is, of what it shows at rank 0, the spots of that rank: the test on places is the same
   pub finds-rank : (g : Spot → ℕ) (named : List ℕ) (n : Node)
       → sum g (finds (topQuery x1 x2 y) named n) ≡ sum (counted (ofRank y) g) (finds (topQuery x1 x2 0) named n)
   unfolding finds
@@ -105,22 +107,16 @@ module _ (x1 x2 : ℤ) (y : ℕ) where
 
 -- ---- keys of a table have 64 bits
 
+-- the rank of a key of 8 bytes has 4
 pub rank-word : (k : ℕ) → k < allKeys → rankOf k < word
 rank-word k h = let e : rankOf k ≡ _ = rank-of-low k h in omega arith
 
-spots-small : (s : List ℕ) (n at : ℕ) {x : Spot} → List·Memᴰ x (records (spotAt s) 12 n at) → x .key < allKeys
-unfolding spotAt
-spots-small s n at {x} i =
-    ltb-true (x .key) allKeys
-    (every-mem (λ (z : Spot). ltb (z .key) allKeys) (records (spotAt s) 12 n at)
-    (every-records (λ (z : Spot). ltb (z .key) allKeys) (spotAt s) 12 n at ∙ tests-make _ 12 n at (λ j l. lt-ltb (keyAt s (at + 12 * j)) allKeys (keyAt-lt s (at + 12 * j))))
-    i)
-
+-- a spot of P or I is read from bytes, so its key has 8
 pub held-small : (t : List ℕ) (b : ℕ) {s : Spot} → List·Memᴰ s (storeOf t b .points ++ storeOf t b .inserts) → s .key < allKeys
 unfolding storeOf nodeOf nodeFrom
 held-small t b {s} i =
     let x = block t b in
-    ⊎-elim (λ j. spots-small x (be 1 x 4) (pointsFrom version1 (be 1 x 7)) j) (λ j. spots-small x (be 1 x 5) (insertsFrom version1 (be 1 x 7) (be 1 x 4)) j)
+    ⊎-elim (λ j. spots-small x 12 (be 1 x 4) (pointsFrom version1 (be 1 x 7)) j) (λ j. spots-small x 12 (be 1 x 5) (insertsFrom version1 (be 1 x 7) (be 1 x 4)) j)
     (List·Memᴰ·append-cases (storeOf t b .points) i)
 
 entry-small : (s : List ℕ) (i : ℕ) → ltb (entryAt s i .top) allKeys ≡ true
@@ -131,6 +127,7 @@ entry-small s i = go (eqb (be 1 s (i + 2)) 0)
     go true = lt-ltb 0 allKeys (omega arith)
     go false = lt-ltb (keyAt s (i + 12)) allKeys (keyAt-lt s (i + 12))
 
+-- so has the highest key that an entry names
 pub top-small : (t : List ℕ) (b : ℕ) {e : Entry} → List·Memᴰ e (storeOf t b .entries) → e .top < allKeys
 unfolding storeOf nodeOf nodeFrom
 top-small t b {e} i =
@@ -142,10 +139,6 @@ top-small t b {e} i =
     i)
 
 -- ---- what a node holds and its entry promises
-
-sized : (q : Query) (e : Entry) → topped q (Child e) ≡ true → e .size ≡ 0 → ⊥
-unfolding topped
-sized q e h = eqb-false (e .size) 0 (not-true (eqb (e .size) 0) (all-at _ h 0))
 
 module _ (l : ℕ) (e : Entry) (n : Node) (ok : nodeOk l (Child e) n ≡ true) (some : e .size ≡ 0 → ⊥) where
   top-is : Highest (n .points) (e .top)
@@ -165,7 +158,7 @@ module _ (t : List ℕ) (q : Query) (l b : ℕ) where
   pub held-under : (a : Asked) → nodeOk l a (storeOf t b) ≡ true → topped q a ≡ true → (s : Spot) → List·Memᴰ s (storeOf t b .points ++ storeOf t b .inserts)
       → rankOf (s .key) ≤ promise a
   held-under Root ok h s i = let z = rank-word (s .key) (held-small t b i) in omega arith
-  held-under (Child e) ok h s i = let z = held-below l e (storeOf t b) ok (sized q e h) s i in omega arith
+  held-under (Child e) ok h s i = let z = held-below l e (storeOf t b) ok (topped-size q e h) s i in omega arith
 
   -- and so is the highest of a child
   entry-under : (a : Asked) → nodeOk l a (storeOf t b) ≡ true → topped q a ≡ true → (e : Entry) → List·Memᴰ e (storeOf t b .entries) → topped q (Child e) ≡ true
@@ -173,7 +166,7 @@ module _ (t : List ℕ) (q : Query) (l b : ℕ) where
   entry-under Root ok h e i k = let z = rank-word (e .top) (top-small t b i) in omega arith
   entry-under (Child d) ok h e i k =
       let n = storeOf t b in
-      let z = below-other l d n ok (sized q d h) (e .top) (Memᴰ·append-right (keys (n .inserts) ++ n .deletes) (tops-mem (n .entries) i (sized q e k))) in
+      let z = below-other l d n ok (topped-size q d h) (e .top) (Memᴰ·append-right (keys (n .inserts) ++ n .deletes) (tops-mem (n .entries) i (topped-size q e k))) in
       omega arith
 
 -- ---- the parts that become known
@@ -253,12 +246,15 @@ module _ (t : List ℕ) (q : Query) (l : ℕ) (p : Pending) (f : Fit t q p) (e :
       let r = known-mem (names n ++ p .named) l (keep (admits q) (children (p .part) n)) i in
       child-fit (r .0) (r .1) u (r .2)
 
+  -- the children of a part that fits fit: their levels fall, they stand in the table, and an entry leads to each
   pub opened-fit : (u : Pending) → List·Memᴰ u (opened (storeOf t) q l p) → Fit t q u
   opened-fit u i = opened-part u i .0
 
+  -- a child's highest is not above its parent's lowest, so it promises no more
   pub opened-under : (u : Pending) → List·Memᴰ u (opened (storeOf t) q l p) → promised u ≤ promised p
   opened-under u i = opened-part u i .1
 
+  -- a node shows nothing above what the entry that leads to it promises
   pub shown-under : (s : Spot) → List·Memᴰ s (shown (storeOf t) q p) → rankOf (s .key) ≤ promised p
   unfolding finds
   shown-under s i =

@@ -11,6 +11,7 @@ use lib.ListN.{length, length-append}
 use borrow.Author.Tests.{le-leb, lt-leb}
 use Rattle.octets.specs.Lists.{has, distinct}
 use Rattle.octets.specs.Bitmap.{digit}
+use Rattle.octets.proofs.Lists.{mem-here, mem-more, mem-three}
 use Rattle.octets.proofs.Order.{less-or-not}
 use Rattle.octets.proofs.Sets.{distinct-cons, not-has-mem}
 use Rattle.spot.specs.declared.Spot.{Spot}
@@ -25,7 +26,7 @@ use Rattle.block.proofs.Facts.{head-facts}
 use Rattle.tree.specs.Walk.{topped}
 use Rattle.tree.specs.BestFirst.{Pending, promised, opened, shown, NonePromises, NoneAbove}
 use Rattle.tree.proofs.Sources.{InTable, root-in}
-use Rattle.tree.proofs.BestFirstSums.{sum, counted, counted-yes, counted-no, sum-append, sum-middle, sum-none, sum-three, mem-here, mem-more, mem-three, Reordered, same-length}
+use Rattle.tree.proofs.BestFirstSums.{sum, counted, counted-yes, counted-no, sum-append, sum-middle, sum-none, sum-three, Reordered, same-length}
 use Rattle.tree.proofs.BestFirstSpots.{Descends, descends-join}
 use Rattle.tree.proofs.BestFirstTree.{weighs, weigh-step, faultAt, fault, rootOf}
 use Rattle.tree.proofs.BestFirstParts.{due, admitted-rank, Fit, opened-few, shown-few, opened-fit, opened-under, shown-under}
@@ -34,6 +35,7 @@ use Rattle.tree.proofs.BestFirstParts.{due, admitted-rank, Fit, opened-
 abbrev pub NoneRanks : ℕ → List Spot → Type 0
 NoneRanks r ss = (s : Spot) → List·Memᴰ s ss → rankOf (s .key) ≤ r
 
+-- rank keys compare ranks first
 pub none-ranks : (k r : ℕ) (ss : List Spot) → NoneAbove (rankKey k) ss → rankOf k ≤ r → NoneRanks r ss
 none-ranks k r ss h l s i = let z = h s i in omega arith
 
@@ -77,6 +79,7 @@ pub record Course (t : List ℕ) (x1 x2 : ℤ) (k : ℕ) (unread : List Pending)
 
 -- ---- the beginning
 
+-- the root alone is known of; every sum over a walk is the root's own
 pub begin : (t : List ℕ) (x1 x2 : ℤ) (k : ℕ) → headerOk (length t) (headOf t) ≡ true → Course t x1 x2 (suc k) (rootOf t ∷ []) [] [] []
 unfolding topped
 begin t x1 x2 k h =
@@ -153,6 +156,7 @@ module _ (t : List ℕ) (x1 x2 : ℤ) (k : ℕ) (us : List Pending) (p : Pending
   no-more r i =
       ⊎-elim (λ (d : r ≡ p). omega (arith, ap promised d)) (λ j. g .behind r j p (mem-here us p vs)) (List·Memᴰ·cases-cons i)
 
+  -- the part that promises most is read: in every sum its node and its children stand for it, and its spots are found
   pub open-part : Course t x1 x2 k (us ++ (opened (storeOf t) (topQuery x1 x2 0) l p ++ vs)) (shown (storeOf t) (topQuery x1 x2 0) p ++ found) given (p .part .block ∷ blocks)
   open-part =
       let m = storeOf t in
@@ -210,6 +214,7 @@ module _ (t : List ℕ) (x1 x2 : ℤ) (k : ℕ) (us : List Pending) (p : Pending
 -- ---- a spot is given
 
 module _ (t : List ℕ) (x1 x2 : ℤ) (k : ℕ) (unread : List Pending) (us : List Spot) (s : Spot) (vs : List Spot) (given : List Spot) (blocks : List ℕ) (g : Course t x1 x2 k unread (us ++ (s ∷ vs)) given blocks) (top : NoneAbove (rankKey (s .key)) (us ++ vs)) (under : (u : Pending) → List·Memᴰ u unread → promised u < rankOf (s .key)) (room : length given < k) where
+  -- the highest of the spots found is given: it moves from one sum to the other, and none found or unread is above it
   pub give-spot : Course t x1 x2 k unread (us ++ vs) (given ++ (s ∷ [])) blocks
   give-spot =
       let here = mem-here us s vs in
@@ -271,6 +276,7 @@ module _ (t : List ℕ) (x1 x2 : ℤ) (k : ℕ) (unread after : List Pending) (f
         over = r .over;
       }
 
+  -- sums and members are all that a course speaks of
   pub reorder-course : Course t x1 x2 k after left given blocks
   reorder-course =
       record {

@@ -1,7 +1,7 @@
 -- Sums over a list, and lists that have the same sums: the same elements, each as often, in any order.
 -- Assumes nothing.
 use mathlib.Core.Path.{_≡_, refl, ap, sym, _∙_}
-use mathlib.Core.Logic.{_⊎_, inl, inr, ⊎-elim}
+use mathlib.Core.Logic.{⊎-elim}
 use mathlib.Core.Bool.{Bool, true, false, cond}
 use mathlib.Core.List.{List, [], _∷_, _++_, List·Memᴰ, List·Memᴰ·head, List·Memᴰ·tail, List·Memᴰ·not-nil, List·Memᴰ·cases-cons, List·Memᴰ·append-cases, Memᴰ·append-left, Memᴰ·append-right, Memᴰ·cast}
 use Prim.Native.Nat.{ℕ, _+_, _≤_, _<_}
@@ -11,6 +11,7 @@ use lib.Dec.{eqb}
 use borrow.Author.Tests.{eqb-true, eq-eqb}
 use Rattle.octets.specs.Lists.{keep, distinct}
 use Rattle.octets.specs.Bitmap.{digit}
+use Rattle.octets.proofs.Lists.{mem-more, mem-less}
 use Rattle.octets.proofs.Sets.{distinct-head, distinct-tail, distinct-cons}
 use Rattle.octets.proofs.Order.{less-or-not}
 use Rattle.octets.proofs.Tests.{every-make, keep-all}
@@ -35,6 +36,7 @@ module _ {A : Type 0} where
   abbrev pub count : (A → Bool) → List A → ℕ
   count t xs = sum (λ x. digit (t x)) xs
 
+  -- by the first list
   pub sum-append : (f : A → ℕ) (xs ys : List A) → sum f (xs ++ ys) ≡ sum f xs + sum f ys
   sum-append f [] ys = omega arith
   sum-append f (x ∷ xs) ys = omega (arith, sum-append f xs ys)
@@ -43,18 +45,22 @@ module _ {A : Type 0} where
   pub sum-middle : (f : A → ℕ) (us : List A) (x : A) (vs : List A) → sum f (us ++ (x ∷ vs)) ≡ f x + sum f (us ++ vs)
   sum-middle f us x vs = omega (arith, sum-append f us (x ∷ vs), sum-append f us vs)
 
+  -- equal at each element, equal in sum
   pub sum-same : (f g : A → ℕ) (xs : List A) → ((x : A) → List·Memᴰ x xs → f x ≡ g x) → sum f xs ≡ sum g xs
   sum-same f g [] h = refl
   sum-same f g (x ∷ xs) h = omega (arith, h x (List·Memᴰ·head refl), sum-same f g xs (λ y i. h y (List·Memᴰ·tail i)))
 
+  -- .. and so for at most
   pub sum-le : (f g : A → ℕ) (xs : List A) → ((x : A) → List·Memᴰ x xs → f x ≤ g x) → sum f xs ≤ sum g xs
   sum-le f g [] h = omega arith
   sum-le f g (x ∷ xs) h = omega (arith, h x (List·Memᴰ·head refl), sum-le f g xs (λ y i. h y (List·Memᴰ·tail i)))
 
+  -- nothing at each element, nothing in sum
   pub sum-none : (f : A → ℕ) (xs : List A) → ((x : A) → List·Memᴰ x xs → f x ≡ 0) → sum f xs ≡ 0
   sum-none f [] h = refl
   sum-none f (x ∷ xs) h = omega (arith, h x (List·Memᴰ·head refl), sum-none f xs (λ y i. h y (List·Memᴰ·tail i)))
 
+  -- a part is no more than the sum
   pub sum-mem : (f : A → ℕ) (xs : List A) {x : A} → List·Memᴰ x xs → f x ≤ sum f xs
   sum-mem f [] i = absurd (List·Memᴰ·not-nil i)
   sum-mem f (y ∷ ys) {x} i = ⊎-elim (λ (e : x ≡ y). omega (arith, ap f e)) (λ j. omega (arith, sum-mem f ys j)) (List·Memᴰ·cases-cons i)
@@ -66,10 +72,12 @@ module _ {A : Type 0} where
       ⊎-elim (λ (l : f x ≤ 0). let r = sum-some f xs (omega arith) in (r .0, List·Memᴰ·tail (r .1), r .2)) (λ (l : 0 < f x). (x, List·Memᴰ·head refl, l))
       (less-or-not (f x) 0)
 
+  -- the number of elements is a sum of ones
   pub sum-length : (xs : List A) → sum one xs ≡ length xs
   sum-length [] = refl
   sum-length (x ∷ xs) = omega (arith, sum-length xs)
 
+  -- a sum over those kept is a sum with nothing for the others
   pub sum-keep : (t : A → Bool) (f : A → ℕ) (xs : List A) → sum f (keep t xs) ≡ sum (counted t f) xs
   sum-keep t f [] = refl
   sum-keep t f (x ∷ xs) = go (t x) (sum-keep t f xs)
@@ -79,6 +87,7 @@ module _ {A : Type 0} where
       go true e = omega arith
       go false e = omega arith
 
+  -- those that pass are those kept
   pub count-length : (t : A → Bool) (xs : List A) → count t xs ≡ length (keep t xs)
   count-length t [] = refl
   count-length t (x ∷ xs) = go (t x) (count-length t xs)
@@ -87,6 +96,7 @@ module _ {A : Type 0} where
       go true e = omega arith
       go false e = omega arith
 
+  -- where all pass, all are counted
   pub count-all : (t : A → Bool) (xs : List A) → ((x : A) → List·Memᴰ x xs → t x ≡ true) → count t xs ≡ length xs
   count-all t xs h = count-length t xs ∙ ap length (keep-all t xs (every-make t xs h))
 
@@ -98,6 +108,7 @@ module _ {A : Type 0} where
       go true l = refl
       go false l = let z : ⊥ = omega arith in absurd z
 
+  -- a weaker test counts no fewer
   pub count-le : (t u : A → Bool) (xs : List A) → ((x : A) → List·Memᴰ x xs → t x ≡ true → u x ≡ true) → count t xs ≤ count u xs
   count-le t u xs h = sum-le (λ x. digit (t x)) (λ x. digit (u x)) xs (λ x i. go (t x) (u x) (h x i))
     where
@@ -105,6 +116,7 @@ module _ {A : Type 0} where
       go true b f = let e = ap digit (f refl) in omega arith
       go false b f = omega arith
 
+  -- the three that follow: by the test's two answers
   pub counted-yes : (t : A → Bool) (f : A → ℕ) (x : A) → t x ≡ true → counted t f x ≡ f x
   counted-yes t f x h = rw h
 
@@ -118,30 +130,14 @@ module _ {A : Type 0} where
       go true = omega arith
       go false = omega arith
 
+  -- the length is a sum as well
   pub same-length : (xs ys : List A) → Same xs ys → length xs ≡ length ys
   same-length xs ys s = sym (sum-length xs) ∙ s one ∙ sum-length ys
 
--- ---- members of lists that are cut in two
+-- ---- lists that are cut in two
 
 module _ {A : Type 0} where
-  pub mem-here : (us : List A) (x : A) (vs : List A) → List·Memᴰ x (us ++ (x ∷ vs))
-  mem-here us x vs = Memᴰ·append-right us (List·Memᴰ·head refl)
-
-  pub mem-more : (us : List A) (x : A) (vs : List A) {y : A} → List·Memᴰ y (us ++ vs) → List·Memᴰ y (us ++ (x ∷ vs))
-  mem-more us x vs i =
-      ⊎-elim (λ j. Memᴰ·append-left (x ∷ vs) j) (λ j. Memᴰ·append-right us (List·Memᴰ·tail j)) (List·Memᴰ·append-cases us i)
-
-  pub mem-less : (us : List A) (x : A) (vs : List A) {y : A} → List·Memᴰ y (us ++ (x ∷ vs)) → (y ≡ x) ⊎ List·Memᴰ y (us ++ vs)
-  mem-less us x vs {y} i =
-      ⊎-elim (λ j. inr (Memᴰ·append-left vs j))
-      (λ j. ⊎-elim (λ (e : y ≡ x). inl e) (λ (h : List·Memᴰ y vs). inr (Memᴰ·append-right us h)) (List·Memᴰ·cases-cons j))
-      (List·Memᴰ·append-cases us i)
-
-  pub mem-three : (us cs vs : List A) {y : A} → List·Memᴰ y (us ++ (cs ++ vs)) → List·Memᴰ y cs ⊎ List·Memᴰ y (us ++ vs)
-  mem-three us cs vs i =
-      ⊎-elim (λ j. inr (Memᴰ·append-left vs j)) (λ j. ⊎-elim inl (λ h. inr (Memᴰ·append-right us h)) (List·Memᴰ·append-cases cs j))
-      (List·Memᴰ·append-cases us i)
-
+  -- the middle one summed first
   pub sum-three : (f : A → ℕ) (us cs vs : List A) → sum f (us ++ (cs ++ vs)) ≡ sum f cs + sum f (us ++ vs)
   sum-three f us cs vs = omega (arith, sum-append f us (cs ++ vs), sum-append f cs vs, sum-append f us vs)
 
@@ -150,12 +146,15 @@ module _ {A : Type 0} where
     pub sums : Same xs ys
     pub from : (x : A) → List·Memᴰ x ys → List·Memᴰ x xs
 
+  -- a list as it is
   pub reordered-none : (xs : List A) → Reordered xs xs
   reordered-none xs = record { sums = λ f. refl; from = λ x i. i }
 
+  -- one after the other
   pub reordered-then : (xs ys zs : List A) → Reordered xs ys → Reordered ys zs → Reordered xs zs
   reordered-then xs ys zs a b = record { sums = λ f. a .sums f ∙ b .sums f; from = λ x i. a .from x (b .from x i) }
 
+  -- two parts exchanged
   pub reordered-swap : (xs ys : List A) → Reordered (xs ++ ys) (ys ++ xs)
   reordered-swap xs ys =
       record {
@@ -163,6 +162,7 @@ module _ {A : Type 0} where
         from = λ x i. ⊎-elim (λ j. Memᴰ·append-right xs j) (λ j. Memᴰ·append-left ys j) (List·Memᴰ·append-cases ys i);
       }
 
+  -- two reordered, joined
   pub reordered-join : (ps qs xs ys : List A) → Reordered ps qs → Reordered xs ys → Reordered (ps ++ xs) (qs ++ ys)
   reordered-join ps qs xs ys a b =
       record {
@@ -178,6 +178,7 @@ module _ {A : Type 0} where
         from = λ y i. ⊎-elim (λ e. Memᴰ·append-right us (List·Memᴰ·head e)) (λ j. mem-more us x vs j) (List·Memᴰ·cases-cons i);
       }
 
+  -- .. and put back
   pub reordered-back : (us : List A) (x : A) (vs : List A) → Reordered (x ∷ (us ++ vs)) (us ++ (x ∷ vs))
   reordered-back us x vs =
       record {
@@ -205,9 +206,11 @@ module _ {A : Type 0} where
 abbrev pub mark : ℕ → ℕ → ℕ
 mark b x = digit (eqb b x)
 
+-- b stands at itself once
 pub mark-self : (b x : ℕ) → b ≡ x → mark b x ≡ 1
 mark-self b x e = rw (eq-eqb b x e)
 
+-- what stands there more than never is a member
 pub mark-mem : (b : ℕ) (xs : List ℕ) → 0 < sum (mark b) xs → List·Memᴰ b xs
 mark-mem b xs h = let r = sum-some (mark b) xs h in go (r .0) (r .1) (eqb b (r .0)) refl (r .2)
   where
@@ -215,9 +218,11 @@ mark-mem b xs h = let r = sum-some (mark b) xs h in go (r .0) (r .1) (eqb b (r .
     go x i true e l = Memᴰ·cast (eqb-true b x e) i
     go x i false e l = let z : ⊥ = omega arith in absurd z
 
+-- and the other way
 pub mem-mark : (b : ℕ) (xs : List ℕ) → List·Memᴰ b xs → 0 < sum (mark b) xs
 mem-mark b xs i = let e = mark-self b b refl in omega (arith, sum-mem (mark b) xs i)
 
+-- in a list without repetition each stands at most once
 pub distinct-marks : (xs : List ℕ) → distinct xs ≡ true → (b : ℕ) → sum (mark b) xs ≤ 1
 distinct-marks [] h b = omega arith
 distinct-marks (x ∷ xs) h b = go (eqb b x) refl (distinct-marks xs (distinct-tail x xs h) b)
@@ -228,6 +233,7 @@ distinct-marks (x ∷ xs) h b = go (eqb b x) refl (distinct-marks xs (distinct-t
         ⊎-elim (λ (l : sum (mark b) xs ≤ 0). omega arith) (λ (l : 0 < sum (mark b) xs). absurd (none l)) (less-or-not (sum (mark b) xs) 0)
     go false e ih = omega arith
 
+-- and where each stands at most once nothing is repeated
 pub marks-distinct : (xs : List ℕ) → ((b : ℕ) → sum (mark b) xs ≤ 1) → distinct xs ≡ true
 marks-distinct [] h = refl
 marks-distinct (x ∷ xs) h =

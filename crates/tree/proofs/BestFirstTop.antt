@@ -14,6 +14,7 @@ use lib.Seq.{take-all, take-append-seam}
 use borrow.Author.Tests.{le-leb, lt-leb}
 use Rattle.octets.specs.Lists.{has, keep, records, rising}
 use Rattle.octets.specs.Bitmap.{digit, markByte}
+use Rattle.octets.proofs.Lists.{mem-here, mem-less}
 use Rattle.octets.proofs.Order.{less-or-not}
 use Rattle.octets.proofs.Tests.{bool-ext, keep-in}
 use Rattle.octets.proofs.Sets.{has-mem, mem-has}
@@ -32,7 +33,7 @@ use Rattle.tree.specs.ReadMap.{isRead, readMap}
 use Rattle.tree.specs.Top.{enough, threshold, topWalk, topTable}
 use Rattle.tree.specs.BestFirst.{Pending, promised, NonePromises}
 use Rattle.tree.proofs.Sources.{Source}
-use Rattle.tree.proofs.BestFirstSums.{sum, Same, counted, one, counted-yes, counted-no, sum-append, sum-same, sum-mem, sum-length, sum-keep, mem-here, mem-less, mark, mark-self, mark-mem, mem-mark, same-length}
+use Rattle.tree.proofs.BestFirstSums.{sum, Same, counted, one, counted-yes, counted-no, sum-append, sum-same, sum-mem, sum-length, sum-keep, mark, mark-self, mark-mem, mem-mark, same-length}
 use Rattle.tree.proofs.BestFirstSpots.{sum-byRank, same-spot, Descends, rank-descends, descends-join, Sharp, descends-same, rising-sharp}
 use Rattle.tree.proofs.BestFirstTree.{weighs, weigh-first, atNode, onBlock, faultAt, fault, rootOf, Whole, walk-faulty, walk-twice}
 use Rattle.tree.proofs.BestFirstParts.{due, rank-word}
@@ -285,6 +286,7 @@ module _ (t : List ℕ) (x1 x2 : ℤ) (k : ℕ) (unread : List Pending) (found g
             g .few,
           )
 
+  -- with k given, the threshold is the rank of the last: above it fewer than k are found, from it on k are, and just the parts read promise it
   pub ends-full : k ≤ length given → Done t x1 x2 k given blocks
   ends-full h = done-at (rankOf (g .last h .spot .key)) (at-last h)
 
@@ -307,6 +309,7 @@ module _ (t : List ℕ) (x1 x2 : ℤ) (k : ℕ) (unread : List Pending) (found g
         full = inr e;
       }
 
+  -- with nothing left and fewer than k given, the threshold is the lowest rank, and all that the walk finds is given
   pub ends-empty : unread ≡ [] → found ≡ [] → Done t x1 x2 k given blocks
   ends-empty n e =
       ⊎-elim (λ (h : k ≤ length given). ends-full h) (λ (h : length given < k). done-at 0 (at-empty n e h)) (less-or-not k (length given))

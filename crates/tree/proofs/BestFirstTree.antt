@@ -8,7 +8,7 @@ use native.Mathlib.Omega.{arith}
 use lib.ListN.{length}
 use Rattle.octets.specs.Lists.{every, distinct}
 use Rattle.octets.specs.Bitmap.{digit}
-use Rattle.octets.proofs.Tests.{and-left, and-right, and-both, every-mem, every-make}
+use Rattle.octets.proofs.Tests.{and-left, and-right, and-both, refuted, every-mem, every-make}
 use Rattle.spot.specs.Spots.{putAll}
 use Rattle.spot.specs.declared.Spot.{Spot}
 use Rattle.spot.specs.declared.Query.{Query}
@@ -39,10 +39,12 @@ weigh (suc l) w m q named p = w (pending (suc l) named p) + sum (weigh l w m q (
 abbrev pub weighs : (Pending → ℕ) → Store → Query → Pending → ℕ
 weighs w m q u = weigh (u .levels) w m q (u .named) (u .part)
 
+-- a sum over parts that become known, all with the same nodes above
 pub sum-known : (f : Pending → ℕ) (named : List ℕ) (l : ℕ) (cs : List Part) → sum f (known named l cs) ≡ sum (λ c. f (pending l named c)) cs
 sum-known f named l [] = refl
 sum-known f named l (c ∷ cs) = omega (arith, sum-known f named l cs)
 
+-- a part known of is made of its three fields
 pub pending-is : (u : Pending) (l : ℕ) → u .levels ≡ l → pending l (u .named) (u .part) ≡ u
 pending-is u l e = λ i. record { levels = sym e i; named = u .named; part = u .part }
 
@@ -169,11 +171,8 @@ not-last true true c w e = rw e
 not-last true false c w e = refl
 not-last false b c w e = refl
 
-refute : (b : Bool) → (b ≡ true → ⊥) → b ≡ false
-refute true n = absurd (n refl)
-refute false n = refl
-
 module _ (t : List ℕ) (q : Query) where
+  -- a walk without a fault that reads no block twice is whole, and its spots and blocks have the sums of its nodes
   pub walk-whole : headerOk (length t) (headOf t) ≡ true → weighs (fault (storeOf t)) (storeOf t) q (rootOf t) ≡ 0
       → ((b : ℕ) → weighs (onBlock (mark b)) (storeOf t) q (rootOf t) ≤ 1)
       → Whole t q
@@ -200,7 +199,7 @@ module _ (t : List ℕ) (q : Query) where
       let W = whole (headOf t) in
       table-trace t q ∙
       not-and (headerOk (length t) (headOf t)) (obeys L m q W) _ _
-      (refute (obeys L m q W) (λ o. let z : ⊥ = omega (arith, obeys-weigh L m q [] W o) in z))
+      (refuted (obeys L m q W) (λ o. let z : ⊥ = omega (arith, obeys-weigh L m q [] W o) in z))
 
   -- a block that is read twice
   pub walk-twice : (b : ℕ) → 1 < weighs (onBlock (mark b)) (storeOf t) q (rootOf t) → walkTable t q ≡ broken
@@ -211,4 +210,4 @@ module _ (t : List ℕ) (q : Query) where
       let v = visits L m q W in
       table-trace t q ∙
       not-last (headerOk (length t) (headOf t)) (obeys L m q W) (distinct v) _
-      (refute (distinct v) (λ o. let z : ⊥ = omega (arith, distinct-marks v o b, visits-weigh (mark b) L m q [] W) in z))
+      (refuted (distinct v) (λ o. let z : ⊥ = omega (arith, distinct-marks v o b, visits-weigh (mark b) L m q [] W) in z))

@@ -11,7 +11,7 @@ use native.Mathlib.Nat.{mul-le-mul-right}
 use native.Mathlib.Omega.{arith}
 use lib.ListN.{length, length-append, length-reverseAux}
 use lib.Dec.{eqb}
-use borrow.Author.Tests.{leb-true, ltb-true, eqb-false, not-true}
+use borrow.Author.Tests.{leb-true, ltb-true}
 use Rattle.octets.specs.Lists.{every, keep, has, distinct}
 use Rattle.octets.proofs.Tests.{all-at, and-left, and-right, every-mem, keep-passes, keep-in, keep-length}
 use Rattle.octets.proofs.Order.{same-or-not}
@@ -21,7 +21,8 @@ use Rattle.spot.specs.Spots.{keys, find}
 use Rattle.spot.specs.Keys.{rankKey, rankOf, allKeys, within}
 use Rattle.spot.specs.declared.Query.{Query}
 use Rattle.spot.specs.Query.{wantsKey, meets}
-use Rattle.spot.proofs.Buffers.{find-only, keys-length}
+use Rattle.spot.proofs.Canon.{find-only}
+use Rattle.spot.proofs.Buffers.{keys-length}
 use Rattle.spot.proofs.Places.{within-yes, within-high, within-from, within-to, cuts, cuts-join, cuts-small, meets-at, meets-some, uncut, wants-yes}
 use Rattle.spot.proofs.Halves.{rank-up}
 use Rattle.block.specs.declared.Entry.{Entry}
@@ -30,7 +31,7 @@ use Rattle.block.specs.Header.{headOf}
 use Rattle.block.specs.declared.Asked.the-variants.{Child}
 use Rattle.block.specs.NodeRules.{names, tops, filled, pointsAbove}
 use Rattle.block.proofs.Facts.{node-facts}
-use Rattle.tree.specs.Part.{Part, whole, nextLow, parts, children}
+use Rattle.tree.specs.Part.{Part, whole, nextLow, parts, children, Steps}
 use Rattle.tree.specs.Lookup.{orElse, down, lookup, live, isLive}
 use Rattle.tree.specs.Reach.{gather}
 use Rattle.tree.specs.Sound.{soundAt, sound}
@@ -38,8 +39,8 @@ use Rattle.tree.specs.Walk.{Walk, spots, blocksRead, isBroken, topped, a
 use Rattle.tree.specs.ReadMap.{readMap, ones}
 use Rattle.tree.specs.Trace.{visits}
 use Rattle.tree.proofs.Below.{Under, node-sound, under-point, under-lower, entry-top, filled-by, has-child, tops-mem}
-use Rattle.tree.proofs.Ranges.{parts-mem, Steps, next-le, steps-of, part-bounds, parts-length}
-use Rattle.tree.proofs.Live.{node-rules}
+use Rattle.tree.proofs.Ranges.{parts-mem, next-le, steps-of, part-bounds, parts-length}
+use Rattle.tree.proofs.Live.{topped-size, topped-rank, node-rules}
 use Rattle.tree.proofs.Says.{has-keys, names-P}
 use Rattle.tree.proofs.Tables.{sound-tree, live-finds, report-finds}
 use Rattle.tree.proofs.Onto.{onto}
@@ -186,14 +187,6 @@ above-tops : (n : Node) (k t : ℕ) → pointsAbove n ≡ true → List·Memᴰ 
 unfolding pointsAbove
 above-tops n k t a j i =
     ltb-true (rankKey t) (rankKey k) (every-mem _ _ (every-mem _ _ a j) (Memᴰ·append-right (keys (n .inserts) ++ n .deletes) i))
-
-topped-size : (q : Query) (e : Entry) → topped q (Child e) ≡ true → e .size ≡ 0 → ⊥
-unfolding topped
-topped-size q e h = eqb-false (e .size) 0 (not-true (eqb (e .size) 0) (all-at _ h 0))
-
-topped-rank : (q : Query) (e : Entry) → topped q (Child e) ≡ true → q .least ≤ rankOf (e .top)
-unfolding topped
-topped-rank q e h = leb-true (q .least) (rankOf (e .top)) (all-at _ h 1)
 
 inner-node : (q : Query) (l : ℕ) (m : Store) (p : Part) → soundAt (suc l) m p ≡ true → Steps (p .lo) (p .hi) (m (p .block) .entries)
     → {c : Part} → List·Memᴰ c (keep (admits q) (children p (m (p .block))))

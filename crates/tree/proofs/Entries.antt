@@ -22,6 +22,7 @@ use Rattle.block.specs.declared.Asked.{Asked}
 use Rattle.block.specs.declared.Asked.the-variants.{Root, Child}
 use Rattle.block.specs.Node.{Node}
 use Rattle.block.specs.NodeRules.{names, agrees, isHighest, isLowest, notBelow}
+use Rattle.tree.specs.Part.{lowOf}
 use Rattle.tree.proofs.Empty.{some-length}
 
 -- the highest key of some spots in rank order
@@ -102,11 +103,6 @@ module _ (e : Entry) (n : Node) (h : agrees (Child e) n ≡ true) where
       (has-mem (e .bottom) (keys (n .points)) (all-at _ t 0), λ k j. leb-true (rankKey (e .bottom)) (rankKey k) (every-mem _ _ (all-at _ t 1) j))
 
 -- ---- what leads to a node
-
--- where its range begins, as its entry says
-abbrev pub lowOf : Asked → ℕ
-lowOf Root = 0
-lowOf (Child e) = e .low
 
 -- names of the node's range are not below it
 pub not-below : (a : Asked) (lo hi : ℕ) (n : Node) → lowOf a ≤ lo → ((k : ℕ) → List·Memᴰ k (names n) → within lo hi k ≡ true) → notBelow a n ≡ true

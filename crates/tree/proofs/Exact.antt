@@ -2,17 +2,14 @@
 -- Assumes nothing.
 use mathlib.Core.Path.{_≡_, refl, ap, sym, _∙_, subst}
 use mathlib.Core.Logic.{_⊎_, inl, inr, ⊎-elim, _↔_}
-use mathlib.Core.Bool.{true, not, false≢true}
-use mathlib.Core.List.{List, [], List·Memᴰ, List·Memᴰ·head, List·Memᴰ·tail, List·Memᴰ·not-nil, List·Memᴰ·cases-cons, Memᴰ·cast}
+use mathlib.Core.Bool.{true, false≢true}
+use mathlib.Core.List.{List, List·Memᴰ, List·Memᴰ·head, List·Memᴰ·tail, List·Memᴰ·not-nil, List·Memᴰ·cases-cons, Memᴰ·cast}
 use Prim.Native.Nat.{ℕ, zero, suc, _+_, _<_}
 use native.Mathlib.Omega.{arith}
 use lib.ListN.{length}
-use lib.Dec.{eqb}
-use borrow.Author.Tests.{leb-true, eqb-false, le-leb, ne-eqb, not-true}
 use Rattle.octets.specs.Lists.{keep}
 use Rattle.octets.specs.Bitmap.{bit}
 use Rattle.octets.proofs.Tests.{all-at, all-cons, all-nil, every-mem, keep-passes, keep-in, keep-there}
-use Rattle.spot.specs.Keys.{rankOf}
 use Rattle.spot.specs.declared.Query.{Query}
 use Rattle.spot.proofs.Places.{meets-at, meets-some}
 use Rattle.block.specs.declared.Entry.{Entry}
@@ -28,6 +25,7 @@ use Rattle.tree.specs.Trace.{admitted, visits}
 use Rattle.tree.proofs.ReadKeys.{KeyShows, KeyRead, first, next, KeyReadBlock}
 use Rattle.tree.proofs.Nodes.{Inside, inside-all, inside-child}
 use Rattle.tree.proofs.Entries.{agree-held}
+use Rattle.tree.proofs.Live.{topped-size, topped-rank, topped-made}
 use Rattle.tree.proofs.Below.{node-sound, entry-top}
 use Rattle.tree.proofs.Ranges.{parts-mem}
 use Rattle.tree.proofs.Marks.{map-bit, read-header, read-mem, read-in, ones-count}
@@ -43,20 +41,20 @@ module _ (q : Query) (l : ℕ) (m : Store) (c : Part) (e : Entry) (asks : c .ask
   entry = rw asks at (node-sound l m c s .entry)
 
   shows-admits : KeyShows m q c → admits q c ≡ true
-  unfolding admits topped
+  unfolding admits
   shows-admits h =
       let t = entry-top e (m (c .block)) entry (h .held) in
-      all-cons _ _ (ap (topped q) asks ∙ all-cons _ _ (ap not (ne-eqb (e .size) 0 (t .0))) (all-cons _ _ (le-leb (q .least) (rankOf (e .top)) (rw (t .1) (h .high))) all-nil))
+      all-cons _ _ (ap (topped q) asks ∙ topped-made q e (t .0) (rw (t .1) (h .high)))
       (all-cons _ _ (meets-at q (c .lo) (c .hi) (h .meets .0) (h .meets .1) (h .meets .2)) all-nil)
 
   admits-shows : admits q c ≡ true → KeyShows m q c
-  unfolding admits topped
+  unfolding admits
   admits-shows h =
       let t : topped q (Child e) ≡ true = ap (topped q) (sym asks) ∙ all-at _ h 0 in
-      let held = agree-held e (m (c .block)) entry (eqb-false (e .size) 0 (not-true (eqb (e .size) 0) (all-at _ t 0))) in
+      let held = agree-held e (m (c .block)) entry (topped-size q e t) in
       record {
         held = held;
-        high = rw (entry-top e (m (c .block)) entry held .1) at (leb-true (q .least) (rankOf (e .top)) (all-at _ t 1));
+        high = rw (entry-top e (m (c .block)) entry held .1) at (topped-rank q e t);
         meets = meets-some q (c .lo) (c .hi) (all-at _ h 1);
       }
 

@@ -4,14 +4,13 @@ use mathlib.Core.Path.{_≡_, refl, ap, sym, _∙_}
 use mathlib.Core.Bool.{true, not}
 use mathlib.Core.List.{List, [], _∷_}
 use mathlib.Core.Option.{none}
-use Prim.Native.Nat.{ℕ, _+_, _-_, _/_, _≤_}
+use Prim.Native.Nat.{ℕ, _+_, _-_, _/_}
 use native.Mathlib.Omega.{arith}
 use lib.ListN.{length, replicate, length-replicate}
-use borrow.Author.Tests.{leb-true, le-leb, lt-ltb, eq-eqb}
+use borrow.Author.Tests.{le-leb, lt-ltb, eq-eqb}
 use Rattle.octets.specs.Lists.{all, every, upTo}
 use Rattle.octets.specs.Bitmap.{bit}
 use Rattle.octets.specs.Bytes.{be, bytesOf}
-use Rattle.octets.proofs.Tests.{all-at}
 use Rattle.octets.proofs.UpTo.{upTo-later}
 use Rattle.spot.specs.Keys.{within}
 use Rattle.spot.specs.declared.Query.{Query}
@@ -22,6 +21,7 @@ use Rattle.block.specs.Table.{blockOk, sizedFor, tableSized, capacity}
 use Rattle.block.specs.Fresh.{freshHeader, freshLeaf, formatted}
 use Rattle.block.specs.NodeRules.{nodeOk, childCountOk, buffersRise, namedOnce, names, lowsRise, pointsAbove, filled, lowest, leafBuffersEmpty, agrees, notBelow, childBlocksOk}
 use Rattle.block.specs.HeaderRules.{headerOk, mapShows}
+use Rattle.block.proofs.Making.{blocks-least, blocks-most}
 use Rattle.spot.specs.Spots.{find}
 use Rattle.tree.specs.Lookup.{live}
 use Rattle.tree.proofs.Tables.{live-finds}
@@ -67,22 +67,14 @@ all-true = refl
 
 -- For every size
 module _ (n : ℕ) (z : tableSized n ≡ true) where
-  least : 9 ≤ n / 2048
-  unfolding sizedFor be bytesOf
-  least = leb-true 9 (n / 2048) (all-at _ z 1)
-
-  most : n / 2048 ≤ 4096
-  unfolding sizedFor be bytesOf
-  most = leb-true (n / 2048) 4096 (all-at _ z 2)
-
   -- a fresh table has the length asked for
   pub fresh-sized : length (formatted n) ≡ n
   unfolding formatted freshHeader freshLeaf be bytesOf
-  fresh-sized = simp length-replicate (omega (arith, least))
+  fresh-sized = simp length-replicate (omega (arith, blocks-least n z))
 
   fresh-bytes : headOf (formatted n) .bytes ≡ n
   unfolding headOf headerOf formatted freshHeader freshLeaf be bytesOf
-  fresh-bytes = omega (arith, least, most)
+  fresh-bytes = omega (arith, blocks-least n z, blocks-most n z)
 
   fresh-head : headOf (formatted n) ≡ freshHead n
   unfolding headOf headerOf formatted freshHeader freshLeaf be bytesOf
@@ -90,12 +82,12 @@ module _ (n : ℕ) (z : tableSized n ≡ true) where
 
   clear : every (λ b. not (bit fresh-map b)) (upTo (n / 2048) (4096 - n / 2048)) ≡ true
   clear =
-      let e : n / 2048 - 9 + 9 ≡ n / 2048 = omega (arith, least) in
-      rw e at (upTo-later (λ b. not (bit fresh-map b)) 9 (n / 2048 - 9) (4096 - n / 2048) 4087 (omega (arith, least, most)) all-clear)
+      let e : n / 2048 - 9 + 9 ≡ n / 2048 = omega (arith, blocks-least n z) in
+      rw e at (upTo-later (λ b. not (bit fresh-map b)) 9 (n / 2048 - 9) (4096 - n / 2048) 4087 (omega (arith, blocks-least n z, blocks-most n z)) all-clear)
 
   fresh-header-ok : headerOk n (freshHead n) ≡ true
   unfolding headerOk mapShows blockOk all bit be bytesOf
-  fresh-header-ok = rw (eq-eqb n n refl, lt-ltb 1 (n / 2048) (omega (arith, least)), le-leb 0 (capacity n) (omega arith)) (rw (clear, z))
+  fresh-header-ok = rw (eq-eqb n n refl, lt-ltb 1 (n / 2048) (omega (arith, blocks-least n z)), le-leb 0 (capacity n) (omega arith)) (rw (clear, z))
 
   -- what is done by computation once the header is known
   fresh-walked : (q : Query) → walkFrom (freshHead n) (storeOf (formatted n)) q ≡ walked [] (1 ∷ [])

@@ -7,9 +7,10 @@ use mathlib.Core.List.{List, [], _∷_, _++_}
 use mathlib.Core.Option.{Option, none, some}
 use Prim.Native.Nat.{ℕ, zero, suc, _≤_, _<_}
 use native.Mathlib.Omega.{arith}
-use borrow.Author.Tests.{ne-eqb, le-leb, not-true}
+use borrow.Author.Tests.{eqb-false, leb-true, ne-eqb, le-leb, not-true}
+use lib.Dec.{eqb}
 use Rattle.octets.specs.Lists.{all, every, keep, has, distinct, rising}
-use Rattle.octets.proofs.Tests.{all-at, all-cons, all-nil, and-left, and-right}
+use Rattle.octets.proofs.Tests.{all-at, all-cons, all-nil, and-left, and-right, neither}
 use Rattle.octets.proofs.Order.{less-or-not}
 use Rattle.octets.proofs.Sets.{has-append, every-has, distinct-left}
 use Rattle.spot.specs.declared.Spot.{Spot}
@@ -17,20 +18,20 @@ use Rattle.spot.specs.Spots.{keys, find, putAll}
 use Rattle.spot.specs.Keys.{rankKey, rankOf, within}
 use Rattle.spot.specs.declared.Query.{Query}
 use Rattle.spot.specs.Query.{wantsKey}
-use Rattle.spot.proofs.Canon.{some≢none, cond-none}
+use Rattle.spot.proofs.Canon.{some≢none, cond-none, find-only}
 use Rattle.spot.proofs.Places.{within-yes, within-low, within-high, within-from, within-to, meets-at, wants-placed, wants-rank}
-use Rattle.spot.proofs.Buffers.{keys-append, keep-distinct, putAll-rises, find-only}
+use Rattle.spot.proofs.Buffers.{keys-append, keep-distinct, putAll-rises}
 use Rattle.block.specs.declared.Entry.{Entry}
 use Rattle.block.specs.Node.{Node, Store}
 use Rattle.block.specs.declared.Asked.the-variants.{Child}
 use Rattle.block.specs.NodeRules.{names, nodeOk, lowsRise, namedOnce}
-use Rattle.tree.specs.Part.{Part, nextLow, parts, children}
+use Rattle.tree.specs.Part.{Part, nextLow, parts, children, Steps}
 use Rattle.tree.specs.Lookup.{orElse, down, lookup, isLive}
 use Rattle.tree.specs.Sound.{soundAt, inRange}
 use Rattle.tree.specs.Walk.{Walk, walked, takes, takesKey, topped, admits, finds, through, enter, walk}
 use Rattle.tree.proofs.Below.{under-live, node-sound, entry-top}
-use Rattle.tree.proofs.Ranges.{Steps, next-le, steps-of, down-in}
-use Rattle.tree.proofs.Says.{neither, has-keys, has-names, not-named, find-append, find-putAll}
+use Rattle.tree.proofs.Ranges.{next-le, steps-of, down-in}
+use Rattle.tree.proofs.Says.{has-keys, has-names, not-named, find-append, find-putAll}
 
 abbrev Step : Type 0
 Step = Part → Walk → Walk
@@ -44,12 +45,22 @@ data Lies (lo hi k : ℕ) : Type 0 where
 lies : (lo hi k : ℕ) → Lies lo hi k
 lies lo hi k = ⊎-elim (λ a. ⊎-elim (λ b. past a b) (λ b. inside a b) (less-or-not hi k)) (λ a. under a) (less-or-not lo k)
 
--- an entry that leads to a wanted key has points, and a top of the rank asked
+-- an entry that a query goes down into has points, and a top of the rank asked
+pub topped-size : (q : Query) (e : Entry) → topped q (Child e) ≡ true → e .size ≡ 0 → ⊥
+unfolding topped
+topped-size q e h = eqb-false (e .size) 0 (not-true (eqb (e .size) 0) (all-at _ h 0))
+
+pub topped-rank : (q : Query) (e : Entry) → topped q (Child e) ≡ true → q .least ≤ rankOf (e .top)
+unfolding topped
+topped-rank q e h = leb-true (q .least) (rankOf (e .top)) (all-at _ h 1)
+
+pub topped-made : (q : Query) (e : Entry) → (e .size ≡ 0 → ⊥) → q .least ≤ rankOf (e .top) → topped q (Child e) ≡ true
+unfolding topped
+topped-made q e z h = all-cons _ _ (ap not (ne-eqb (e .size) 0 z)) (all-cons _ _ (le-leb (q .least) (rankOf (e .top)) h) all-nil)
+
+-- one that leads to a wanted key is such
 tall : (q : Query) (e : Entry) (k : ℕ) → (e .size ≡ 0 → ⊥) → rankKey k ≤ rankKey (e .top) → wantsKey q k ≡ true → topped q (Child e) ≡ true
-unfolding topped all
-tall q e k z h w =
-    let r = wants-rank q k w in
-    rw (ne-eqb (e .size) 0 z, le-leb (q .least) (rankOf (e .top)) (omega arith))
+tall q e k z h w = let r = wants-rank q k w in topped-made q e z (omega arith)
 
 admitted : (q : Query) (c : Part) (k : ℕ) → topped q (c .asked) ≡ true → within (c .lo) (c .hi) k ≡ true → wantsKey q k ≡ true → admits q c ≡ true
 unfolding admits

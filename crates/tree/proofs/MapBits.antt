@@ -19,8 +19,8 @@ use Rattle.octets.specs.Bitmap.{bit, setBit, markByte}
 use Rattle.octets.proofs.Order.{same-or-not, less-or-not, eqb-flip}
 use Rattle.octets.proofs.Tests.{and-left, and-right, and-both, bool-ext}
 use Rattle.octets.proofs.Records.{length-records, records-at}
-use Rattle.octets.proofs.Digits.{digitAt, digit-zero, digit-suc, digit-lt, digit-of-zero}
-use Rattle.octets.proofs.Bits.{setBit-length, setBit-same, setBit-other}
+use Rattle.octets.proofs.Digits.{digitAt, digit-zero, digit-suc, digit-lt}
+use Rattle.octets.proofs.Bits.{zeros-at, bit-zeros as zeros-clear, setBit-length, setBit-same, setBit-other}
 use Rattle.octets.proofs.Marks.{mark-byte-lt}
 use Rattle.block.specs.Table.{mapBytes}
 use Rattle.tree.specs.SameList.{sameList}
@@ -135,19 +135,13 @@ zeros n = replicate n 0
 pub zeros-length : (n : ℕ) → length (zeros n) ≡ n
 zeros-length n = length-replicate n 0
 
-zero-at : (n i : ℕ) → getD (zeros n) i 0 ≡ 0
-zero-at zero i = refl
-zero-at (suc n) zero = refl
-zero-at (suc n) (suc i) = zero-at n i
-
 -- its bytes
 pub zeros-bytes : (n : ℕ) → Bytes (zeros n)
-zeros-bytes n i = rw (zero-at n i) (omega arith)
+zeros-bytes n i = rw (zeros-at n i) (omega arith)
 
 -- no bit is set
 pub bit-zeros : (n k : ℕ) → bit (zeros n) k ≡ false
-unfolding bit digitAt
-bit-zeros n k = ap (λ (x : ℕ). eqb (digitAt x (k % 8)) 1) (zero-at n (k / 8)) ∙ ap (λ (x : ℕ). eqb x 1) (digit-of-zero (k % 8))
+bit-zeros n k = zeros-clear n k
 
 -- ---- the map of blocks read
 

@@ -6,8 +6,9 @@ use mathlib.Core.Bool.{true}
 use mathlib.Core.List.{List, [], _∷_, reverseAux, reverse-reverse, List·Memᴰ, List·Memᴰ·head, List·Memᴰ·tail, List·Memᴰ·not-nil, List·Memᴰ·cases-cons, Memᴰ·cast}
 use Prim.Native.Nat.{ℕ}
 use Rattle.octets.specs.Lists.{has, distinct}
+use Rattle.octets.specs.Sets.{Apart}
 use Rattle.octets.proofs.Tests.{bool-ext}
-use Rattle.octets.proofs.Sets.{Apart, has-mem, mem-has}
+use Rattle.octets.proofs.Sets.{has-mem, mem-has}
 use Rattle.octets.proofs.Once.{Once, once-distinct, distinct-once}
 
 -- onto a list, the first first, so that the last stands in front

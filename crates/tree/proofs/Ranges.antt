@@ -18,14 +18,9 @@ use Rattle.block.specs.declared.Entry.{Entry}
 use Rattle.block.specs.declared.Asked.the-variants.{Child}
 use Rattle.block.specs.Node.{Node}
 use Rattle.block.specs.NodeRules.{lows, lowsRise, nodeOk}
-use Rattle.tree.specs.Part.{Part, nextLow, parts}
+use Rattle.tree.specs.Part.{Part, nextLow, parts, Steps}
 use Rattle.tree.specs.Lookup.{down}
 use Rattle.tree.specs.Sound.{inRange}
-
--- the ends of the ranges of these entries rise from lo to hi
-abbrev pub Steps : ℕ → ℕ → List Entry → Type 0
-Steps lo hi [] = Unit {0}
-Steps lo hi (e ∷ es) = (lo ≤ nextLow es hi) × Steps (nextLow es hi) hi es
 
 -- where the first of them begins, and so all, is not past the end
 pub next-le : (hi : ℕ) (es : List Entry) → Steps (nextLow es hi) hi es → nextLow es hi ≤ hi

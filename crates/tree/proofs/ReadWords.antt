@@ -1,31 +1,30 @@
 -- The blocks that a Report reads, said over keys and said in the paper's words over places and ranks: they are the same blocks, and those that a sound
 -- table's report marks.
 -- Assumes nothing.
-use mathlib.Core.Path.{_≡_, refl, ap, sym, _∙_}
+use mathlib.Core.Path.{_≡_, ap, sym, _∙_}
 use mathlib.Core.Logic.{_⊎_, inl, inr, ⊎-elim, _↔_}
 use mathlib.Core.Bool.{Bool, true, false, _&&_, and-true, true≢false}
-use mathlib.Core.List.{Memᴰ·map, Memᴰ·of-map, List, [], _∷_, map, List·Memᴰ, List·Memᴰ·head, List·Memᴰ·tail, List·Memᴰ·not-nil, List·Memᴰ·cases-cons}
-use Prim.Native.Nat.{ℕ, zero, suc, _+_, _/_, _%_, _≤_, _<_}
+use mathlib.Core.List.{Memᴰ·map, Memᴰ·of-map, List, [], _∷_, map, List·Memᴰ}
+use Prim.Native.Nat.{ℕ, _/_, _%_, _≤_, _<_}
 use native.Mathlib.Omega.{arith}
 use lib.Dec.{leb}
 use lib.IntN.{ℤ}
 use lib.Signed.{leZ}
 use borrow.Author.Tests.{leb-true, le-leb}
-use Rattle.octets.specs.Lists.{all, isEmpty, maximum, records}
+use Rattle.octets.specs.Lists.{all, isEmpty, maximum}
 use Rattle.octets.specs.Bitmap.{bit}
 use Rattle.octets.specs.Bytes.{be}
 use Rattle.octets.proofs.Tests.{and-left, and-right, and-both, every-make}
 use Rattle.octets.proofs.Extremes.{maximum-ge, maximum-mem}
 use Rattle.spot.specs.declared.Spot.{Spot}
 use Rattle.spot.specs.Keys.{word, allKeys, signed32, biased, key, placeOf, rankIn, rankKey, rankOf, within}
-use Rattle.spot.specs.Spots.{keyAt, spotAt, keys}
+use Rattle.spot.specs.Spots.{keys}
 use Rattle.spot.specs.Query.{query, topQuery, placed, wantsKey}
 use Rattle.spot.proofs.Signed.{Fits, signed-fits, fits-signed, biased-lt, biased-unbiased, leZ-biased}
 use Rattle.spot.proofs.Halves.{pair-small, rank-of-low}
 use Rattle.spot.proofs.Orders.{place-fits, rank-fits, key-of-parts, top-wants}
-use Rattle.spot.proofs.Card.{keyAt-lt}
 use Rattle.spot.proofs.Places.{placed-to}
-use Rattle.spot.proofs.Buffers.{keys-mem}
+use Rattle.spot.proofs.Buffers.{keys-mem, keys-from, spots-small}
 use Rattle.block.specs.Table.{version1, block}
 use Rattle.block.specs.Node.{Node, pointsFrom, storeOf, nodeOf, nodeFrom}
 use Rattle.block.specs.NodeRules.{rankKeys}
@@ -40,12 +39,6 @@ use Rattle.tree.proofs.Exact.{marks-exact}
 
 -- ---- the keys of a table have 64 bits
 
-spots-small : (s : List ℕ) (w n at : ℕ) (x : Spot) → List·Memᴰ x (records (spotAt s) w n at) → x .key < allKeys
-unfolding spotAt
-spots-small s w zero at x k = absurd (List·Memᴰ·not-nil k)
-spots-small s w (suc n) at x k =
-    ⊎-elim (λ (e : x ≡ spotAt s at). let g : x .key ≡ keyAt s at = ap (λ (z : Spot). z .key) e in omega (arith, keyAt-lt s at)) (λ j. spots-small s w n (at + w) x j) (List·Memᴰ·cases-cons k)
-
 -- every key of P has 64 bits
 abbrev Small : Node → Type 0
 Small n = (s : Spot) → List·Memᴰ s (n .points) → s .key < allKeys
@@ -53,14 +46,9 @@ Small n = (s : Spot) → List·Memᴰ s (n .points) → s .key < allKeys
 -- those of a table are so
 pub points-small : (t : List ℕ) (b : ℕ) → Small (storeOf t b)
 unfolding storeOf nodeOf nodeFrom
-points-small t b = spots-small (block t b) (version1 .spot) (be 1 (block t b) 4) (pointsFrom version1 (be 1 (block t b) 7))
+points-small t b s i = spots-small (block t b) (version1 .spot) (be 1 (block t b) 4) (pointsFrom version1 (be 1 (block t b) 7)) i
 
 -- ---- the highest of P
-
-keys-from : (ss : List Spot) {k : ℕ} → List·Memᴰ k (keys ss) → (s : Spot) × List·Memᴰ s ss × (k ≡ s .key)
-keys-from [] i = absurd (List·Memᴰ·not-nil i)
-keys-from (s ∷ ss) i =
-    ⊎-elim (λ e. (s, List·Memᴰ·head refl, e)) (λ j. let r = keys-from ss j in (r .0, List·Memᴰ·tail (r .1), r .2)) (List·Memᴰ·cases-cons i)
 
 -- a spot of P is no higher than the highest
 below-highest : (n : Node) {s : Spot} → List·Memᴰ s (n .points) → rankKey (s .key) ≤ maximum (rankKeys n)

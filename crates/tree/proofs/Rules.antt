@@ -13,7 +13,7 @@ use Rattle.octets.specs.Lists.{all, every, isEmpty, rest, rising, maximum, mini
 use Rattle.octets.specs.Bitmap.{bit}
 use Rattle.octets.specs.Bytes.{be}
 use Rattle.octets.proofs.Tests.{all-at, every-mem, or-either, empty-list}
-use Rattle.octets.proofs.Sets.{no-member}
+use Rattle.octets.proofs.Lists.{no-member}
 use Rattle.octets.proofs.Extremes.{min-is}
 use Rattle.octets.proofs.Once.{Once, once-distinct}
 use Rattle.spot.specs.Spots.{keys}

@@ -9,6 +9,7 @@ use native.Mathlib.Omega.{arith}
 use lib.Dec.{eqb}
 use borrow.Author.Tests.{eq-eqb}
 use Rattle.octets.specs.Lists.{has, rising}
+use Rattle.octets.proofs.Tests.{neither}
 use Rattle.octets.proofs.Sets.{has-append}
 use Rattle.spot.specs.declared.Spot.{Spot}
 use Rattle.spot.specs.Spots.{keys, find, put, putAll, without}
@@ -16,11 +17,6 @@ use Rattle.spot.proofs.Canon.{find-put, find-without, put-rises, without-rises}
 use Rattle.block.specs.Node.{Node}
 use Rattle.block.specs.NodeRules.{names}
 use Rattle.tree.specs.Lookup.{orElse, isLive}
-
--- two tests neither of which passes
-pub neither : (a b : Bool) → a || b ≡ false → (a ≡ false) × (b ≡ false)
-neither true b h = absurd (true≢false h)
-neither false b h = (refl, h)
 
 -- a second choice by the same test changes nothing
 pub cond-twice : (b : Bool) (x y z : Option ℕ) → cond b x (cond b y z) ≡ cond b x z

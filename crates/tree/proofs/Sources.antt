@@ -19,11 +19,12 @@ use Rattle.spot.specs.declared.Spot.{Spot}
 use Rattle.spot.specs.declared.Query.{Query}
 use Rattle.spot.proofs.Buffers.{putAll-from}
 use Rattle.block.specs.declared.Asked.{Asked}
-use Rattle.block.specs.Table.{blockOk, blocksOf, sizedFor}
+use Rattle.block.specs.Table.{blockOk, blocksOf}
 use Rattle.block.specs.Node.{Store, storeOf, nodeOf, nodeFrom}
 use Rattle.block.specs.NodeRules.{names, nodeOk, childBlocksOk}
 use Rattle.block.specs.Header.{headOf}
 use Rattle.block.specs.HeaderRules.{headerOk}
+use Rattle.block.proofs.Making.{blocks-least}
 use Rattle.block.proofs.Facts.{head-facts}
 use Rattle.tree.specs.Part.{Part, whole, children}
 use Rattle.tree.specs.Reach.{reach}
@@ -185,8 +186,7 @@ module _ (t : List ℕ) (h : headerOk (length t) (headOf t) ≡ true) where
 
   -- and at least 9
   pub header-least : 9 ≤ blocksOf (length t)
-  unfolding sizedFor
-  header-least = leb-true _ _ (all-at _ (head-facts (length t) (headOf t) h .sized) 1)
+  header-least = blocks-least (length t) (head-facts (length t) (headOf t) h .sized)
 
   -- the root is a node block
   pub root-in : InTable t (headOf t .root)

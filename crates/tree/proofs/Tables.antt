@@ -16,26 +16,19 @@ use Rattle.spot.specs.Spots.{keys, find}
 use Rattle.spot.specs.Keys.{rankOf, allKeys, within}
 use Rattle.spot.specs.declared.Query.{Query}
 use Rattle.spot.specs.Query.{wants, wantsKey, placed, everything}
-use Rattle.spot.proofs.Canon.{canon, cond-none}
+use Rattle.spot.proofs.Canon.{canon, cond-none, find-only, keep-rises}
 use Rattle.spot.proofs.Places.{everything-placed}
-use Rattle.spot.proofs.Buffers.{find-only, keep-rises}
 use Rattle.block.specs.Header.{headOf}
 use Rattle.block.specs.Node.{storeOf}
 use Rattle.block.specs.HeaderRules.{headerOk}
 use Rattle.tree.specs.Part.{whole}
 use Rattle.tree.specs.Lookup.{lookup, live}
-use Rattle.tree.specs.Sound.{soundAt, sound, mapExact}
+use Rattle.tree.specs.Sound.{soundAt, sound, Shaped}
 use Rattle.tree.specs.Reach.{reach}
 use Rattle.tree.specs.Walk.{Finds, liveCount, walk, once, walked, spots, takesKey, walkTable, walkFrom, liveSpots}
 use Rattle.tree.proofs.Marks.{exact-once}
 use Rattle.tree.proofs.Visits.{walk-once}
 use Rattle.tree.proofs.Live.{Found, sel, walk-found, lookup-within}
-
--- all of soundness but the count
-pub record Shaped (t : List ℕ) : Type 0 where
-  pub header : headerOk (length t) (headOf t) ≡ true
-  pub tree : soundAt (headOf t .levels) (storeOf t) (whole (headOf t)) ≡ true
-  pub map : mapExact (headOf t .inUse) (reach (headOf t .levels) (storeOf t) (whole (headOf t))) ≡ true
 
 -- a sound table keeps these rules
 pub shaped : (t : List ℕ) → sound t ≡ true → Shaped t
@@ -51,6 +44,11 @@ counted t s = leb-true (length (liveSpots t)) (headOf t .bound) (all-at _ s 3)
 pub sound-from : (t : List ℕ) → Shaped t → length (liveSpots t) ≤ headOf t .bound → sound t ≡ true
 unfolding sound liveCount
 sound-from t h c = all-cons _ _ (h .header) (all-cons _ _ (h .tree) (all-cons _ _ (h .map) (all-cons _ _ (le-leb (length (liveSpots t)) (headOf t .bound) c) all-nil)))
+
+-- the live spots are those that a walk over everything finds
+pub live-walk : (t : List ℕ) → spots (walkTable t everything) ≡ liveSpots t
+unfolding liveSpots
+live-walk t = refl
 
 -- a table that keeps the rules, whatever its bound
 module _ (t : List ℕ) (g : Shaped t) where
@@ -83,7 +81,8 @@ module _ (t : List ℕ) (g : Shaped t) where
   pub tree-rises : rising (keys (liveSpots t)) ≡ true
   tree-rises = rw live-is (found everything .up)
 
-  live-none : (k : ℕ) → within 0 allKeys k ≡ false → live t k ≡ none
+  -- keys past the last are not live
+  pub live-none : (k : ℕ) → within 0 allKeys k ≡ false → live t k ≡ none
   unfolding live
   live-none k w = go (lookup (headOf t .levels) (storeOf t) k (whole (headOf t))) refl
     where

@@ -80,6 +80,7 @@ module _ (t : List ℕ) (s : sound t ≡ true) (x1 x2 : ℤ) where
       rw (table-reads t s (topQuery x1 x2 y))
       (onto-mem _ (visits-less (headOf t .levels) (storeOf t) (topQuery x1 x2 z) (topQuery x1 x2 y) (refl, refl, h) (whole (headOf t)) (mem-onto _ (rw (table-reads t s (topQuery x1 x2 z)) at k))))
 
+  -- the best spots of a walk are chosen from what it found: the blocks read stay
   pub best-blocks : (k : ℕ) (w : Walk) → blocksRead (best k w) ≡ blocksRead w
   best-blocks k broken = refl
   best-blocks k (walked found blocks) = refl

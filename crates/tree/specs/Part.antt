@@ -1,6 +1,6 @@
 -- Parts of the tree and their ranges.
 -- Assumes nothing.
-use Prim.Native.Nat.{ℕ}
+use Prim.Native.Nat.{ℕ, _≤_}
 use mathlib.Core.List.{List, [], _∷_}
 use Rattle.spot.specs.Keys.{allKeys}
 use Rattle.block.specs.declared.Entry.{Entry}
@@ -32,3 +32,13 @@ parts lo hi (e ∷ es) = record { block = e .block; asked = Child e; lo = lo; hi
 
 abbrev pub children : Part → Node → List Part
 children p n = parts (p .lo) (p .hi) (n .entries)
+
+-- where the range of a child begins, as its entry says; the root's begins at 0
+abbrev pub lowOf : Asked → ℕ
+lowOf Root = 0
+lowOf (Child e) = e .low
+
+-- the ends of the ranges of these entries rise from lo to hi
+abbrev pub Steps : ℕ → ℕ → List Entry → Type 0
+Steps lo hi [] = Unit {0}
+Steps lo hi (e ∷ es) = (lo ≤ nextLow es hi) × Steps (nextLow es hi) hi es

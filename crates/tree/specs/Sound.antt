@@ -1,7 +1,8 @@
 -- When a table is sound. Rules 3 to 6, as far as a block and its entry show them, are `nodeOk`; here they are asked of every node reached.
 -- Assumes nothing.
 use Prim.Native.Nat.{ℕ, zero, suc}
-use mathlib.Core.Bool.{Bool, false, Bool·beq, _||_}
+use mathlib.Core.Path.{_≡_}
+use mathlib.Core.Bool.{Bool, true, false, Bool·beq, _||_}
 use mathlib.Core.List.{List, [], _∷_}
 use lib.ListN.{length}
 use lib.Dec.{leb, eqb}
@@ -41,3 +42,9 @@ sound t =
     mapExact (headOf t .inUse) (reach (headOf t .levels) (storeOf t) (whole (headOf t))) ∷
     leb (liveCount t) (headOf t .bound) ∷
     [])
+
+-- all of soundness but the count: what a change of the tree leaves, before the figure in block 0 is known to be right
+pub record Shaped (t : List ℕ) : Type 0 where
+  pub header : headerOk (length t) (headOf t) ≡ true
+  pub tree : soundAt (headOf t .levels) (storeOf t) (whole (headOf t)) ≡ true
+  pub map : mapExact (headOf t .inUse) (reach (headOf t .levels) (storeOf t) (whole (headOf t))) ≡ true

@@ -2,16 +2,16 @@
 -- Assumes nothing.
 use mathlib.Core.Path.{_≡_, sym, _∙_}
 use mathlib.Core.Bool.{true, cond}
-use mathlib.Core.List.{List, []}
+use mathlib.Core.List.{List}
 use mathlib.Core.Option.{none, some}
 use Prim.Native.Nat.{ℕ, suc, _≤_}
 use native.Mathlib.Omega.{arith}
 use lib.Dec.{eqb}
 use Rattle.block.specs.Header.{headOf}
-use Rattle.tree.specs.Sound.{sound}
+use Rattle.tree.specs.Sound.{sound, Shaped}
 use Rattle.tree.specs.Lookup.{live}
 use Rattle.tree.specs.Walk.{liveSpots}
-use Rattle.tree.proofs.Tables.{Shaped, shaped, counted, sound-from, tree-rises, tree-finds}
+use Rattle.tree.proofs.Tables.{shaped, counted, sound-from, tree-rises, tree-finds}
 use Rattle.update.proofs.Count.{count-add, count-drop}
 
 -- after an addition

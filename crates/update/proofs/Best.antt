@@ -12,9 +12,10 @@ use Rattle.block.specs.Node.{Store}
 use Rattle.tree.specs.Part.{parts}
 use Rattle.tree.proofs.Below.{live-top}
 use Rattle.update.specs.Held.{Held}
-use Rattle.update.proofs.Change.{Sound}
+use Rattle.update.specs.Change.{Sound}
+use Rattle.update.specs.Open.{under, Open}
 use Rattle.update.proofs.Ready.{ready-at, too-high}
-use Rattle.update.proofs.Open.{under, Open, open-held}
+use Rattle.update.proofs.Open.{open-held}
 
 -- what is live below is no higher than the tops
 pub tops-bound : (l : ℕ) (m : Store) (lo hi : ℕ) (es : List Entry) → Sound l m (parts lo hi es) → (t : ℕ) → ((e : Entry) → List·Memᴰ e es → (e .size ≡ 0 → ⊥) → rankKey (e .top) ≤ t)

@@ -1,4 +1,4 @@
--- Parts of a store that became other parts of another store, over the same range.
+-- How changes of parts go together: one after the other, and some parts among others.
 -- Assumes nothing.
 use mathlib.Core.Path.{_≡_, refl, ap, sym, _∙_}
 use mathlib.Core.Logic.{_⊎_, inl, inr, ⊎-elim}
@@ -6,41 +6,18 @@ use mathlib.Core.Bool.{Bool, true, false, cond, _||_}
 use mathlib.Core.List.{List, [], _∷_, _++_, List·Memᴰ, Memᴰ·append-left, Memᴰ·append-right, List·Memᴰ·append-cases}
 use mathlib.Core.Option.{Option}
 use Prim.Native.Nat.{ℕ}
-use Rattle.octets.specs.Lists.{every, distinct}
+use Rattle.octets.specs.Lists.{distinct}
 use Rattle.octets.proofs.Tests.{every-left, every-right, every-join}
 use Rattle.octets.proofs.Sets.{Split, distinct-split, distinct-join}
 use Rattle.spot.specs.Keys.{within}
 use Rattle.block.specs.Node.{Store}
 use Rattle.tree.specs.Part.{Part}
 use Rattle.tree.specs.Lookup.{down, lookup}
-use Rattle.tree.specs.Reach.{gather, reach}
+use Rattle.tree.specs.Reach.{reach}
 use Rattle.tree.specs.Sound.{soundAt}
 use Rattle.tree.proofs.Frame.{Same, reaches-same, sounds-same, lookups-same}
 use Rattle.tree.proofs.Gather.{gather-append}
-
--- the range of one of the parts holds k
-abbrev pub covers : ℕ → List Part → Bool
-covers k [] = false
-covers k (p ∷ ps) = within (p .lo) (p .hi) k || covers k ps
-
--- the blocks reached in some parts
-abbrev pub reaches : ℕ → Store → List Part → List ℕ
-reaches l m ps = gather (reach l m) ps
-
--- some parts of a store, each kept by the rules, and no block reached twice
-pub record Sound (l : ℕ) (m : Store) (ps : List Part) : Type 0 where
-  pub each : every (soundAt l m) ps ≡ true
-  pub once : distinct (reaches l m ps) ≡ true
-
--- The parts ps of the store x became the parts qs of the store y. They hold the same keys, and f says what is found at each; y is x
--- but for the blocks of ps and New.
-pub record Changed (l : ℕ) (New : ℕ → Type 0) (x : Store) (ps : List Part) (y : Store) (qs : List Part) (f : ℕ → Option ℕ) : Type 0 where
-  pub sound : Sound l y qs
-  pub span : (k : ℕ) → covers k qs ≡ covers k ps
-  pub found : (k : ℕ) → covers k ps ≡ true → down (lookup l y k) k qs ≡ f k
-  pub reached : (z : ℕ) → List·Memᴰ z (reaches l y qs) → List·Memᴰ z (reaches l x ps) ⊎ New z
-  pub still : (z : ℕ) → List·Memᴰ z (reaches l x ps) ⊎ New z → List·Memᴰ z (reaches l y qs)
-  pub kept : (z : ℕ) → (List·Memᴰ z (reaches l x ps) → ⊥) → (New z → ⊥) → y z ≡ x z
+use Rattle.update.specs.Change.{covers, reaches, Sound, Changed}
 
 -- what is found may be said in other words
 pub changed-as : (l : ℕ) (New : ℕ → Type 0) (x : Store) (ps : List Part) (y : Store) (qs : List Part) (f g : ℕ → Option ℕ)

@@ -16,18 +16,18 @@ use Rattle.block.specs.declared.Entry.{Entry}
 use Rattle.block.specs.Node.{Node, Store}
 use Rattle.block.specs.declared.Asked.{Asked}
 use Rattle.block.specs.NodeRules.{names, nodeOk, lowsRise, filled, lowest, lows, agrees, leafBuffersEmpty, childCountOk, childBlocksOk}
-use Rattle.tree.specs.Part.{Part, parts, children}
+use Rattle.tree.specs.Part.{Part, parts, children, Steps, lowOf}
 use Rattle.tree.specs.Lookup.{lookup}
 use Rattle.tree.specs.Reach.{reach}
 use Rattle.tree.specs.Sound.{soundAt, inRange}
-use Rattle.tree.proofs.Entries.{lowOf, not-below}
+use Rattle.tree.proofs.Entries.{not-below}
 use Rattle.tree.proofs.Below.{live-top}
-use Rattle.tree.proofs.Ranges.{Steps}
 use Rattle.tree.proofs.Frame.{Same}
-use Rattle.update.proofs.Change.{reaches, Sound, Changed}
-use Rattle.update.proofs.Loose.{part, stored-reach, stored-lookup, stored-sound, node-changed, node-split}
+use Rattle.update.specs.Change.{part, reaches, Sound, Changed}
+use Rattle.update.specs.Open.{under, Open}
+use Rattle.update.proofs.Loose.{stored-reach, stored-lookup, stored-sound, node-changed, node-split}
 use Rattle.update.proofs.Node.{rules-back}
-use Rattle.update.proofs.Open.{under, Open, heldOf}
+use Rattle.update.proofs.Open.{heldOf}
 
 -- what a node in memory must have beside ready buffers to be stored, read at level l with a in the range [lo, hi)
 pub record Shape (l : ℕ) (a : Asked) (lo hi : ℕ) (n : Node) : Type 0 where

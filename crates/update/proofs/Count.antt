@@ -3,7 +3,7 @@
 use mathlib.Core.Path.{_≡_, ap, sym, _∙_}
 use mathlib.Core.Logic.{_⊎_, inl, inr, ⊎-elim}
 use mathlib.Core.Bool.{Bool, true, cond, _||_}
-use mathlib.Core.List.{List, [], List·Memᴰ}
+use mathlib.Core.List.{List, List·Memᴰ}
 use mathlib.Core.Option.{none, some}
 use Prim.Native.Nat.{ℕ, suc, _≤_, _<_}
 use native.Mathlib.Omega.{arith}
@@ -22,7 +22,7 @@ use Rattle.tree.specs.Sound.{mapExact}
 use Rattle.tree.specs.ReadMap.{isRead}
 use Rattle.tree.proofs.Marks.{read-mem, exact-bit, exact-make}
 use Rattle.tree.proofs.Says.{find-replaced, replaced-rises}
-use Rattle.update.proofs.Spare.{Taken}
+use Rattle.update.specs.Spare.{Taken}
 
 -- an addition makes one more at the most
 pub count-add : (k a : ℕ) (xs ys : List Spot) → rising (keys xs) ≡ true → rising (keys ys) ≡ true → ((j : ℕ) → find j ys ≡ cond (eqb j k) (some a) (find j xs)) → length ys ≤ suc (length xs)

@@ -22,18 +22,19 @@ use Rattle.block.specs.Node.{Node, Store, openBelow}
 use Rattle.block.specs.declared.Asked.{Asked}
 use Rattle.block.specs.declared.Asked.the-variants.{Child}
 use Rattle.block.specs.NodeRules.{names, nodeOk, agrees, notBelow, childCountOk, fewest}
-use Rattle.tree.specs.Part.{Part, nextLow, parts}
+use Rattle.tree.specs.Part.{Part, nextLow, parts, Steps}
 use Rattle.tree.specs.Lookup.{orElse, down, lookup}
 use Rattle.tree.specs.Reach.{reach}
 use Rattle.tree.specs.Sound.{soundAt, inRange}
 use Rattle.tree.proofs.Gather.{gather-append}
-use Rattle.tree.proofs.Ranges.{Steps, steps-le, down-in}
+use Rattle.tree.proofs.Ranges.{steps-le, down-in}
 use Rattle.update.specs.Held.{Held}
-use Rattle.update.proofs.Change.{covers, reaches, Sound, Changed, down-append, covers-append}
+use Rattle.update.specs.Change.{part, covers, reaches, Sound, Changed}
+use Rattle.update.specs.Open.{says, Fit, under, Open}
+use Rattle.update.proofs.Change.{down-append, covers-append}
 use Rattle.update.proofs.Spread.{childAt, parts-append, steps-split, covers-parts, off-left}
-use Rattle.update.proofs.Moves.{Fit, says, push-I, pushed-I, push-D, pushed-D, cut, cut-says}
-use Rattle.update.proofs.Loose.{part}
-use Rattle.update.proofs.Open.{under, Open, after, open-child}
+use Rattle.update.proofs.Moves.{push-I, pushed-I, push-D, pushed-D, cut, cut-says}
+use Rattle.update.proofs.Open.{after, open-child}
 use Rattle.update.proofs.Fill.{under-child}
 
 -- PUSH: the inserts that don't stay, all in the range of the child at e, were settled there; it became one or more entries

@@ -19,14 +19,15 @@ use Rattle.spot.proofs.Canon.{some≢none}
 use Rattle.spot.proofs.Places.{within-from, within-to}
 use Rattle.block.specs.declared.Entry.{Entry}
 use Rattle.block.specs.Node.{Store}
-use Rattle.tree.specs.Part.{Part, parts}
+use Rattle.tree.specs.Part.{Part, parts, Steps}
 use Rattle.tree.specs.Lookup.{lookup}
-use Rattle.tree.proofs.Ranges.{down-in, Steps, down-at}
+use Rattle.tree.proofs.Ranges.{down-in, down-at}
 use Rattle.update.specs.Held.{Held}
-use Rattle.update.proofs.Change.{reaches, Changed}
+use Rattle.update.specs.Change.{reaches, Changed}
+use Rattle.update.specs.Open.{under, Open}
 use Rattle.update.proofs.Spread.{childAt, parts-one}
 use Rattle.update.proofs.Ready.{fill-I, filled-I, fill-child, filled-child, fill-dead, filled-dead, fill-ends, filled-ends, top-taken, top-gone}
-use Rattle.update.proofs.Open.{under, Open, open-held, after, open-child}
+use Rattle.update.proofs.Open.{open-held, after, open-child}
 
 -- the part whose range holds the key says what is found
 pub under-child : (l : ℕ) (m : Store) (lo hi : ℕ) (us vs : List Entry) (e : Entry) → Steps lo hi (us ++ (e ∷ vs)) → (k : ℕ)

@@ -1,31 +1,25 @@
--- An update under way at one node: where it began, the spare blocks left, and the node in memory now. The loop invariant of fill, the state between the
--- steps of settle, and what push is handed and hands back.
+-- An update under way at one node, step by step: its start, a change of the buffers, a change of a child, and the node stored.
 -- Assumes nothing.
 use mathlib.Core.Path.{_≡_, refl, subst}
 use mathlib.Core.List.{List, [], _∷_, _++_, List·Memᴰ}
 use mathlib.Core.Option.{Option, none}
 use Prim.Native.Nat.{ℕ, suc}
-use Rattle.octets.proofs.Sets.{Apart}
+use Rattle.octets.specs.Sets.{Apart}
 use Rattle.block.specs.declared.Entry.{Entry}
 use Rattle.block.specs.Node.{Node, Store}
 use Rattle.block.specs.declared.Asked.{Asked}
 use Rattle.tree.specs.Part.{Part, nextLow, parts}
 use Rattle.tree.specs.Reach.{reach}
 use Rattle.update.specs.Held.{Held}
-use Rattle.update.proofs.Change.{reaches, Sound, Changed, changed-refl}
+use Rattle.update.specs.Change.{part, reaches, Sound, Changed}
+use Rattle.update.specs.Spare.{Taken, Within}
+use Rattle.update.specs.Open.{under, Open}
+use Rattle.update.specs.Going.{Going}
+use Rattle.update.proofs.Change.{changed-refl}
 use Rattle.update.proofs.Spread.{childAt, parts-one}
-use Rattle.update.proofs.Loose.{part}
-use Rattle.update.proofs.Open.{under, Open, heldOf, open-changed}
+use Rattle.update.proofs.Open.{heldOf, open-changed}
 use Rattle.update.proofs.Close.{Shape, settle-one}
-use Rattle.update.proofs.Spare.{Taken, Within, spare-left, spare-trans, sound-one, apart-one}
-
--- From the entries es₀ over the store x with the spare blocks s: now the store is y, the spare blocks are s′, and a node in memory with the entries es and
--- the buffers b stands over y
-pub record Going (l : ℕ) (lo hi : ℕ) (x : Store) (s : List ℕ) (es₀ : List Entry) (y : Store) (s′ : List ℕ) (r : ℕ) (es : List Entry) (b : Held) (f : ℕ → Option ℕ) : Type 0 where
-  pub node : Open l y lo hi r es b f
-  pub changed : Changed l (Taken s s′) x (parts lo hi es₀) y (parts lo hi es) (under l y lo hi es)
-  pub spare : Apart s (reaches l x (parts lo hi es₀))
-  pub less : Within s′ s
+use Rattle.update.proofs.Spare.{spare-left, spare-trans, sound-one, apart-one}
 
 -- before anything is done
 pub going-start : (l lo hi : ℕ) (x : Store) (s : List ℕ) (r : ℕ) (es : List Entry) (b : Held) (f : ℕ → Option ℕ) → Open l x lo hi r es b f → Apart s (reaches l x (parts lo hi es))

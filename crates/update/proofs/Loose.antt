@@ -20,7 +20,7 @@ use Rattle.tree.specs.Reach.{reach}
 use Rattle.tree.specs.Sound.{soundAt, inRange}
 use Rattle.tree.proofs.Frame.{Same, reaches-same, sounds-same, lookups-same}
 use Rattle.tree.proofs.Gather.{gather-append}
-use Rattle.update.proofs.Change.{covers, reaches, Sound, Changed}
+use Rattle.update.specs.Change.{part, covers, reaches, Sound, Changed}
 
 -- what is found at k through a node in memory that stands for the part p
 abbrev pub look : ℕ → Store → Part → Node → ℕ → Option ℕ
@@ -79,10 +79,6 @@ module _ (l : ℕ) (y w : Store) (p : Part) (n : Node) (at-block : w (p .block) 
   pub stored-sound : nodeOk l (p .asked) n ≡ true → inRange p n ≡ true → every (soundAt l y) (children p n) ≡ true → soundAt (suc l) w p ≡ true
   unfolding soundAt
   stored-sound a b c = rw at-block (all-cons _ _ a (all-cons _ _ b (all-cons _ _ (sounds-same y w l (children p n) same ∙ c) all-nil)))
-
--- a part with another block and another entry
-abbrev pub part : ℕ → Asked → ℕ → ℕ → Part
-part b a lo hi = record { block = b; asked = a; lo = lo; hi = hi }
 
 -- what the children reach is reached
 kids-in : (l : ℕ) (m : Store) (p : Part) (z : ℕ) → List·Memᴰ z (reaches l m (children p (m (p .block)))) → List·Memᴰ z (reach (suc l) m p)

@@ -18,21 +18,14 @@ use Rattle.spot.specs.declared.Spot.{Spot}
 use Rattle.spot.specs.Spots.{keys, find, put}
 use Rattle.spot.specs.Keys.{rankKey, allKeys, within}
 use Rattle.spot.specs.Sorted.{only, insertKey, but}
-use Rattle.spot.proofs.Canon.{some≢none, find-put}
-use Rattle.spot.proofs.Buffers.{find-only, only-rises, only-mem, find-mem, put-mem, put-up}
+use Rattle.spot.proofs.Canon.{some≢none, find-put, find-only}
+use Rattle.spot.proofs.Buffers.{only-rises, only-mem, find-mem, put-mem, put-up}
 use Rattle.spot.proofs.Sorted.{but-not}
 use Rattle.tree.specs.Lookup.{orElse}
 use Rattle.tree.proofs.Says.{else-cond}
 use Rattle.update.specs.Held.{Held, insertOne, deleteOne, insertAll, deleteAll}
-use Rattle.update.proofs.Ready.{say, Ready, ready-fewer, strict, taken, deleted-high, delete-low, deleted-low, insert-high, inserted-high, insert-low, inserted-low}
-
--- the buffers are ready
-abbrev pub Fit : ℕ → ℕ → ℕ → Held → (ℕ → Option ℕ) → Type 0
-Fit lo hi r b below = Ready lo hi r (b .points) (b .inserts) (b .deletes) below
-
--- what they say of a key
-abbrev pub says : Held → ℕ → Option ℕ → Option ℕ
-says b k d = say (b .points) (b .inserts) (b .deletes) k d
+use Rattle.update.specs.Open.{say, says, Ready, Fit}
+use Rattle.update.proofs.Ready.{ready-fewer, strict, taken, deleted-high, delete-low, deleted-low, insert-high, inserted-high, insert-low, inserted-low}
 
 module _ (lo hi : ℕ) (full : hi ≤ allKeys) (r : ℕ) (below : ℕ → Option ℕ) where
   insert-one : (s : Spot) (b : Held) → within lo hi (s .key) ≡ true → Fit lo hi r b below

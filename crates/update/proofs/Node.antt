@@ -20,15 +20,16 @@ use Rattle.block.specs.declared.Entry.{Entry}
 use Rattle.block.specs.Node.{Node, Store}
 use Rattle.block.specs.declared.Asked.the-variants.{Child}
 use Rattle.block.specs.NodeRules.{names, nodeOk, buffersRise, namedOnce, pointsAbove, lowest, tops, agrees}
-use Rattle.tree.specs.Part.{Part, nextLow, parts, children}
+use Rattle.tree.specs.Part.{Part, nextLow, parts, children, Steps}
 use Rattle.tree.specs.Lookup.{down, lookup}
 use Rattle.tree.specs.Sound.{soundAt, inRange}
 use Rattle.tree.proofs.Says.{names-P, names-I, names-D}
 use Rattle.tree.proofs.Entries.{agree-held, agree-top}
 use Rattle.tree.proofs.Below.{node-sound, tops-mem, tops-from, live-top, sizes-none, has-insert, has-delete}
-use Rattle.tree.proofs.Ranges.{Steps, down-at}
-use Rattle.update.proofs.Ready.{Ready}
-use Rattle.update.proofs.Loose.{lookup-step, part}
+use Rattle.tree.proofs.Ranges.{down-at}
+use Rattle.update.specs.Change.{part}
+use Rattle.update.specs.Open.{Ready}
+use Rattle.update.proofs.Loose.{lookup-step}
 
 -- what is found below a node in memory
 abbrev pub beneath : ℕ → Store → Part → Node → ℕ → Option ℕ

@@ -1,5 +1,4 @@
--- A node in memory during an update: its children stand in a store, its buffers are ready, and f is what is found through it. Each step of
--- settle, push, split and fill leads from one such state to another; a state with the sizes right can be stored.
+-- A node in memory during an update: how it comes from a node that is read, and goes on when its buffers, the store elsewhere or a child change.
 -- Assumes nothing.
 use mathlib.Core.Path.{_≡_, ap, sym, _∙_}
 use mathlib.Core.Bool.{true, cond}
@@ -12,28 +11,17 @@ use Rattle.spot.specs.Keys.{rankKey, within}
 use Rattle.block.specs.declared.Entry.{Entry}
 use Rattle.block.specs.Node.{Node, Store}
 use Rattle.block.specs.NodeRules.{lowest}
-use Rattle.tree.specs.Part.{Part, parts}
-use Rattle.tree.specs.Lookup.{down, lookup}
+use Rattle.tree.specs.Part.{Part, parts, Steps}
+use Rattle.tree.specs.Lookup.{lookup}
 use Rattle.tree.proofs.Frame.{Same, reaches-same, sounds-same, lookups-same}
-use Rattle.tree.proofs.Ranges.{Steps, steps-of}
+use Rattle.tree.proofs.Ranges.{steps-of}
 use Rattle.update.specs.Held.{Held}
-use Rattle.update.proofs.Change.{reaches, Sound, Changed}
+use Rattle.update.specs.Change.{reaches, Sound, Changed}
+use Rattle.update.specs.Open.{says, Ready, Fit, under, Open}
 use Rattle.update.proofs.Spread.{childAt, child-found, child-changed, child-steps}
-use Rattle.update.proofs.Ready.{Ready, ready-fewer}
-use Rattle.update.proofs.Moves.{Fit, says}
+use Rattle.update.proofs.Ready.{ready-fewer}
 use Rattle.update.proofs.Loose.{lookup-step, opened}
 use Rattle.update.proofs.Node.{rules-of, ready-of, ready-lowest}
-
--- what is found below the entries es of a node with the range [lo, hi)
-abbrev pub under : ℕ → Store → ℕ → ℕ → List Entry → ℕ → Option ℕ
-under l m lo hi es k = down (lookup l m k) k (parts lo hi es)
-
--- a node in memory over children in a store: all of them sound, their ranges in order, the buffers ready, and f found through it
-pub record Open (l : ℕ) (m : Store) (lo hi r : ℕ) (es : List Entry) (b : Held) (f : ℕ → Option ℕ) : Type 0 where
-  pub kids : Sound l m (parts lo hi es)
-  pub steps : Steps lo hi es
-  pub ready : Fit lo hi r b (under l m lo hi es)
-  pub found : (k : ℕ) → within lo hi k ≡ true → says b k (under l m lo hi es k) ≡ f k
 
 -- the buffers of a node
 abbrev pub heldOf : Node → Held

@@ -11,37 +11,20 @@ use lib.Dec.{eqb}
 use borrow.Author.Tests.{eq-eqb, ne-eqb, ltb-true, lt-ltb, le-ltb}
 use Rattle.octets.specs.Lists.{keep, has, rising}
 use Rattle.octets.proofs.Order.{same-or-not, less-or-not}
-use Rattle.octets.proofs.Sets.{Apart, has-not, has-keep}
+use Rattle.octets.proofs.Sets.{has-not, has-keep}
 use Rattle.octets.proofs.Tests.{keep-mem}
 use Rattle.octets.proofs.Rising.{keep-rises}
 use Rattle.spot.specs.declared.Spot.{Spot}
 use Rattle.spot.specs.Spots.{keys, find, put}
 use Rattle.spot.specs.Keys.{rankKey, allKeys, within}
 use Rattle.spot.specs.Sorted.{only, insertKey, but, lower}
-use Rattle.spot.proofs.Canon.{cond-none, some≢none, find-put}
+use Rattle.spot.proofs.Canon.{cond-none, some≢none, find-put, find-only}
 use Rattle.spot.proofs.Places.{within-to}
 use Rattle.spot.proofs.Halves.{rank-strict}
-use Rattle.spot.proofs.Buffers.{find-only, only-rises, only-mem, find-mem, find-none, put-mem, put-up}
+use Rattle.spot.proofs.Buffers.{only-rises, only-mem, find-mem, find-none, put-mem, put-up}
 use Rattle.spot.proofs.Sorted.{has-insertKey, insertKey-mem, insertKey-rises, but-not}
 use Rattle.tree.specs.Lookup.{orElse}
-
--- the word of three buffers on k, and where they have none, d
-abbrev pub say : List Spot → List Spot → List ℕ → ℕ → Option ℕ → Option ℕ
-say P I D k d = orElse (find k P) (orElse (find k I) (cond (has k D) none d))
-
--- Buffers of a node with the range [lo, hi), where `below` is found below it: P has rank r or more, all else is under r
-pub record Ready (lo hi r : ℕ) (P I : List Spot) (D : List ℕ) (below : ℕ → Option ℕ) : Type 0 where
-  pub upP : rising (keys P) ≡ true
-  pub upI : rising (keys I) ≡ true
-  pub upD : rising D ≡ true
-  pub inP : (k : ℕ) → List·Memᴰ k (keys P) → within lo hi k ≡ true
-  pub inI : (k : ℕ) → List·Memᴰ k (keys I) → within lo hi k ≡ true
-  pub inD : (k : ℕ) → List·Memᴰ k D → within lo hi k ≡ true
-  pub off : Apart (keys I) D
-  pub above : (k : ℕ) → List·Memᴰ k (keys P) → r ≤ rankKey k
-  pub underI : (k : ℕ) → List·Memᴰ k (keys I) → rankKey k < r
-  pub underD : (k : ℕ) → List·Memᴰ k D → rankKey k < r
-  pub deep : (k a : ℕ) → below k ≡ some a → rankKey k < r
+use Rattle.update.specs.Open.{say, Ready}
 
 -- fewer in each buffer, and nothing of rank r found below
 pub ready-fewer : {lo hi r : ℕ} {P I : List Spot} {D : List ℕ} {below : ℕ → Option ℕ} → Ready lo hi r P I D below → {P′ I′ : List Spot} {D′ : List ℕ} {below′ : ℕ → Option ℕ}
@@ -106,11 +89,8 @@ module _ (lo hi : ℕ) (full : hi ≤ allKeys) where
         (best : (k a : ℕ) → below k ≡ some a → rankKey k ≤ rankKey t) (inn : (k a : ℕ) → below′ k ≡ some a → within lo hi k ≡ true) where
       -- D's keys from t on may go
       drop-D : (k : ℕ) → within lo hi k ≡ true → (k ≡ t → ⊥) → cond (has k (keep (lower t) D)) none (below′ k) ≡ cond (has k D) none (below k)
-      drop-D k w n = rw (has-keep (lower t) k D, stays k n) (⊎-elim (λ (g : rankKey k < rankKey t). rw (lt-ltb (rankKey k) (rankKey t) g)) (λ g. high g) (split (rankKey k) (rankKey t)))
+      drop-D k w n = rw (has-keep (lower t) k D, stays k n) (⊎-elim (λ g. high g) (λ (g : rankKey k < rankKey t). rw (lt-ltb (rankKey k) (rankKey t) g)) (less-or-not (rankKey t) (rankKey k)))
         where
-          split : (a b : ℕ) → (a < b) ⊎ (b ≤ a)
-          split a b = ⊎-elim inr inl (less-or-not b a)
-
           high : rankKey t ≤ rankKey k → cond (cond (lower t k) (has k D) false) none (below k) ≡ cond (has k D) none (below k)
           high g =
               let z = strict t k wt w (λ e. n (sym e)) g in

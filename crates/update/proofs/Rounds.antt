@@ -1,7 +1,6 @@
 -- The rounds of fill, one by one: from where the loop stands over the store to where it stands after one round, and where it ends.
 -- Assumes nothing.
 use mathlib.Core.Path.{_≡_, refl, ap, _∙_, subst⁻¹}
-use mathlib.Core.Logic.{_⊎_}
 use mathlib.Core.Bool.{true, false, cond}
 use mathlib.Core.List.{List, [], _∷_, _++_, List·Memᴰ, List·Memᴰ·head, Memᴰ·append-right}
 use mathlib.Core.Option.{Option, none, some}
@@ -29,38 +28,21 @@ use Rattle.tree.specs.Sound.{soundAt}
 use Rattle.tree.proofs.Below.{sizes-none}
 use Rattle.tree.proofs.Ranges.{part-bounds}
 use Rattle.update.specs.Held.{Held}
-use Rattle.update.proofs.Change.{reaches, Sound, Changed}
+use Rattle.update.specs.Change.{part, reaches, Sound, Changed}
+use Rattle.update.specs.Spare.{Taken}
+use Rattle.update.specs.Open.{under, Open}
+use Rattle.update.specs.Rounds.{blocks, Loop}
 use Rattle.update.proofs.Spread.{start, childAt, parts-one}
-use Rattle.update.proofs.Open.{under, Open}
 use Rattle.update.proofs.Fill.{under-child, open-ends, open-fill-I, open-fill-both, open-fill-child, open-fill-dead}
-use Rattle.update.proofs.Spare.{Taken, lows-same}
+use Rattle.update.proofs.Spare.{lows-same}
 use Rattle.update.proofs.Best.{tops-bound, tops-none}
 use Rattle.update.proofs.Node.{Top, top-of}
-use Rattle.update.proofs.Going.{Going, going-held, going-child, going-fresh, going-on}
-use Rattle.update.proofs.Loose.{part}
-
--- the blocks of some entries
-abbrev pub blocks : List Entry → List ℕ
-blocks [] = []
-blocks (e ∷ es) = e .block ∷ blocks es
+use Rattle.update.proofs.Going.{going-held, going-child, going-fresh, going-on}
 
 -- one entry for another of the same block
 pub blocks-same : (us vs : List Entry) (e e′ : Entry) → e′ .block ≡ e .block → blocks (us ++ ((e′ ∷ []) ++ vs)) ≡ blocks (us ++ (e ∷ vs))
 blocks-same [] vs e e′ h = ap (λ (b : ℕ). b ∷ blocks vs) h
 blocks-same (u ∷ us) vs e e′ h = ap (λ (r : List ℕ). u .block ∷ r) (blocks-same us vs e e′ h)
-
--- where the loop stands
-pub record Loop (ni nd l lo hi : ℕ) (x : Store) (es₀ : List Entry) (y : Store) (r : ℕ) (es : List Entry) (b : Held) (f : ℕ → Option ℕ) : Type 0 where
-  pub going : Going l lo hi x [] es₀ y [] r es b f
-  pub sameLows : lows es ≡ lows es₀
-  pub sameBlocks : blocks es ≡ blocks es₀
-  pub fewP : length (b .points) ≤ 64
-  pub fewI : length (b .inserts) ≤ ni
-  pub fewD : length (b .deletes) ≤ nd
-
--- where it ends: P is filled, or nothing is left
-abbrev pub Full : List Entry → Held → Type 0
-Full es b = (32 ≤ length (b .points)) ⊎ ((length (b .points) < 32) × (b .inserts ≡ []) × (b .deletes ≡ []) × ((d : Entry) → List·Memᴰ d es → d .size ≡ 0))
 
 module _ (ni nd l lo hi : ℕ) (full : hi ≤ allKeys) (x : Store) (es₀ : List Entry) (f : ℕ → Option ℕ) where
   -- a round that takes the highest of I, which isn't below

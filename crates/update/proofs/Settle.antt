@@ -15,8 +15,9 @@ use Rattle.block.specs.declared.Entry.{Entry}
 use Rattle.block.specs.Node.{Store}
 use Rattle.tree.specs.Lookup.{orElse}
 use Rattle.update.specs.Held.{Held, insertAll, deleteAll}
+use Rattle.update.specs.Open.{under, Open}
 use Rattle.update.proofs.Moves.{insert-all, delete-all, spill, spilled}
-use Rattle.update.proofs.Open.{under, Open, open-held}
+use Rattle.update.proofs.Open.{open-held}
 
 module _ (l : ℕ) (m : Store) (lo hi : ℕ) (full : hi ≤ allKeys) (r : ℕ) (es : List Entry) (b : Held) (f : ℕ → Option ℕ) (o : Open l m lo hi r es b f) where
   -- after a batch of inserts: its word, else what was found before

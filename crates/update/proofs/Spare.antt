@@ -1,4 +1,4 @@
--- Spare blocks: what an update may take, what it took, and one child of many.
+-- Spare blocks over one update and another, and one child of many.
 -- Assumes nothing.
 use mathlib.Core.Path.{_≡_, refl, ap, sym, _∙_, subst, subst⁻¹}
 use mathlib.Core.Logic.{_⊎_, inl, inr, ⊎-elim}
@@ -10,25 +10,21 @@ use native.Mathlib.Omega.{arith}
 use lib.Dec.{leb}
 use borrow.Author.Tests.{le-leb}
 use Rattle.octets.specs.Lists.{rest, rising, risingFrom}
+use Rattle.octets.specs.Sets.{Apart}
 use Rattle.octets.proofs.Tests.{and-left, and-right, and-both, every-left, every-right}
-use Rattle.octets.proofs.Sets.{Apart, in-or-not, distinct-split}
+use Rattle.octets.proofs.Sets.{in-or-not, distinct-split}
 use Rattle.octets.proofs.Rising.{rises-after}
 use Rattle.block.specs.declared.Entry.{Entry}
 use Rattle.block.specs.Node.{Store}
 use Rattle.block.specs.NodeRules.{lows}
+use Rattle.block.proofs.Views.{lows-append}
 use Rattle.tree.specs.Part.{Part, nextLow}
 use Rattle.tree.specs.Reach.{reach}
 use Rattle.tree.specs.Sound.{soundAt}
 use Rattle.tree.proofs.Gather.{gather-append}
-use Rattle.update.proofs.Change.{reaches, Sound, Changed, changed-trans}
-
--- spare blocks s became s′: those taken
-abbrev pub Taken : List ℕ → List ℕ → ℕ → Type 0
-Taken s s′ z = List·Memᴰ z s × (List·Memᴰ z s′ → ⊥)
-
--- no block was added
-abbrev pub Within : List ℕ → List ℕ → Type 0
-Within s′ s = (z : ℕ) → List·Memᴰ z s′ → List·Memᴰ z s
+use Rattle.update.specs.Change.{reaches, Sound, Changed}
+use Rattle.update.specs.Spare.{Taken, Within}
+use Rattle.update.proofs.Change.{changed-trans}
 
 -- what was taken was not reached
 pub taken-fresh : (s s′ bs : List ℕ) → Apart s bs → (z : ℕ) → Taken s s′ z → List·Memᴰ z bs → ⊥
@@ -64,10 +60,6 @@ apart-one l m s us c vs a z i j =
     a z i (rw (gather-append (reach l m) us ((c ∷ []) ++ vs), gather-append (reach l m) (c ∷ []) vs) (Memᴰ·append-right (reaches l m us) (Memᴰ·append-left (reaches l m vs) j)))
 
 -- the lows of a node's entries, where one entry became two
-lows-append : (us vs : List Entry) → lows (us ++ vs) ≡ lows us ++ lows vs
-lows-append [] vs = refl
-lows-append (u ∷ us) vs = ap (λ (r : List ℕ). u .low ∷ r) (lows-append us vs)
-
 rises-two : (a : ℕ) (xs : List ℕ) (y s : ℕ) (zs : List ℕ) → y < s → risingFrom (suc s) zs ≡ true → risingFrom a (xs ++ (y ∷ zs)) ≡ true → risingFrom a (xs ++ (y ∷ s ∷ zs)) ≡ true
 rises-two a [] y s zs h g r =
     and-both (leb a y) _ (and-left (leb a y) (risingFrom (suc y) zs) r) (and-both (leb (suc y) s) (risingFrom (suc s) zs) (le-leb (suc y) s h) g)

@@ -11,10 +11,11 @@ use Rattle.spot.proofs.Places.{within-high, within-from, within-join}
 use Rattle.block.specs.declared.Entry.{Entry}
 use Rattle.block.specs.Node.{Store}
 use Rattle.block.specs.declared.Asked.the-variants.{Child}
-use Rattle.tree.specs.Part.{Part, nextLow, parts}
+use Rattle.tree.specs.Part.{Part, nextLow, parts, Steps}
 use Rattle.tree.specs.Lookup.{down, lookup}
-use Rattle.tree.proofs.Ranges.{Steps, steps-le}
-use Rattle.update.proofs.Change.{covers, reaches, Sound, Changed, changed-as, among, changed-among, found-after, down-append}
+use Rattle.tree.proofs.Ranges.{steps-le}
+use Rattle.update.specs.Change.{covers, reaches, Sound, Changed}
+use Rattle.update.proofs.Change.{changed-as, among, changed-among, found-after, down-append}
 
 -- the children's ranges fill their parent's
 pub covers-parts : (lo hi : ℕ) (e : Entry) (es : List Entry) (k : ℕ) → Steps lo hi (e ∷ es) → covers k (parts lo hi (e ∷ es)) ≡ within lo hi k

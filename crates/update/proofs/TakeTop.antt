@@ -30,12 +30,12 @@ use Rattle.tree.specs.Part.{Part}
 use Rattle.tree.specs.Lookup.{lookup}
 use Rattle.tree.proofs.Entries.{Highest, highest}
 use Rattle.update.specs.Held.{Held}
-use Rattle.update.proofs.Change.{Sound, Changed}
+use Rattle.update.specs.Change.{part, Sound, Changed}
+use Rattle.update.specs.Spare.{Taken}
+use Rattle.update.specs.Rounds.{Loop, Full}
 use Rattle.update.proofs.Spread.{childAt}
-use Rattle.update.proofs.Spare.{Taken}
 use Rattle.update.proofs.Node.{Top}
-use Rattle.update.proofs.Loose.{part}
-use Rattle.update.proofs.Rounds.{Loop, Full, child-bounds, child-low, child-sound, child-top, top-within, round-insert, round-end, round-dead, round-child, round-both}
+use Rattle.update.proofs.Rounds.{child-bounds, child-low, child-sound, child-top, top-within, round-insert, round-end, round-dead, round-child, round-both}
 
 -- take_top's promise, for a part c of l levels that the entry e leads to
 pub record Took (l : ℕ) (x : Store) (c : Part) (e : Entry) : Type 0 where

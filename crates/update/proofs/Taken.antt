@@ -31,15 +31,16 @@ use Rattle.tree.proofs.Below.{node-sound, sizes-filled, sizes-lowest}
 use Rattle.tree.proofs.Entries.{Highest, deepest, entry-for, agree-size, agree-top}
 use Rattle.tree.proofs.Empty.{none-length, held-some, none-held, empty-keys}
 use Rattle.update.specs.Held.{Held}
-use Rattle.update.proofs.Spare.{Taken}
-use Rattle.update.proofs.Change.{Sound, Changed}
-use Rattle.update.proofs.Loose.{part, opened, lookup-step}
-use Rattle.update.proofs.Open.{Open, heldOf, open-node, open-lowest}
+use Rattle.update.specs.Change.{part, Sound, Changed}
+use Rattle.update.specs.Spare.{Taken}
+use Rattle.update.specs.Open.{Open}
+use Rattle.update.specs.Rounds.{blocks, Loop, Full}
+use Rattle.update.proofs.Loose.{opened, lookup-step}
+use Rattle.update.proofs.Open.{heldOf, open-node, open-lowest}
 use Rattle.update.proofs.Fill.{open-take}
 use Rattle.update.proofs.Close.{Shape}
 use Rattle.update.proofs.Node.{Top, top-of, point-live}
 use Rattle.update.proofs.Going.{going-start, going-done}
-use Rattle.update.proofs.Rounds.{blocks, Loop, Full}
 use Rattle.update.proofs.TakeTop.{Took, TakeTop, Filled, fill}
 
 -- what hangs on the entries' blocks alone
@@ -139,6 +140,7 @@ module _ (l : ℕ) (x : Store) (c : Part) (e : Entry) (asks : c .asked ≡ Child
   pub top-found : (a : ℕ) → find (e .top) (x (c .block) .points) ≡ some a → lookup (suc l) x (e .top) c ≡ some a
   top-found a h = lookup-step l x (e .top) c ∙ rw h
 
+  -- the child's node without its highest spot: what lies below stays under the rest of P, and the word on that key alone becomes none
   pub take-open : c .lo ≤ c .hi → (e .size ≡ 0 → ⊥)
       → (r : ℕ) × Open l x (c .lo) (c .hi) r (x (c .block) .entries) (record { points = only (but (e .top)) (x (c .block) .points); inserts = x (c .block) .inserts; deletes = x (c .block) .deletes }) (λ k. cond (eqb k (e .top)) none (lookup (suc l) x k c))
   take-open order size = go (filled (x (c .block))) refl

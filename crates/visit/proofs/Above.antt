@@ -2,7 +2,7 @@
 -- Assumes nothing.
 use mathlib.Core.Path.{_≡_, refl, sym, ap, ap₂, subst, _∙_}
 use mathlib.Core.Logic.{_⊎_, inl, inr, ⊎-elim}
-use mathlib.Core.Bool.{Bool, true, not, _&&_, _||_, or-assoc, or-comm}
+use mathlib.Core.Bool.{Bool, true, not, _&&_, _||_}
 use mathlib.Core.List.{List, [], _∷_, _++_, List·Memᴰ, List·Memᴰ·head, List·Memᴰ·tail, List·Memᴰ·not-nil, List·Memᴰ·cases-cons, List·Memᴰ·append-cases, Memᴰ·append-left, Memᴰ·append-right}
 use Prim.Native.Nat.{ℕ, zero, suc, _+_, _*_, _≤_, _<_}
 use native.Mathlib.Numerals.{add-one}
@@ -13,7 +13,8 @@ use borrow.Author.Tests.{leb-true, eqb-false, not-true}
 use Rattle.octets.specs.Lists.{all, has, records, isEmpty}
 use Rattle.octets.specs.Bytes.{be}
 use Rattle.octets.proofs.Order.{same-or-not}
-use Rattle.octets.proofs.Tests.{all-at, every-mem, or-either, empty-list, keep-same}
+use Rattle.octets.proofs.Lists.{mem-drop}
+use Rattle.octets.proofs.Tests.{all-at, every-mem, or-either, or-swap, empty-list, keep-same}
 use Rattle.octets.proofs.Sets.{has-append, has-not}
 use Rattle.spot.specs.Keys.{allKeys, rankKey}
 use Rattle.spot.specs.Spots.{keyAt, spotAt, keys}
@@ -149,9 +150,6 @@ above-step t p r b level a v ok inside e i d h n g =
         node-facts level a own ok .above k (e .top) (subst (λ (x : ℕ). List·Memᴰ k (keys (storeOf t x .points))) q l)
         (Memᴰ·append-right (keys (own .inserts) ++ own .deletes) (tops-mem (own .entries) i d))
 
-swap : (a b c : Bool) → a || (b || c) ≡ b || (a || c)
-swap a b c = sym (or-assoc a b c) ∙ ap (λ (x : Bool). x || c) (or-comm a b) ∙ or-assoc b a c
-
 named-append : (m : Store) (k : ℕ) (xs : List ℕ) (b : ℕ) → has k (namedBy m (xs ++ (b ∷ []))) ≡ has k (names (m b)) || has k (namedBy m xs)
 named-append m k [] b = has-append k (names (m b)) []
 named-append m k (x ∷ xs) b =
@@ -160,7 +158,7 @@ named-append m k (x ∷ xs) b =
     let old : Bool = has k (namedBy m xs) in
     has-append k (names (m x)) (namedBy m (xs ++ (b ∷ [])))
     ∙ ap (λ (y : Bool). own || y) (named-append m k xs b)
-    ∙ swap own new old
+    ∙ or-swap own new old
     ∙ ap (λ (y : Bool). new || y) (sym (has-append k (names (m x)) (namedBy m xs)))
 
 pub named-step : (t : List ℕ) (p r : Path) (b k : ℕ) → above r ≡ above p ++ (b ∷ []) → has k (namedAbove t r) ≡ has k (names (storeOf t b) ++ namedAbove t p)
@@ -206,12 +204,7 @@ entries-are t b = refl
 
 pub entry-in : (t : List ℕ) (b i : ℕ) {e : Entry} → i < be 1 (block t b) 7 → EntryIs (block t b) i e → List·Memᴰ e (storeOf t b .entries)
 entry-in t b i {e} h v =
-    subst (λ (l : List Entry). List·Memᴰ e l) (entries-are t b) (drop-mem i (entriesIn (block t b)) (subst (λ (l : List Entry). List·Memᴰ e l) (sym (entry-next (block t b) i h)) (List·Memᴰ·head (v .same))))
-  where
-    drop-mem : (j : ℕ) (l : List Entry) {x : Entry} → List·Memᴰ x (drop j l) → List·Memᴰ x l
-    drop-mem zero l k = k
-    drop-mem (suc j) [] k = k
-    drop-mem (suc j) (y ∷ l) k = List·Memᴰ·tail (drop-mem j l k)
+    subst (λ (l : List Entry). List·Memᴰ e l) (entries-are t b) (mem-drop i (entriesIn (block t b)) (subst (λ (l : List Entry). List·Memᴰ e l) (sym (entry-next (block t b) i h)) (List·Memᴰ·head (v .same))))
 
 -- a child that is read has points, stands in the table, and has a level below its parent's
 pub admitted-size : (q : Query) (b : ℕ) (e : Entry) (s : Span) → admits q (partOf b (Child e) s) ≡ true → e .size ≡ 0 → ⊥

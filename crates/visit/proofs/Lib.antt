@@ -4,3 +4,4 @@ pub mod Runs
 pub mod Paths
 pub mod Counts
 pub mod Above
+pub mod Marking

@@ -1,17 +1,15 @@
 -- The buffers of a node that keeps the rules, as runs of records in the table.
 -- Assumes nothing.
-use mathlib.Core.Path.{_≡_, refl, sym, ap, ap₂, subst, _∙_}
-use mathlib.Core.Bool.{Bool, true, _&&_, _||_, or-assoc}
-use mathlib.Core.List.{List, [], _∷_, _++_}
+use mathlib.Core.Path.{_≡_, sym, ap, ap₂, subst, _∙_}
+use mathlib.Core.Bool.{true}
+use mathlib.Core.List.{List, _++_}
 use Prim.Native.Nat.{ℕ, _+_, _*_, _≤_}
 use native.Mathlib.Omega.{arith}
-use lib.Dec.{leb}
 use lib.ListN.{length, take, drop}
-use Rattle.octets.specs.Lists.{has, records, rising}
+use Rattle.octets.specs.Lists.{records, rising}
 use Rattle.octets.specs.Bytes.{be}
 use Rattle.octets.proofs.Order.{stride}
 use Rattle.octets.proofs.Records.{records-cong}
-use Rattle.octets.proofs.Sets.{has-append}
 use Rattle.spot.specs.Spots.{keyAt, spotAt, keys}
 use Rattle.spot.proofs.Buffers.{keys-records}
 use Rattle.spot.proofs.Card.{keyAt-part, spotAt-part}
@@ -21,7 +19,7 @@ use Rattle.block.specs.Node.{storeOf, nodeOf, nodeFrom, pointsFrom, insertsFrom
 use Rattle.block.specs.Access.{frontOf, usedOf}
 use Rattle.block.proofs.Facts.{BlockFacts, block-facts}
 use Rattle.block.specs.NodeRules.{ValidBlock}
-use Rattle.visit.specs.Visit.{waiting, keysFrom, anyFrom}
+use Rattle.visit.specs.Visit.{waiting, keysFrom, Ready}
 
 -- ---- records of a block are records of the table
 
@@ -81,14 +79,6 @@ module _ (t : List ℕ) (b : ℕ) (v : ValidBlock t b) where
 
 -- ---- what a reader of a run asks
 
-abbrev pub Ready : List ℕ → ℕ → ℕ → ℕ → Type 0
-Ready t at w n = (8 ≤ w) × (w ≤ 12) × (n ≤ 64) × (at + w * n ≤ length t) × (rising (keysFrom t w n at) ≡ true)
-
-any-append : (lo hi : ℕ) (xs ys : List ℕ) → anyFrom lo hi (xs ++ ys) ≡ anyFrom lo hi xs || anyFrom lo hi ys
-any-append lo hi [] ys = refl
-any-append lo hi (x ∷ xs) ys =
-    ap (λ (b : Bool). leb lo x && leb x hi || b) (any-append lo hi xs ys) ∙ sym (or-assoc (leb lo x && leb x hi) (anyFrom lo hi xs) (anyFrom lo hi ys))
-
 module _ (t : List ℕ) (b : ℕ) (h : Front) (r : Runs t b h) (inside : b * 2048 + 2048 ≤ length t) where
   points-keys : {x : ℕ} → x ≡ pointsFrom version1 (h .c) → keysFrom t 12 (h .p) (b * 2048 + x) ≡ keys (storeOf t b .points)
   points-keys {x} e =
@@ -115,15 +105,6 @@ module _ (t : List ℕ) (b : ℕ) (h : Front) (r : Runs t b h) (inside : b * 204
   deletes-ready {x} e =
       (omega arith, omega arith, omega (arith, r .d-most), omega (arith, r .used), ap rising (deletes-keys e) ∙ r .deletes-rise)
 
-  module _ {x y : ℕ} (e : x ≡ insertsFrom version1 (h .c) (h .p)) (g : y ≡ deletesFrom version1 (h .c) (h .p) (h .i)) where
-    pub waits-is : {u v : Bool} (k : ℕ) → u ≡ has k (keysFrom t 12 (h .i) (b * 2048 + x)) → v ≡ has k (keysFrom t 8 (h .d) (b * 2048 + y))
-        → u || v ≡ has k (waiting (storeOf t b))
-    waits-is k p q =
-        ap₂ (λ (u v : Bool). u || v) (p ∙ ap (has k) (inserts-keys e)) (q ∙ ap (has k) (deletes-keys g))
-        ∙ sym (has-append k (keys (storeOf t b .inserts)) (storeOf t b .deletes))
-
-    pub between-is : {u v : Bool} (lo hi : ℕ) → u ≡ anyFrom lo hi (keysFrom t 12 (h .i) (b * 2048 + x)) → v ≡ anyFrom lo hi (keysFrom t 8 (h .d) (b * 2048 + y))
-        → u || v ≡ anyFrom lo hi (waiting (storeOf t b))
-    between-is lo hi p q =
-        ap₂ (λ (u v : Bool). u || v) (p ∙ ap (anyFrom lo hi) (inserts-keys e)) (q ∙ ap (anyFrom lo hi) (deletes-keys g))
-        ∙ sym (any-append lo hi (keys (storeOf t b .inserts)) (storeOf t b .deletes))
+  pub waiting-is : {x y : ℕ} → x ≡ insertsFrom version1 (h .c) (h .p) → y ≡ deletesFrom version1 (h .c) (h .p) (h .i)
+      → keysFrom t 12 (h .i) (b * 2048 + x) ++ keysFrom t 8 (h .d) (b * 2048 + y) ≡ waiting (storeOf t b)
+  waiting-is e g = ap₂ (λ (u v : List ℕ). u ++ v) (inserts-keys e) (deletes-keys g)

@@ -2,13 +2,13 @@
 -- Assumes nothing.
 use mathlib.Core.Path.{_≡_, refl, sym, ap, ap₂, _∙_}
 use mathlib.Core.Bool.{Bool, true, false, cond, not, _&&_, _||_}
-use mathlib.Core.List.{List, [], _∷_, _++_}
+use mathlib.Core.List.{List, [], _∷_}
 use Prim.Native.Nat.{ℕ, suc, _+_, _*_, _/_, _≤_, _<_}
 use native.Mathlib.Numerals.{add-one}
 use native.Mathlib.Omega.{arith}
 use lib.Dec.{ltb, leb, eqb, eqb·suc-zero}
-use lib.ListN.{length, take, drop, set, drop-of-length-le}
-use lib.Seq.{drop-cons, take-suc-set}
+use lib.ListN.{length, drop, drop-of-length-le}
+use lib.Seq.{drop-cons}
 use borrow.Author.Tests.{lt-ltb}
 use Rattle.octets.specs.Lists.{all, isEmpty}
 use Rattle.octets.specs.Bytes.{be}
@@ -87,8 +87,3 @@ module _ (s : List ℕ) where
 
     pub span-last : be 1 s 7 ≤ i + 1 → record { lo = lo; hi = span .hi; endless = span .endless } ≡ childSpan (entriesIn s) i lo span
     span-last h = sym (ap spanAt (entry-none (suc i) (omega arith)))
-
--- ---- a path
-
-pub take-set-more : (l : List ℕ) (i v : ℕ) → i < length l → take (i + 1) (set l i v) ≡ take i l ++ (v ∷ [])
-take-set-more l i v h = rw (add-one i) (take-suc-set l i v h)

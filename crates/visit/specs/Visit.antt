@@ -2,14 +2,15 @@
 -- Assumes nothing.
 use mathlib.Core.Path.{_≡_}
 use Prim.Native.Nat.{ℕ, suc, _+_, _*_, _≤_, _<_}
-use mathlib.Core.Bool.{Bool, true, false, cond, _&&_, _||_}
+use mathlib.Core.Bool.{Bool, true, false, cond, not, _&&_}
 use mathlib.Core.List.{List, [], _∷_, _++_, List·Memᴰ}
-use lib.ListN.{length, take, drop}
-use lib.Dec.{ltb, leb}
-use Rattle.octets.specs.Lists.{has, keep, records, isEmpty}
+use lib.ListN.{length, take, drop, getD}
+use lib.Dec.{ltb}
+use Rattle.octets.specs.Lists.{has, keep, records, rising, isEmpty}
 use Rattle.octets.specs.Bytes.{be}
 use Rattle.spot.specs.Keys.{rankKey, allKeys}
 use Rattle.spot.specs.Spots.{keys, keyAt, spotAt}
+use Rattle.spot.specs.Query.{wantsKey}
 use Rattle.spot.specs.declared.Spot.{Spot}
 use Rattle.spot.specs.declared.Query.{Query}
 use Rattle.block.specs.declared.Entry.{Entry}
@@ -18,7 +19,7 @@ use Rattle.block.specs.declared.Asked.the-variants.{Root, Child}
 use Rattle.block.specs.Node.{Node, Store, storeOf, entryAt, firstOpen}
 use Rattle.block.specs.NodeRules.{ValidBlock}
 use Rattle.tree.specs.Part.{Part, nextLow}
-use Rattle.tree.specs.Walk.{takes}
+use Rattle.tree.specs.Walk.{takes, takesKey}
 use Rattle.tree.specs.Trace.{namedBy}
 use Rattle.visit.specs.declared.Span.{Span}
 use Rattle.visit.specs.declared.Path.{Path}
@@ -66,27 +67,50 @@ pub record Ancestors (t : List ℕ) (p : Path) (top : ℕ) : Type 0 where
   pub path : ValidPath t p
   pub over : (b : ℕ) → List·Memᴰ b (above p) → (k : ℕ) → List·Memᴰ k (keys (storeOf t b .points)) → top < rankKey k
 
--- r has those nodes of the path in which a change of a key from lo to hi waits
-pub record Near (t : List ℕ) (p : Path) (lo hi : ℕ) (r : Path) : Type 0 where
-  pub path : ValidPath t r
-  pub same : (k : ℕ) → lo ≤ k → k ≤ hi → has k (waitingAbove t r) ≡ has k (waitingAbove t p)
-
 -- the keys of n records of w bytes from at on
 abbrev pub keysFrom : List ℕ → ℕ → ℕ → ℕ → List ℕ
 keysFrom s w n at = records (keyAt s) w n at
+
+-- n records of w bytes from at on whose keys rise
+abbrev pub Ready : List ℕ → ℕ → ℕ → ℕ → Type 0
+Ready t at w n = (8 ≤ w) × (w ≤ 12) × (n ≤ 64) × (at + w * n ≤ length t) × (rising (keysFrom t w n at) ≡ true)
 
 -- how many of the keys are below k
 abbrev pub belowIn : ℕ → List ℕ → ℕ
 belowIn k ks = length (keep (λ j. ltb j k) ks)
 
--- one of the keys lies from lo to hi
-abbrev pub anyFrom : ℕ → ℕ → List ℕ → Bool
-anyFrom lo hi [] = false
-anyFrom lo hi (k ∷ ks) = (leb lo k && leb k hi) || anyFrom lo hi ks
-
 -- the spots of a run of n records from at on that a query takes
 abbrev pub taken : List ℕ → ℕ → ℕ → Query → Path → List Spot
 taken t at n q p = keep (takes q (waitingAbove t p)) (records (spotAt t) 12 n at)
+
+-- those elements of a list that have a mark
+module _ {A : Type 0} where
+  abbrev pub chosen : List Bool → List A → List A
+  chosen [] xs = []
+  chosen (b ∷ m) [] = []
+  chosen (b ∷ m) (x ∷ xs) = cond b (x ∷ chosen m xs) (chosen m xs)
+
+-- how many marks there are
+abbrev pub marksIn : List Bool → ℕ
+marksIn m = length (keep (λ b. b) m)
+
+-- of the n spots from at on those have a mark that a query wants
+pub record Wanted (t : List ℕ) (at n : ℕ) (q : Query) (m : List Bool) : Type 0 where
+  pub sized : length m ≡ 64
+  pub takes : (i : ℕ) → i < n → getD m i false ≡ wantsKey q (keyAt t (at + 12 * i))
+  pub rest : (i : ℕ) → n ≤ i → getD m i false ≡ false
+
+-- the marks of the n spots from at on, but for those whose key is among ks
+pub record Struck (t : List ℕ) (at n : ℕ) (ks : List ℕ) (m m′ : List Bool) : Type 0 where
+  pub sized : length m′ ≡ length m
+  pub takes : (i : ℕ) → i < n → getD m′ i false ≡ getD m i false && not (has (keyAt t (at + 12 * i)) ks)
+  pub rest : (i : ℕ) → n ≤ i → getD m′ i false ≡ getD m i false
+
+-- of the n spots from at on those have a mark that a query takes
+pub record Marks (t : List ℕ) (at n : ℕ) (q : Query) (p : Path) (m : List Bool) : Type 0 where
+  pub sized : length m ≡ 64
+  pub takes : (i : ℕ) → i < n → getD m i false ≡ takesKey q (waitingAbove t p) (keyAt t (at + 12 * i))
+  pub rest : (i : ℕ) → n ≤ i → getD m i false ≡ false
 
 -- the child entries of the node in a block's bytes
 abbrev pub entriesIn : List ℕ → List Entry

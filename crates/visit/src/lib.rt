@@ -3,15 +3,15 @@ ghost use mathlib.Core.Path.{_≡_};
 ghost use mathlib.Core.Bool.{true};
 ghost use mathlib.Core.List.{_∷_, [], _++_};
 ghost use Prim.Native.Nat.{_+_, _*_, _≤_, _<_};
-ghost use lib.ListN.{length};
+ghost use lib.ListN.{length, take};
 ghost use Rattle.octets.specs.Lists.{has, rising};
 ghost use Rattle.octets.specs.Bytes.{be};
 ghost use Rattle.spot.specs.Query.{meets};
 ghost use Rattle.block.specs.Node.{storeOf};
 ghost use Rattle.block.specs.NodeRules.{ValidBlock};
 ghost use Rattle.block.specs.declared.Asked.the-variants.{Child};
-ghost use Rattle.tree.specs.Walk.{admits, takesKey, finds};
-ghost use Rattle.visit.specs.Visit.{endOf, partOf, above, waiting, waitingAbove, ValidPath, Near, keysFrom, belowIn, anyFrom, taken, childSpan, entriesIn};
+ghost use Rattle.tree.specs.Walk.{admits, finds};
+ghost use Rattle.visit.specs.Visit.{endOf, partOf, above, waiting, waitingAbove, ValidPath, keysFrom, Ready, Wanted, Struck, Marks, marksIn, belowIn, taken, childSpan, entriesIn};
 
 // A range of keys, from lo up to, and without, hi, or to the end.
 pub struct Span {
@@ -85,103 +85,92 @@ pub fn has_key(t: &[u8], at: usize, w: usize, n: usize, k: u64) -> bool
     spot::read_key(t, at + w * i) == k
 }
 
-// A change of k waits in the node at b.
-pub fn waits(t: &[u8], b: usize, k: u64) -> bool
-    requires { ⌜ ValidBlock (now t) b ⌝ }
-    ensures { λ r. ⌜ r ≡ has k (waiting (storeOf (now (t .entry)) b)) ⌝ }
+// Marks those of the n spots from at on that the query wants.
+fn wanted(t: &[u8], at: usize, n: usize, q: spot::Query) -> [bool; 64]
+    requires { ⌜ (n ≤ 64) × (at + 12 * n ≤ length (now t)) ⌝ }
+    ensures { λ r. ⌜ Wanted (now (t .entry)) at n q r ⌝ }
+{
+    let mut m = [false; 64];
+    let mut i = 0;
+    while i < n {
+        let k = spot::read_key(t, at + 12 * i);
+        m[i] = spot::wants(q, k);
+        i += 1;
+    }
+    m
+}
+
+// Takes the mark from the spot with key k, if it is among the n that rise from at on.
+fn strike_key(t: &[u8], at: usize, n: usize, m: &mut [bool], k: u64)
+    requires { ⌜ Ready (now t) at 12 n × (n ≤ length (now m)) ⌝ }
+    ensures { λ _. ⌜ Struck (now (t .entry)) at n (k ∷ []) (now (m .entry)) (now (m .exit)) ⌝ }
+{
+    let i = below(t, at, 12, n, k);
+    if i < n {
+        m[i] = m[i] & (spot::read_key(t, at + 12 * i) != k);
+    }
+}
+
+// The same with c rising keys, w bytes apart from a on: only those between the first and the last spot are looked for.
+fn strike(t: &[u8], at: usize, n: usize, m: &mut [bool], a: usize, w: usize, c: usize)
+    requires { ⌜ (0 < n) × Ready (now t) at 12 n × Ready (now t) a w c × (n ≤ length (now m)) ⌝ }
+    ensures { λ _. ⌜ Struck (now (t .entry)) at n (keysFrom (now (t .entry)) w c a) (now (m .entry)) (now (m .exit)) ⌝ }
+{
+    let lo = spot::read_key(t, at);
+    let hi = spot::read_key(t, at + 12 * (n - 1));
+    let mut j = below(t, a, w, c, lo);
+    while j < c {
+        let k = spot::read_key(t, a + w * j);
+        if hi < k {
+            return;
+        }
+        strike_key(t, at, n, m, k);
+        j += 1;
+    }
+}
+
+// The same with the keys of the changes that wait in the node at b.
+fn strike_node(t: &[u8], at: usize, n: usize, m: &mut [bool], b: usize)
+    requires { ⌜ (0 < n) × Ready (now t) at 12 n × ValidBlock (now t) b × (n ≤ length (now m)) ⌝ }
+    ensures { λ _. ⌜ Struck (now (t .entry)) at n (waiting (storeOf (now (t .entry)) b)) (now (m .entry)) (now (m .exit)) ⌝ }
 {
     let from = b * 2048;
     let to = from + 2048;
     let h = block::front_of(&t[from..to]);
     let ai = from + block::inserts_from(h);
     let ad = from + block::deletes_from(h);
-    has_key(t, ai, 12, h.i, k) | has_key(t, ad, 8, h.d, k)
+    strike(t, at, n, m, ai, 12, h.i);
+    strike(t, at, n, m, ad, 8, h.d);
 }
 
-// A change of k waits in a node above.
-pub fn named(t: &[u8], p: Path, k: u64) -> bool
-    requires { ⌜ ValidPath (now t) p ⌝ }
-    ensures { λ r. ⌜ r ≡ has k (waitingAbove (now (t .entry)) p) ⌝ }
+// Marks those of the n spots from at on that the query takes: the wanted ones, but for those of which a change waits above.
+pub fn marks(t: &[u8], at: usize, n: usize, q: spot::Query, p: Path) -> [bool; 64]
+    requires { ⌜ (n ≤ 64) × (at + 12 * n ≤ length (now t)) × ValidPath (now t) p × (rising (keysFrom (now t) 12 n at) ≡ true) ⌝ }
+    ensures { λ r. ⌜ Marks (now (t .entry)) at n q p r ⌝ }
 {
-    let n = p.n;
+    let mut m = wanted(t, at, n, q);
+    if n == 0 {
+        return m;
+    }
+    let c = p.n;
     let mut i = 0;
-    while i < n {
+    while i < c {
         let b = p.blocks[i];
-        if waits(t, b, k) {
-            return true;
-        }
+        strike_node(t, at, n, &mut m, b);
         i += 1;
     }
-    false
+    m
 }
 
-// One of the n rising keys, w bytes apart from at on, lies from lo to hi.
-pub fn meets_keys(t: &[u8], at: usize, w: usize, n: usize, lo: u64, hi: u64) -> bool
-    requires { ⌜ (8 ≤ w) × (w ≤ 12) × (n ≤ 64) × (at + w * n ≤ length (now t)) × (rising (keysFrom (now t) w n at) ≡ true) ⌝ }
-    ensures { λ r. ⌜ r ≡ anyFrom lo hi (keysFrom (now (t .entry)) w n at) ⌝ }
-{
-    let i = below(t, at, w, n, lo);
-    if n <= i {
-        return false;
-    }
-    spot::read_key(t, at + w * i) <= hi
-}
-
-// A change of a key from lo to hi waits in the node at b.
-pub fn waits_between(t: &[u8], b: usize, lo: u64, hi: u64) -> bool
-    requires { ⌜ ValidBlock (now t) b ⌝ }
-    ensures { λ r. ⌜ r ≡ anyFrom lo hi (waiting (storeOf (now (t .entry)) b)) ⌝ }
-{
-    let from = b * 2048;
-    let to = from + 2048;
-    let h = block::front_of(&t[from..to]);
-    let ai = from + block::inserts_from(h);
-    let ad = from + block::deletes_from(h);
-    meets_keys(t, ai, 12, h.i, lo, hi) | meets_keys(t, ad, 8, h.d, lo, hi)
-}
-
-// Those nodes above in which a change of a key from lo to hi waits: most often none, and then no key is looked up.
-pub fn near(t: &[u8], p: Path, lo: u64, hi: u64) -> Path
-    requires { ⌜ ValidPath (now t) p ⌝ }
-    ensures { λ r. ⌜ Near (now (t .entry)) p lo hi r ⌝ }
-{
-    let n = p.n;
-    let mut found = Path {
-        n: 0,
-        blocks: [0; 8],
-    };
-    let mut i = 0;
-    while i < n {
-        let b = p.blocks[i];
-        if waits_between(t, b, lo, hi) {
-            found = step(found, b);
-        }
-        i += 1;
-    }
-    found
-}
-
-// The query takes k: it wants it, and no change of it waits above.
-pub fn takes_key(t: &[u8], q: spot::Query, p: Path, k: u64) -> bool
-    requires { ⌜ ValidPath (now t) p ⌝ }
-    ensures { λ r. ⌜ r ≡ takesKey q (waitingAbove (now (t .entry)) p) k ⌝ }
-{
-    if !spot::wants(q, k) {
-        return false;
-    }
-    !named(t, p, k)
-}
-
-// How many of the n spots from at on the query takes.
-pub fn count_each(t: &[u8], at: usize, n: usize, q: spot::Query, p: Path) -> usize
-    requires { ⌜ (n ≤ 64) × (at + 12 * n ≤ length (now t)) × ValidPath (now t) p ⌝ }
-    ensures { λ r. ⌜ (r ≡ length (taken (now (t .entry)) at n q p)) × (r ≤ n) ⌝ }
+// How many of the first n have a mark.
+pub fn count_marks(m: [bool; 64], n: usize) -> usize
+    requires { ⌜ n ≤ 64 ⌝ }
+    ensures { λ r. ⌜ (r ≡ marksIn (take n m)) × (r ≤ n) ⌝ }
 {
     let mut sum = 0;
     let mut i = 0;
     while i < n {
-        let k = spot::read_key(t, at + 12 * i);
-        if takes_key(t, q, p, k) {
+        if m[i] {
             sum += 1;
         }
         i += 1;
@@ -189,18 +178,13 @@ pub fn count_each(t: &[u8], at: usize, n: usize, q: spot::Query, p: Path) -> usi
     sum
 }
 
-// The same of spots that rise.
+// How many of the n spots from at on, which rise, the query takes.
 pub fn count_run(t: &[u8], at: usize, n: usize, q: spot::Query, p: Path) -> usize
     requires { ⌜ (n ≤ 64) × (at + 12 * n ≤ length (now t)) × ValidPath (now t) p × (rising (keysFrom (now t) 12 n at) ≡ true) ⌝ }
     ensures { λ r. ⌜ (r ≡ length (taken (now (t .entry)) at n q p)) × (r ≤ n) ⌝ }
 {
-    if n == 0 {
-        return 0;
-    }
-    let lo = spot::read_key(t, at);
-    let hi = spot::read_key(t, at + 12 * (n - 1));
-    let some = near(t, p, lo, hi);
-    count_each(t, at, n, q, some)
+    let m = marks(t, at, n, q, p);
+    count_marks(m, n)
 }
 
 // How many spots the query finds in the node at b.

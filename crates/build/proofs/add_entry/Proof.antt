@@ -1,6 +1,7 @@
 -- `build::add_entry` meets its contract: a store behind the entries in use.
 -- Assumes nothing.
-use Rattle.buffer.proofs.Lists.{take-push, length-image}
+use Rattle.octets.proofs.Lists.{take-push}
+use Rattle.buffer.proofs.Lists.{length-image}
 use lib.ListN.{length}
 use mathlib.Core.Path.{_≡_}
 use borrow.Author.Needs.{needs}

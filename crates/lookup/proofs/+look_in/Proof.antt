@@ -2,7 +2,7 @@
 -- Assumes nothing.
 use mathlib.Core.Bool.{true}
 use mathlib.Core.Path.{_≡_, sym, ap, _∙_}
-use Prim.Native.Nat.{ℕ, _+_, _-_, _≤_, _<_}
+use Prim.Native.Nat.{ℕ, _-_, _≤_, _<_}
 use native.Mathlib.Omega.{arith}
 use denote.Ref.{now}
 use borrow.Author.Needs.{needs}
@@ -94,13 +94,13 @@ returns-2 : (t : ℕ) → lts.Need-returns-2 (cs t) (at t) look-in.Post Inv μ
 returns-2 t c =
     let s = c .before .before .before .before .before in
     let a = s .args in
-    named-live (now (a .t)) (a .b) (a .level) (a .asked) (a .span) (a .k) (c .before .node-says .ensures) (c .if2 .taken)
+    named-live (now (a .t)) (a .b) (a .level) (a .asked) (a .span) (a .k) (sym (c .before .before .before .block-ok .ensures) ∙ not-false _ (c .before .before .if1 .left)) (c .before .node-says .ensures) (c .if2 .taken)
 
 returns-3 : (t : ℕ) → lts.Need-returns-3 (cs t) (at t) look-in.Post Inv μ
 returns-3 t c =
     let s = c .before .before .before .before .before .before in
     let a = s .args in
-    named-gone (now (a .t)) (a .b) (a .level) (a .asked) (a .span) (a .k) (c .before .before .node-says .ensures) (c .before .if2 .left) (c .if3 .taken)
+    named-gone (now (a .t)) (a .b) (a .level) (a .asked) (a .span) (a .k) (sym (c .before .before .before .before .block-ok .ensures) ∙ not-false _ (c .before .before .before .if1 .left)) (c .before .before .node-says .ensures) (c .before .if2 .left) (c .if3 .taken)
 
 mul-from : (t : ℕ) → lts.Need-mul-from (cs t) (at t) look-in.Post Inv μ
 mul-from t c = search needs
@@ -187,7 +187,7 @@ returns-5 : (t : ℕ) → lts.Need-returns-5 (cs t) (at t) look-in.Post Inv μ
 returns-5 t c =
     let s = c .before .before .before .before .before .before .before .before .before .before in
     let a = s .args in
-    no-child (now (a .t)) (a .b) (a .level) (a .asked) (a .span) (a .k) (c .before .before .before .before .before .before .node-says .ensures) (c .before .before .before .before .before .if2 .left) (c .before .before .before .before .if3 .left) (c .before .loop .inv .1) (omega (arith, count t (c .before .before), c .loop-test .left))
+    no-child (now (a .t)) (a .b) (a .level) (a .asked) (a .span) (a .k) (node t (c .before .before)) (c .before .before .before .before .before .before .node-says .ensures) (c .before .before .before .before .before .if2 .left) (c .before .before .before .before .if3 .left) (c .before .loop .inv .1) (omega (arith, count t (c .before .before), c .loop-test .left))
 
 pub +look-in-spec : {M : Type 1} → statement M
 +look-in-spec = close μ-level λ t. lts.spec (cs t)

@@ -1,12 +1,12 @@
 -- `renew::gather` meets its contract: the live spots are counted, and collected in the scratch.
 -- Assumes nothing.
-use mathlib.Core.Path.{refl}
+use mathlib.Core.Path.{refl, sym, _∙_}
 use Prim.Native.Nat.{_≤_, _<_}
 use lib.ListN.{length}
 use denote.Ref.{now}
 use borrow.Author.Tests.{not-true, not-false}
 use Rattle.block.specs.Table.{capacity}
-use Rattle.renew.proofs.Gathering.{whole-by, gather-broken, gather-many, gather-twice, gather-all}
+use Rattle.renew.proofs.Gathering.{gather-broken, gather-many, gather-twice, gather-all}
 use borrow.Author.Needs.{needs}
 use native.Mathlib.Omega.{arith}
 use Rattle.renew.proofs.gather.Statement.{statement}
@@ -33,7 +33,7 @@ collect-table-requires : tie.Need-collect-table-requires
 collect-table-requires c κs =
     let few : c .before .before .before .before .before .before .before .count-table .result .spots ≤ capacity (length (now (c .before .before .before .before .before .before .before .before .before .before .before .args .table))) = omega (arith, c .before .before .before .capacity-of .ensures) in
     let ok = not-false _ (c .before .before .before .before .if1 .left) in
-    (c .before .before .before .before .before .before .before .before .before .before .before .pre .0, whole-by _ _ (c .before .before .before .before .before .before .before .count-table .ensures .ok) ok, omega (arith, few, c .before .before .before .before .before .before .before .count-table .ensures .spots ok, c .before .before .before .before .before .before .before .before .before .before .before .pre .1))
+    (c .before .before .before .before .before .before .before .before .before .before .before .pre .0, not-true _ (sym (c .before .before .before .before .before .before .before .count-table .ensures .ok) ∙ ok), omega (arith, few, c .before .before .before .before .before .before .before .count-table .ensures .spots ok, c .before .before .before .before .before .before .before .before .before .before .before .pre .1))
 
 rises-requires : tie.Need-rises-requires
 rises-requires c κs = search needs

@@ -8,7 +8,8 @@ use borrow.Author.Tests.{not-true, not-false}
 use Rattle.spot.specs.Spots.{put, without}
 use Rattle.spot.specs.declared.Spot.{Spot}
 use Rattle.block.specs.Table.{capacity}
-use Rattle.renew.proofs.Renewing.{put-up, renew-broken, renew-amendable, renew-full, renew-segment, renew-built}
+use Rattle.tree.proofs.Says.{replaced-rises}
+use Rattle.renew.proofs.Renewing.{renew-broken, renew-amendable, renew-full, renew-segment, renew-built}
 use borrow.Author.Needs.{needs}
 use native.Mathlib.Omega.{arith}
 use Rattle.renew.proofs.with_spot.Statement.{statement}
@@ -46,7 +47,7 @@ returns-2 c =
 build-table-requires : tie.Need-build-table-requires
 build-table-requires c κs =
     let few : c .before .before .before .before .before .before .put-in .result ≤ capacity (length (now (c .before .before .before .before .before .before .before .before .before .before .before .before .before .before .before .before .before .args .table))) = omega (arith, c .before .before .before .capacity-of .ensures) in
-    (c .before .before .before .before .before .before .before .before .before .before .before .before .before .before .before .before .before .pre .0, few, renew-segment (c .before .before .before .before .before .before .before .before .before .before .before .before .before .before .before .before .before .pre .0) (c .before .before .before .before .before .before .before .before .before .before .before .before .before .before .before .before .before .pre .1) (c .before .before .before .before .before .before .before .before .before .before .before .before .gather .ensures) (not-false _ (c .before .before .before .before .before .before .before .before .if1 .left)) (λ (l : List Spot). put (c .before .before .before .before .before .before .before .before .before .before .before .before .before .before .before .before .before .args .s) (without (c .before .before .before .before .before .before .before .before .before .before .before .before .before .before .before .before .before .args .s .key) l)) (c .before .before .before .before .before .before .put-in .ensures) few (put-up (c .before .before .before .before .before .before .before .before .before .before .before .before .before .before .before .before .before .args .s) _))
+    (c .before .before .before .before .before .before .before .before .before .before .before .before .before .before .before .before .before .pre .0, few, renew-segment (c .before .before .before .before .before .before .before .before .before .before .before .before .before .before .before .before .before .pre .0) (c .before .before .before .before .before .before .before .before .before .before .before .before .before .before .before .before .before .pre .1) (c .before .before .before .before .before .before .before .before .before .before .before .before .gather .ensures) (not-false _ (c .before .before .before .before .before .before .before .before .if1 .left)) (λ (l : List Spot). put (c .before .before .before .before .before .before .before .before .before .before .before .before .before .before .before .before .before .args .s) (without (c .before .before .before .before .before .before .before .before .before .before .before .before .before .before .before .before .before .args .s .key) l)) (c .before .before .before .before .before .before .put-in .ensures) few (replaced-rises (c .before .before .before .before .before .before .before .before .before .before .before .before .before .before .before .before .before .args .s) _))
 
 same-length-5 : tie.Need-same-length-5
 same-length-5 c = search needs

@@ -2,7 +2,8 @@
 -- Assumes nothing.
 use borrow.Author.Tests.{not-true, not-false}
 use Rattle.spot.specs.Spots.{without}
-use Rattle.renew.proofs.Renewing.{out-up, out-few, renew-broken, renew-amendable, renew-segment, renew-built}
+use Rattle.spot.proofs.Canon.{without-rises}
+use Rattle.renew.proofs.Renewing.{out-few, renew-broken, renew-amendable, renew-segment, renew-built}
 use borrow.Author.Needs.{needs}
 use Rattle.renew.proofs.without_key.Statement.{statement}
 use Rattle.renew.proofs.without_key.Tie as tie
@@ -25,7 +26,7 @@ take-out-requires c κs = renew-amendable (c .before .before .before .before .be
 build-table-requires : tie.Need-build-table-requires
 build-table-requires c κs =
     let few = out-few (c .before .before .before .before .before .before .before .before .before .before .before .before .before .before .before .pre .0) (c .before .before .before .before .before .before .before .before .before .before .before .before .before .before .before .pre .1) (c .before .before .before .before .before .before .before .before .before .before .gather .ensures) (not-false _ (c .before .before .before .before .before .before .if1 .left)) (c .before .before .before .before .before .before .before .before .before .before .before .before .before .before .before .args .k) (c .before .before .before .before .take-out .ensures) in
-    (c .before .before .before .before .before .before .before .before .before .before .before .before .before .before .before .pre .0, few, renew-segment (c .before .before .before .before .before .before .before .before .before .before .before .before .before .before .before .pre .0) (c .before .before .before .before .before .before .before .before .before .before .before .before .before .before .before .pre .1) (c .before .before .before .before .before .before .before .before .before .before .gather .ensures) (not-false _ (c .before .before .before .before .before .before .if1 .left)) (without (c .before .before .before .before .before .before .before .before .before .before .before .before .before .before .before .args .k)) (c .before .before .before .before .take-out .ensures) few (out-up (c .before .before .before .before .before .before .before .before .before .before .before .before .before .before .before .args .k) _))
+    (c .before .before .before .before .before .before .before .before .before .before .before .before .before .before .before .pre .0, few, renew-segment (c .before .before .before .before .before .before .before .before .before .before .before .before .before .before .before .pre .0) (c .before .before .before .before .before .before .before .before .before .before .before .before .before .before .before .pre .1) (c .before .before .before .before .before .before .before .before .before .before .gather .ensures) (not-false _ (c .before .before .before .before .before .before .if1 .left)) (without (c .before .before .before .before .before .before .before .before .before .before .before .before .before .before .before .args .k)) (c .before .before .before .before .take-out .ensures) few (without-rises 0 (c .before .before .before .before .before .before .before .before .before .before .before .before .before .before .before .args .k) _))
 
 same-length-3 : tie.Need-same-length-3
 same-length-3 c = search needs

@@ -1,4 +1,4 @@
--- `revise::put_spot` meets its contract: by the bound alone, else by the lookup, else by the count.
+-- `revise::put_spot` meets its contract: by the lookup and the bound, and by the count where the bound is at capacity.
 -- Assumes nothing.
 use Rattle.revise.proofs.Calls.{lent-long, bound-few, looked-live, looked-none, add-header, add-lost, add-below, add-replaced}
 use Rattle.block.specs.Table.{capacity}
@@ -21,17 +21,35 @@ same-length c = search needs
 returns : tie.Need-returns
 returns c = add-header _ _ (c .before .before .before .before .before .args .s) _ (c .before .header-ok .ensures) (not-true _ (c .if1 .taken))
 
+bound-of-requires : tie.Need-bound-of-requires
+bound-of-requires c κs = lent-long (c .before .before .before .before .before .before .pre)
+
+look-up-requires : tie.Need-look-up-requires
+look-up-requires c κs = c .before .before .before .before .before .before .before .before .pre .sized
+
+enum-told : tie.Need-enum-told
+enum-told c = search needs
+
+enum-told-2 : tie.Need-enum-told-2
+enum-told-2 c = search needs
+
+put-within-requires : tie.Need-put-within-requires
+put-within-requires c κs =
+    let ok = sym (c .before .before .before .before .before .before .before .before .before .header-ok .ensures) ∙ not-false _ (c .before .before .before .before .before .before .before .before .if1 .left) in
+    (c .before .before .before .before .before .before .before .before .before .before .before .before .before .pre, ok, bound-few (now (c .before .before .before .before .before .before .before .before .before .before .before .before .before .args .table)) ok (c .before .before .before .before .before .before .bound-of .ensures .0))
+
+enum-told-3 : tie.Need-enum-told-3
+enum-told-3 c = search needs
+
 capacity-of-requires : tie.Need-capacity-of-requires
 capacity-of-requires c κs = search needs
-
-bound-of-requires : tie.Need-bound-of-requires
-bound-of-requires c κs = lent-long (c .before .before .before .before .before .before .before .pre)
 
 add-put-within : tie.Need-add-put-within
 add-put-within c = search needs
 
-put-within-requires : tie.Need-put-within-requires
-put-within-requires c κs = (c .before .before .before .before .before .before .before .before .before .before .before .pre, sym (c .before .before .before .before .before .before .before .header-ok .ensures) ∙ not-false _ (c .before .before .before .before .before .before .if1 .left), omega (arith, c .before .before .before .before .before .capacity-of .ensures))
+put-within-requires-2 : tie.Need-put-within-requires-2
+put-within-requires-2 c κs =
+    (c .before .before .before .before .before .before .before .before .before .before .before .before .before .before .before .pre, sym (c .before .before .before .before .before .before .before .before .before .before .before .header-ok .ensures) ∙ not-false _ (c .before .before .before .before .before .before .before .before .before .before .if1 .left), omega (arith, c .before .before .before .capacity-of .ensures))
 
 same-length-2 : tie.Need-same-length-2
 same-length-2 c = search needs
@@ -41,34 +59,18 @@ same-length-3 c = search needs
 
 returns-2 : tie.Need-returns-2
 returns-2 c =
-    let below : c .before .before .before .before .before .before .before .before .bound-of .result < capacity (length (now (c .before .before .before .before .before .before .before .before .before .before .before .before .before .before .before .before .args .table))) = omega (arith, c .before .before .before .before .before .before .before .before .before .before .capacity-of .ensures) in
-    add-below _ _ (c .before .before .before .before .before .before .before .before .before .before .before .before .before .before .before .before .args .s) (sym (c .before .before .before .before .before .before .before .before .before .before .before .before .header-ok .ensures) ∙ not-false _ (c .before .before .before .before .before .before .before .before .before .before .before .if1 .left)) (c .before .before .before .before .before .before .before .before .bound-of .ensures .0) below (c .before .before .before .before .put-within .ensures)
-
-look-up-requires : tie.Need-look-up-requires
-look-up-requires c κs = c .before .before .before .before .before .before .before .before .before .before .pre .sized
-
-enum-told : tie.Need-enum-told
-enum-told c = search needs
-
-enum-told-2 : tie.Need-enum-told-2
-enum-told-2 c = search needs
-
-put-within-requires-2 : tie.Need-put-within-requires-2
-put-within-requires-2 c κs =
-    let ok = sym (c .before .before .before .before .before .before .before .before .before .before .before .header-ok .ensures) ∙ not-false _ (c .before .before .before .before .before .before .before .before .before .before .if1 .left) in
-    (c .before .before .before .before .before .before .before .before .before .before .before .before .before .before .before .pre, ok, bound-few (now (c .before .before .before .before .before .before .before .before .before .before .before .before .before .before .before .args .table)) ok (c .before .before .before .before .before .before .before .bound-of .ensures .0))
-
-enum-told-3 : tie.Need-enum-told-3
-enum-told-3 c = search needs
+    let below : c .before .before .before .before .before .before .before .before .before .before .before .before .before .bound-of .result < capacity (length (now (c .before .before .before .before .before .before .before .before .before .before .before .before .before .before .before .before .before .before .before .before .args .table))) = omega (arith, c .before .before .before .before .before .before .before .before .capacity-of .ensures) in
+    add-below _ _ (c .before .before .before .before .before .before .before .before .before .before .before .before .before .before .before .before .before .before .before .before .args .s) (sym (c .before .before .before .before .before .before .before .before .before .before .before .before .before .before .before .before .header-ok .ensures) ∙ not-false _ (c .before .before .before .before .before .before .before .before .before .before .before .before .before .before .before .if1 .left)) (c .before .before .before .before .before .before .before .before .before .before .before .before .before .bound-of .ensures .0) below (c .before .before .before .before .put-within2 .ensures)
 
 put-counted-requires : tie.Need-put-counted-requires
-put-counted-requires c κs = (c .before .before .before .before .before .before .before .before .before .before .before .before .before .before .before .pre, sym (c .before .before .before .before .before .before .before .before .before .before .before .header-ok .ensures) ∙ not-false _ (c .before .before .before .before .before .before .before .before .before .before .if1 .left), looked-none (c .before .before .before .before .look-up .ensures) (c .before .before .enum-told3 .given .1))
+put-counted-requires c κs =
+    (c .before .before .before .before .before .before .before .before .before .before .before .before .before .before .before .pre, sym (c .before .before .before .before .before .before .before .before .before .before .before .header-ok .ensures) ∙ not-false _ (c .before .before .before .before .before .before .before .before .before .before .if1 .left), looked-none (c .before .before .before .before .before .before .look-up .ensures) (c .before .before .before .before .enum-told3 .given .1))
 
 same-length-4 : tie.Need-same-length-4
 same-length-4 c = search needs
 
 returns-3 : tie.Need-returns-3
-returns-3 c = add-lost _ _ (c .before .before .before .before .before .before .before .before .before .before .before .before .before .args .s) (c .before .before .look-up .ensures) (c .enum-told .given .1)
+returns-3 c = add-lost _ _ (c .before .before .before .before .before .before .before .before .before .before .before .args .s) (c .before .before .look-up .ensures) (c .enum-told .given .1)
 
 same-length-5 : tie.Need-same-length-5
 same-length-5 c = search needs
@@ -78,7 +80,8 @@ same-length-6 c = search needs
 
 returns-4 : tie.Need-returns-4
 returns-4 c =
-    add-replaced _ _ (c .before .before .before .before .before .before .before .before .before .before .before .before .before .before .before .before .before .before .before .before .args .s) (sym (c .before .before .before .before .before .before .before .before .before .before .before .before .before .before .before .before .header-ok .ensures) ∙ not-false _ (c .before .before .before .before .before .before .before .before .before .before .before .before .before .before .before .if1 .left)) (c .before .before .before .before .before .before .before .before .before .before .before .before .bound-of .ensures .0) (looked-live (c .before .before .before .before .before .before .before .before .before .look-up .ensures) (c .before .before .before .before .before .before .before .enum-told2 .given .1)) (c .before .before .before .before .put-within2 .ensures)
+    add-replaced _ _ (c .before .before .before .before .before .before .before .before .before .before .before .before .before .before .before .before .before .before .args .s) (sym (c .before .before .before .before .before .before .before .before .before .before .before .before .before .before .header-ok .ensures) ∙ not-false _ (c .before .before .before .before .before .before .before .before .before .before .before .before .before .if1 .left)) (c .before .before .before .before .before .before .before .before .before .before .before .bound-of .ensures .0)
+    (looked-live (c .before .before .before .before .before .before .before .before .before .look-up .ensures) (c .before .before .before .before .before .before .before .enum-told2 .given .1)) (c .before .before .before .before .put-within .ensures)
 
 same-length-7 : tie.Need-same-length-7
 same-length-7 c = search needs
@@ -96,18 +99,18 @@ put-spot-spec =
     header-ok-requires
     same-length
     returns
-    capacity-of-requires
     bound-of-requires
-    add-put-within
-    put-within-requires
-    same-length-2
-    same-length-3
-    returns-2
     look-up-requires
     enum-told
     enum-told-2
-    put-within-requires-2
+    put-within-requires
     enum-told-3
+    capacity-of-requires
+    add-put-within
+    put-within-requires-2
+    same-length-2
+    same-length-3
+    returns-2
     put-counted-requires
     same-length-4
     returns-3

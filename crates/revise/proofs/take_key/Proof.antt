@@ -1,12 +1,9 @@
--- `revise::take_key` meets its contract: by the bound alone, or by the lookup.
+-- `revise::take_key` meets its contract: by the lookup.
 -- Assumes nothing.
-use Rattle.revise.proofs.Calls.{lent-long, bound-few, bound-some, looked-live, drop-header, drop-lost, drop-any, drop-live}
+use Rattle.revise.proofs.Calls.{lent-long, bound-few, looked-live, looked-none, drop-header, drop-lost, drop-uncounted, drop-none, drop-live}
 use mathlib.Core.Path.{sym, _∙_}
-use Rattle.block.specs.Table.{capacity}
 use borrow.Author.Tests.{not-true, not-false}
-use lib.ListN.{length}
 use denote.Ref.{now}
-use Prim.Native.Nat.{_≤_}
 use borrow.Author.Needs.{needs}
 use native.Mathlib.Omega.{arith}
 use Rattle.revise.proofs.take_key.Statement.{statement}
@@ -21,28 +18,11 @@ same-length c = search needs
 returns : tie.Need-returns
 returns c = drop-header _ _ (c .before .before .before .before .before .args .k) _ (c .before .header-ok .ensures) (not-true _ (c .if1 .taken))
 
-capacity-of-requires : tie.Need-capacity-of-requires
-capacity-of-requires c κs = search needs
-
 bound-of-requires : tie.Need-bound-of-requires
-bound-of-requires c κs = lent-long (c .before .before .before .before .before .before .before .pre)
-
-take-within-requires : tie.Need-take-within-requires
-take-within-requires c κs =
-    let ok = sym (c .before .before .before .before .before .before .before .header-ok .ensures) ∙ not-false _ (c .before .before .before .before .before .before .if1 .left) in
-    (c .before .before .before .before .before .before .before .before .before .before .before .pre, ok, bound-few (now (c .before .before .before .before .before .before .before .before .before .before .before .args .table)) ok (c .before .before .before .bound-of .ensures .0))
-
-same-length-2 : tie.Need-same-length-2
-same-length-2 c = search needs
-
-same-length-3 : tie.Need-same-length-3
-same-length-3 c = search needs
-
-returns-2 : tie.Need-returns-2
-returns-2 c = drop-any _ _ (c .before .before .before .before .before .before .before .before .before .before .before .before .before .before .before .before .args .k) (sym (c .before .before .before .before .before .before .before .before .before .before .before .before .header-ok .ensures) ∙ not-false _ (c .before .before .before .before .before .before .before .before .before .before .before .if1 .left)) (c .before .before .before .before .before .before .before .before .bound-of .ensures .0) (c .before .before .before .before .take-within .ensures)
+bound-of-requires c κs = lent-long (c .before .before .before .before .before .before .pre)
 
 look-up-requires : tie.Need-look-up-requires
-look-up-requires c κs = c .before .before .before .before .before .before .before .before .before .before .pre .sized
+look-up-requires c κs = c .before .before .before .before .before .before .before .before .pre .sized
 
 enum-told : tie.Need-enum-told
 enum-told c = search needs
@@ -50,47 +30,48 @@ enum-told c = search needs
 enum-told-2 : tie.Need-enum-told-2
 enum-told-2 c = search needs
 
-sub-take-within : tie.Need-sub-take-within
-sub-take-within c =
-    let full : capacity (length (now (c .before .before .before .before .before .before .before .before .before .before .before .before .before .before .before .args .table))) ≤ c .before .before .before .before .before .before .before .bound-of .result = omega (arith, c .before .before .before .before .before .before .before .before .before .capacity-of .ensures) in
-    bound-some (now (c .before .before .before .before .before .before .before .before .before .before .before .before .before .before .before .args .table)) (sym (c .before .before .before .before .before .before .before .before .before .before .before .header-ok .ensures) ∙ not-false _ (c .before .before .before .before .before .before .before .before .before .before .if1 .left)) full
+same-length-2 : tie.Need-same-length-2
+same-length-2 c = search needs
 
-take-within-requires-2 : tie.Need-take-within-requires-2
-take-within-requires-2 c κs =
-    let ok = sym (c .before .before .before .before .before .before .before .before .before .before .before .header-ok .ensures) ∙ not-false _ (c .before .before .before .before .before .before .before .before .before .before .if1 .left) in
-    (c .before .before .before .before .before .before .before .before .before .before .before .before .before .before .before .pre, ok, omega (arith, bound-few (now (c .before .before .before .before .before .before .before .before .before .before .before .before .before .before .before .args .table)) ok (c .before .before .before .before .before .before .before .bound-of .ensures .0)))
+returns-2 : tie.Need-returns-2
+returns-2 c =
+    drop-uncounted _ _ (c .before .before .before .before .before .before .before .before .before .before .before .before .args .k) (c .before .before .before .before .before .bound-of .ensures .0) (looked-live (c .before .before .before .look-up .ensures) (c .before .enum-told2 .given .1)) (c .if2 .taken)
+
+sub-take-within : tie.Need-sub-take-within
+sub-take-within c = search needs
+
+take-within-requires : tie.Need-take-within-requires
+take-within-requires c κs =
+    let ok = sym (c .before .before .before .before .before .before .before .before .before .before .header-ok .ensures) ∙ not-false _ (c .before .before .before .before .before .before .before .before .before .if1 .left) in
+    (c .before .before .before .before .before .before .before .before .before .before .before .before .before .before .pre, ok, omega (arith, bound-few (now (c .before .before .before .before .before .before .before .before .before .before .before .before .before .before .args .table)) ok (c .before .before .before .before .before .before .before .bound-of .ensures .0)))
 
 enum-told-3 : tie.Need-enum-told-3
 enum-told-3 c = search needs
 
-take-within-requires-3 : tie.Need-take-within-requires-3
-take-within-requires-3 c κs =
-    let ok = sym (c .before .before .before .before .before .before .before .before .before .before .before .header-ok .ensures) ∙ not-false _ (c .before .before .before .before .before .before .before .before .before .before .if1 .left) in
-    (c .before .before .before .before .before .before .before .before .before .before .before .before .before .before .before .pre, ok, bound-few (now (c .before .before .before .before .before .before .before .before .before .before .before .before .before .before .before .args .table)) ok (c .before .before .before .before .before .before .before .bound-of .ensures .0))
+same-length-3 : tie.Need-same-length-3
+same-length-3 c = search needs
+
+returns-3 : tie.Need-returns-3
+returns-3 c = drop-lost _ _ (c .before .before .before .before .before .before .before .before .before .before .before .args .k) (c .before .before .look-up .ensures) (c .enum-told .given .1)
 
 same-length-4 : tie.Need-same-length-4
 same-length-4 c = search needs
 
-returns-3 : tie.Need-returns-3
-returns-3 c = drop-lost _ _ (c .before .before .before .before .before .before .before .before .before .before .before .before .before .args .k) (c .before .before .look-up .ensures) (c .enum-told .given .1)
-
 same-length-5 : tie.Need-same-length-5
 same-length-5 c = search needs
+
+returns-4 : tie.Need-returns-4
+returns-4 c =
+    drop-live _ _ (c .before .before .before .before .before .before .before .before .before .before .before .before .before .before .before .before .before .before .before .args .k) (sym (c .before .before .before .before .before .before .before .before .before .before .before .before .before .before .before .header-ok .ensures) ∙ not-false _ (c .before .before .before .before .before .before .before .before .before .before .before .before .before .before .if1 .left)) (c .before .before .before .before .before .before .before .before .before .before .before .before .bound-of .ensures .0)
+    (looked-live (c .before .before .before .before .before .before .before .before .before .before .look-up .ensures) (c .before .before .before .before .before .before .before .before .enum-told2 .given .1)) (c .before .before .before .before .take-within .ensures)
 
 same-length-6 : tie.Need-same-length-6
 same-length-6 c = search needs
 
-returns-4 : tie.Need-returns-4
-returns-4 c = drop-live _ _ (c .before .before .before .before .before .before .before .before .before .before .before .before .before .before .before .before .before .before .before .before .args .k) (sym (c .before .before .before .before .before .before .before .before .before .before .before .before .before .before .before .before .header-ok .ensures) ∙ not-false _ (c .before .before .before .before .before .before .before .before .before .before .before .before .before .before .before .if1 .left)) (c .before .before .before .before .before .before .before .before .before .before .before .before .bound-of .ensures .0) (looked-live (c .before .before .before .before .before .before .before .before .before .look-up .ensures) (c .before .before .before .before .before .before .before .enum-told2 .given .1)) (c .before .before .before .before .take-within2 .ensures)
-
-same-length-7 : tie.Need-same-length-7
-same-length-7 c = search needs
-
-same-length-8 : tie.Need-same-length-8
-same-length-8 c = search needs
-
 returns-5 : tie.Need-returns-5
-returns-5 c = drop-any _ _ (c .before .before .before .before .before .before .before .before .before .before .before .before .before .before .before .before .before .before .before .before .args .k) (sym (c .before .before .before .before .before .before .before .before .before .before .before .before .before .before .before .before .header-ok .ensures) ∙ not-false _ (c .before .before .before .before .before .before .before .before .before .before .before .before .before .before .before .if1 .left)) (c .before .before .before .before .before .before .before .before .before .before .before .before .bound-of .ensures .0) (c .before .before .before .before .take-within3 .ensures)
+returns-5 c =
+    drop-none _ _ (c .before .before .before .before .before .before .before .before .before .before .before .args .k) (sym (c .before .before .before .before .before .before .before .header-ok .ensures) ∙ not-false _ (c .before .before .before .before .before .before .if1 .left))
+    (looked-none (c .before .before .look-up .ensures) (c .enum-told3 .given .1))
 
 pub take-key-spec : {M : Type 1} → statement M
 take-key-spec =
@@ -99,24 +80,19 @@ take-key-spec =
     header-ok-requires
     same-length
     returns
-    capacity-of-requires
     bound-of-requires
-    take-within-requires
-    same-length-2
-    same-length-3
-    returns-2
     look-up-requires
     enum-told
     enum-told-2
+    same-length-2
+    returns-2
     sub-take-within
-    take-within-requires-2
+    take-within-requires
     enum-told-3
-    take-within-requires-3
-    same-length-4
+    same-length-3
     returns-3
+    same-length-4
     same-length-5
-    same-length-6
     returns-4
-    same-length-7
-    same-length-8
+    same-length-6
     returns-5)

@@ -1,9 +1,10 @@
 -- `spare::one_more` meets its contract: a store behind the blocks found.
 -- Assumes nothing.
-use Rattle.spare.proofs.Taking.{stored}
+use Rattle.octets.proofs.Lists.{take-push}
 use lib.ListN.{length}
 use mathlib.Core.Path.{_≡_}
 use borrow.Author.Needs.{needs}
+use native.Mathlib.Omega.{arith}
 use Rattle.spare.proofs.one_more.Statement.{statement}
 use Rattle.spare.proofs.one_more.Tie as tie
 
@@ -17,7 +18,7 @@ add-next : tie.Need-add-next
 add-next c = search needs
 
 returns : tie.Need-returns
-returns c = (search needs, stored (c .args .s .blocks) (c .args .s .n) (c .args .b) (long c) (c .pre))
+returns c = (search needs, take-push (c .args .s .blocks) (c .args .s .n) (c .args .b) (omega (arith, long c, c .pre)))
   where
     long : (c : tie.Start) → length (c .args .s .blocks) ≡ 8
     long c = search needs

@@ -1,6 +1,7 @@
 -- `spare::spare_blocks` meets its contract: the map copied, and what is clear in it.
 -- Assumes nothing.
-use Rattle.spare.proofs.Finding.{copied, map-inside, few-blocks, spare-in}
+use Rattle.spare.proofs.Finding.{copied, map-inside, spare-in}
+use Rattle.block.proofs.Facts.{head-facts}
 use borrow.Author.Needs.{needs}
 use Rattle.spare.proofs.spare_blocks.Statement.{statement}
 use Rattle.spare.proofs.spare_blocks.Tie as tie
@@ -24,7 +25,7 @@ slice-aggregate-find-clear : tie.Need-slice-aggregate-find-clear
 slice-aggregate-find-clear c = search needs
 
 find-clear-requires : tie.Need-find-clear-requires
-find-clear-requires c κs = (search needs, few-blocks (c .before .before .before .before .before .before .args .t .now) (c .before .before .before .before .before .before .pre))
+find-clear-requires c κs = (search needs, head-facts _ _ (c .before .before .before .before .before .before .pre) .blocks-most)
 
 returns : tie.Need-returns
 returns c = spare-in (c .before .before .before .before .before .before .before .before .args .t .now) (c .before .before .before .before .copy .last .1 .0) _ (c .before .before .before .before .before .before .before .before .pre) (copied (c .before .before .before .before .before .before .before .before .args .t .now) _ (c .before .before .before .before .copy .ensures)) (c .before .find-clear .ensures)

@@ -1,6 +1,6 @@
--- `table::rebuild` meets its contract, by that of `laid_anew`; then the scratch is cleared.
+-- `table::rebuild` meets its contract, by that of `renew::anew`; then the scratch is cleared.
 -- Assumes nothing.
-use Rattle.table.proofs.Anew.{rebuild-short, rebuild-lent, rebuild-broken, rebuild-done}
+use Rattle.table.proofs.Rebuilding.{rebuild-short, rebuild-lent, rebuild-broken, rebuild-done}
 use borrow.Author.Tests.{not-true, not-false}
 use denote.Ref.{now}
 use lib.ListN.{length}
@@ -28,11 +28,11 @@ returns-2 c =
     let short : length (now (c .before .before .before .before .before .before .args .scratch)) < length (now (c .before .before .before .before .before .before .args .table)) = omega arith in
     rebuild-lent _ _ _ (sym (c .before .before .before .sized .ensures) ∙ not-false _ (c .before .before .if1 .left)) short (c .refuse2 .ensures)
 
-laid-anew-requires : tie.Need-laid-anew-requires
-laid-anew-requires c κs = (sym (c .before .before .before .before .sized .ensures) ∙ not-false _ (c .before .before .before .if1 .left), omega arith)
+anew-requires : tie.Need-anew-requires
+anew-requires c κs = (sym (c .before .before .before .before .sized .ensures) ∙ not-false _ (c .before .before .before .if1 .left), omega arith)
 
 zero-requires : tie.Need-zero-requires
-zero-requires c κs = omega (arith, c .before .before .before .before .before .laid-anew .ensures .lent)
+zero-requires c κs = omega (arith, c .before .before .before .before .before .anew .ensures .lent)
 
 refuse-requires-3 : tie.Need-refuse-requires-3
 refuse-requires-3 c κs = search needs
@@ -46,7 +46,7 @@ same-length-2 c = search needs
 returns-3 : tie.Need-returns-3
 returns-3 c =
     let long : length (now (c .before .before .before .before .before .before .before .before .before .before .before .before .before .before .before .before .before .before .args .table)) ≤ length (now (c .before .before .before .before .before .before .before .before .before .before .before .before .before .before .before .before .before .before .args .scratch)) = omega arith in
-    rebuild-broken _ _ _ _ _ _ _ (sym (c .before .before .before .before .before .before .before .before .before .before .before .before .before .before .before .sized .ensures) ∙ not-false _ (c .before .before .before .before .before .before .before .before .before .before .before .before .before .before .if1 .left)) long (c .before .before .before .before .before .before .before .before .before .before .laid-anew .ensures) (c .before .before .before .before .zero .ensures) (not-true _ (c .before .if3 .taken)) (c .refuse3 .ensures)
+    rebuild-broken _ _ _ _ _ _ _ (sym (c .before .before .before .before .before .before .before .before .before .before .before .before .before .before .before .sized .ensures) ∙ not-false _ (c .before .before .before .before .before .before .before .before .before .before .before .before .before .before .if1 .left)) long (c .before .before .before .before .before .before .before .before .before .before .anew .ensures) (c .before .before .before .before .zero .ensures) (not-true _ (c .before .if3 .taken)) (c .refuse3 .ensures)
 
 refuse-requires-4 : tie.Need-refuse-requires-4
 refuse-requires-4 c κs = search needs
@@ -60,7 +60,7 @@ same-length-4 c = search needs
 returns-4 : tie.Need-returns-4
 returns-4 c =
     let long : length (now (c .before .before .before .before .before .before .before .before .before .before .before .before .before .before .before .before .before .before .args .table)) ≤ length (now (c .before .before .before .before .before .before .before .before .before .before .before .before .before .before .before .before .before .before .args .scratch)) = omega arith in
-    rebuild-done _ _ _ _ _ _ _ (sym (c .before .before .before .before .before .before .before .before .before .before .before .before .before .before .before .sized .ensures) ∙ not-false _ (c .before .before .before .before .before .before .before .before .before .before .before .before .before .before .if1 .left)) long (c .before .before .before .before .before .before .before .before .before .before .laid-anew .ensures) (c .before .before .before .before .zero .ensures) (not-false _ (c .before .if3 .left)) (c .refuse4 .ensures)
+    rebuild-done _ _ _ _ _ _ _ (sym (c .before .before .before .before .before .before .before .before .before .before .before .before .before .before .before .sized .ensures) ∙ not-false _ (c .before .before .before .before .before .before .before .before .before .before .before .before .before .before .if1 .left)) long (c .before .before .before .before .before .before .before .before .before .before .anew .ensures) (c .before .before .before .before .zero .ensures) (not-false _ (c .before .if3 .left)) (c .refuse4 .ensures)
 
 pub rebuild-spec : {M : Type 1} → statement M
 rebuild-spec =
@@ -71,7 +71,7 @@ rebuild-spec =
     returns
     refuse-requires-2
     returns-2
-    laid-anew-requires
+    anew-requires
     zero-requires
     refuse-requires-3
     same-length

@@ -1,11 +1,11 @@
 -- `top::top_run` meets its contract: few slots are enough, or all are taken.
 -- Assumes nothing.
-use Rattle.top.proofs.Cleared.{look-ready}
-use Rattle.top.proofs.Sweeps.{run-some, run-again, zeroed}
-use Rattle.tree.proofs.MapBits.{zeros-length}
-use borrow.Author.Tests.{not-true}
-use lib.ListN.{length}
 use mathlib.Core.Path.{refl, ap, _∙_}
+use lib.ListN.{length}
+use borrow.Author.Tests.{not-true}
+use Rattle.tree.proofs.MapBits.{zeros-length}
+use Rattle.top.proofs.Sweeps.{run-some, run-again, zeroed}
+use Rattle.top.proofs.Cleared.{look-ready}
 use borrow.Author.Needs.{needs}
 use native.Mathlib.Omega.{arith}
 use Rattle.top.proofs.top_run.Statement.{statement}
@@ -23,8 +23,14 @@ slice-aggregate-look-3 c = search needs
 slice-aggregate-look-4 : tie.Need-slice-aggregate-look-4
 slice-aggregate-look-4 c = search needs
 
+slice-aggregate-look-5 : tie.Need-slice-aggregate-look-5
+slice-aggregate-look-5 c = search needs
+
+slice-aggregate-look-6 : tie.Need-slice-aggregate-look-6
+slice-aggregate-look-6 c = search needs
+
 look-requires : tie.Need-look-requires
-look-requires c κs = look-ready 64 512 (omega arith) refl (c .before .before .before .before .before .before .before .before .before .pre)
+look-requires c κs = look-ready 128 1024 (omega arith) refl (c .before .before .before .before .before .before .before .before .before .before .before .pre)
 
 same-length : tie.Need-same-length
 same-length c = search needs
@@ -33,22 +39,22 @@ same-length-2 : tie.Need-same-length-2
 same-length-2 c = search needs
 
 returns : tie.Need-returns
-returns c = run-some (not-true _ (c .if1 .taken)) (c .before .before .before .before .before .before .before .before .before .before .look .ensures)
+returns c = run-some (not-true _ (c .if1 .taken)) (c .before .before .before .before .before .before .before .before .before .before .before .before .look .ensures)
 
 zero-requires : tie.Need-zero-requires
-zero-requires c κs = omega (arith, c .before .before .before .before .before .before .before .before .before .before .before .look .kept .1 .0, ap length (c .before .before .before .before .before .before .before .before .before .before .before .before .before .before .before .before .before .before .before .before .before .pre .clear) ∙ zeros-length 512)
+zero-requires c κs = omega (arith, c .before .before .before .before .before .before .before .before .before .before .before .before .before .look .kept .1 .0, ap length (c .before .before .before .before .before .before .before .before .before .before .before .before .before .before .before .before .before .before .before .before .before .before .before .before .before .pre .clear) ∙ zeros-length 512)
 
 wide-run-requires : tie.Need-wide-run-requires
 wide-run-requires c κs =
-    let p = c .before .before .before .before .before .before .before .before .before .before .before .before .before .before .before .before .before .before .before .before .before .before .before .before .before .before .pre in
+    let p = c .before .before .before .before .before .before .before .before .before .before .before .before .before .before .before .before .before .before .before .before .before .before .before .before .before .before .before .before .before .before .pre in
     record {
       x1 = p .x1;
       x2 = p .x2;
       asks = p .asks;
       sized = p .sized;
-      clear = zeroed (c .before .before .before .before .before .before .before .before .before .before .before .before .before .before .before .before .look .last .1 .0) (c .before .before .before .before .before .before .before .before .before .before .before .before .before .before .before .before .look .kept .1 .0 ∙ ap length (p .clear) ∙ zeros-length 512) (c .before .before .before .before .zero .ensures);
+      clear = zeroed (c .before .before .before .before .before .before .before .before .before .before .before .before .before .before .before .before .before .before .look .last .1 .0) (c .before .before .before .before .before .before .before .before .before .before .before .before .before .before .before .before .before .before .look .kept .1 .0 ∙ ap length (p .clear) ∙ zeros-length 512) (c .before .before .before .before .zero .ensures);
       some = p .some;
-      fits = omega (arith, c .before .before .before .before .before .before .before .before .before .before .before .before .before .before .before .before .look .kept .1 .1 .1 .1 .0, p .fits);
+      fits = omega (arith, c .before .before .before .before .before .before .before .before .before .before .before .before .before .before .before .before .before .before .look .kept .1 .1 .1 .1 .0, p .fits);
     }
 
 same-length-3 : tie.Need-same-length-3
@@ -58,7 +64,7 @@ same-length-4 : tie.Need-same-length-4
 same-length-4 c = search needs
 
 returns-2 : tie.Need-returns-2
-returns-2 c = run-again (c .before .before .before .before .before .before .before .before .before .before .before .before .before .before .before .before .before .before .before .before .before .look .kept .1 .1 .1 .1 .0) (c .before .before .before .before .wide-run .ensures)
+returns-2 c = run-again (c .before .before .before .before .before .before .before .before .before .before .before .before .before .before .before .before .before .before .before .before .before .before .before .look .kept .1 .1 .1 .1 .0) (c .before .before .before .before .wide-run .ensures)
 
 pub top-run-spec : {M : Type 1} → statement M
 top-run-spec =
@@ -68,6 +74,8 @@ top-run-spec =
     slice-aggregate-look-2
     slice-aggregate-look-3
     slice-aggregate-look-4
+    slice-aggregate-look-5
+    slice-aggregate-look-6
     look-requires
     same-length
     same-length-2

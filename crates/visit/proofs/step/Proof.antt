@@ -5,7 +5,7 @@ use mathlib.Core.Path.{_≡_}
 use Prim.Native.Nat.{_<_}
 use native.Mathlib.Omega.{arith}
 use lib.ListN.{length}
-use Rattle.visit.proofs.Spans.{take-set-more}
+use Rattle.octets.proofs.Lists.{take-push}
 use Rattle.visit.proofs.step.Statement.{statement}
 use Rattle.visit.proofs.step.Tie as tie
 
@@ -22,7 +22,7 @@ returns : tie.Need-returns
 returns c =
     let long : length (c .args .p .blocks) ≡ 8 = search needs in
     let h : c .args .p .n < length (c .args .p .blocks) = omega (arith, long) in
-    (search needs, take-set-more (c .args .p .blocks) (c .args .p .n) (c .args .b) h)
+    (search needs, take-push (c .args .p .blocks) (c .args .p .n) (c .args .b) h)
 
 pub step-spec : {M : Type 1} → statement M
 step-spec = tie.close (tie.spec mul-next element-write-next add-next returns)

@@ -1,0 +1,5 @@
+pub mod Cases
+pub mod Turns
+pub mod Logs
+pub mod Whole
+pub mod Worked

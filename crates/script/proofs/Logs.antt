@@ -1,0 +1,103 @@
+-- The events of a run are a history; where they agree with the model, the last table is sound and the log is the model's.
+-- Assumes nothing.
+use mathlib.Core.Path.{_≡_, refl, sym, ap, ap₂, _∙_}
+use mathlib.Core.Bool.{Bool, true, false, cond, true≢false}
+use mathlib.Core.List.{List, [], _∷_, _++_, append-assoc}
+use Prim.Native.Nat.{ℕ, _+_, _*_}
+use lib.ListN.{length, take, drop}
+use Rattle.block.specs.declared.Answer.{Answer}
+use Rattle.tree.specs.Sound.{sound}
+use Rattle.table.specs.Calls.{Call, format, add, withdraw, report, top, count, check, rebuild, Lengths}
+use Rattle.table.specs.Model.{PlainSpot, Reply, takenOut, broughtIn, asBytes, outputAfter, refuse, accept, badTable, shortScratch, full, reply, fourBytes}
+use Rattle.table.specs.History.{Event, History, AllAgreed, isQuery, replyIn}
+use Rattle.script.specs.Script.{logAfter}
+use Rattle.script.specs.Run.{entry, Held, heldAfter, passed, InTurn, AllInTurn, callsMade, entries}
+
+-- ---- a call that is no query hands out nothing
+
+unless-refused : (b : Bool) (number detail : ℕ) (ss : List PlainSpot) (r : Reply) → r .given ≡ [] → cond b (refuse number detail ss) r .given ≡ []
+unfolding refuse
+unless-refused true number detail ss r e = refl
+unless-refused false number detail ss r e = e
+
+accepts-none : (detail : ℕ) (ss : List PlainSpot) → accept detail [] ss .given ≡ []
+unfolding accept
+accepts-none detail ss = refl
+
+-- 2 for want of scratch, where the table is right
+lent-scratch : (l : Lengths) (ss : List PlainSpot) (r : Reply) → r .given ≡ []
+    → cond (badTable (l .table)) (refuse 1 0 ss) (cond (shortScratch l) (refuse 2 0 ss) r) .given ≡ []
+lent-scratch l ss r e =
+    unless-refused (badTable (l .table)) 1 0 ss (cond (shortScratch l) (refuse 2 0 ss) r) (unless-refused (shortScratch l) 2 0 ss r e)
+
+hands-none : (l : Lengths) (c : Call) (ss : List PlainSpot) → isQuery c ≡ false → reply l c ss .given ≡ []
+unfolding reply
+hands-none l format ss q = unless-refused (badTable (l .table)) 1 0 ss (accept 0 [] []) (accepts-none 0 [])
+hands-none l (add place rank track) ss q =
+    let after : List PlainSpot = broughtIn (record { place = place; rank = rank; track = track }) ss in
+    lent-scratch l ss (cond (full (l .table) place rank ss) (refuse 4 0 ss) (accept 0 [] after))
+    (unless-refused (full (l .table) place rank ss) 4 0 ss (accept 0 [] after) (accepts-none 0 after))
+hands-none l (withdraw place rank) ss q =
+    lent-scratch l ss (accept 0 [] (takenOut place rank ss)) (accepts-none 0 (takenOut place rank ss))
+hands-none l (report x1 x2 y) ss q = absurd (true≢false q)
+hands-none l (top x1 x2 k) ss q = absurd (true≢false q)
+hands-none l count ss q = unless-refused (badTable (l .table)) 1 0 ss (accept (length ss) [] ss) (accepts-none (length ss) ss)
+hands-none l check ss q = unless-refused (badTable (l .table)) 1 0 ss (accept 1 [] ss) (accepts-none 1 ss)
+hands-none l rebuild ss q = lent-scratch l ss (accept 0 [] ss) (accepts-none 0 ss)
+
+output-stays : (r : Reply) (out : List ℕ) → r .given ≡ [] → outputAfter r out ≡ out
+unfolding outputAfter
+output-stays r out e = ap (λ (g : List PlainSpot). asBytes g ++ drop (12 * length g) out) e
+
+-- ---- each event of a run
+
+module _ (l : Lengths) where
+  pub history-of : (h : Held) (es : List Event) → AllInTurn l h es → History (h .table) es
+  history-of h [] a = tt
+  history-of h (e ∷ es) a = (a .0 .called .fit, a .0 .called .met, history-of (passed (l .output) h e) es (a .1))
+
+  -- the last table is sound
+  pub ends-sound : (h : Held) (ss : List PlainSpot) (es : List Event) → sound (h .table) ≡ true → AllAgreed (h .table) ss es
+      → sound (heldAfter (l .output) h es .table) ≡ true
+  ends-sound h ss [] s g = s
+  ends-sound h ss (e ∷ es) s g = ends-sound (passed (l .output) h e) (replyIn (e .call) (h .table) ss e .next) es (g .0 .staysSound) (g .3)
+
+  module _ (h : Held) (ss : List PlainSpot) (e : Event) (i : InTurn l h e) where
+    reply-is : replyIn (e .call) (h .table) ss e ≡ reply l (e .call) ss
+    reply-is = ap (λ (k : Lengths). reply k (e .call) ss) (i .lent)
+
+    -- the output of any call is left as the model says
+    output-left : (isQuery (e .call) ≡ true → e .output′ ≡ outputAfter (replyIn (e .call) (h .table) ss e) (e .output))
+        → e .output′ ≡ outputAfter (replyIn (e .call) (h .table) ss e) (e .output)
+    output-left p = go (isQuery (e .call)) refl
+      where
+        go : (b : Bool) → isQuery (e .call) ≡ b → e .output′ ≡ outputAfter (replyIn (e .call) (h .table) ss e) (e .output)
+        go true q = p q
+        go false q = i .called .outputKept q ∙ sym (output-stays (replyIn (e .call) (h .table) ss e) (e .output) (hands-none _ (e .call) ss q))
+
+    -- the model's entry for its call
+    due : List ℕ
+    due =
+        let r = reply l (e .call) ss in
+        fourBytes (r .answer .number) ++ fourBytes (r .answer .detail) ++ outputAfter r (take (l .output) (drop 8 (h .log)))
+
+    entry-due : e .answer ≡ replyIn (e .call) (h .table) ss e .answer → e .output′ ≡ outputAfter (replyIn (e .call) (h .table) ss e) (e .output)
+        → entry e ≡ due
+    unfolding due
+    entry-due p o =
+        ap₂ (λ (a : Answer) (x : List ℕ). fourBytes (a .number) ++ fourBytes (a .detail) ++ x)
+        (p ∙ ap (λ (r : Reply). r .answer) reply-is)
+        (o ∙ ap₂ (λ (r : Reply) (x : List ℕ). outputAfter r x) reply-is (i .output))
+
+  -- a run whose events all agree with the model writes the model's log
+  pub as-model : (h : Held) (ss : List PlainSpot) (es : List Event) → AllInTurn l h es → AllAgreed (h .table) ss es
+      → entries es ++ heldAfter (l .output) h es .log ≡ logAfter l (callsMade es) ss (h .log)
+  unfolding due
+  as-model h ss [] a g = refl
+  as-model h ss (e ∷ es) a g =
+      let room : ℕ = 8 + l .output in
+      let rest : Held = passed (l .output) h e in
+      append-assoc (entry e) (entries es) (heldAfter (l .output) rest es .log)
+      ∙ ap₂ (λ (x y : List ℕ). x ++ y) (entry-due h ss e (a .0) (g .0 .answer) (output-left h ss e (a .0) (g .0 .output)))
+      (as-model rest (replyIn (e .call) (h .table) ss e .next) es (a .1) (g .3)
+      ∙ ap (λ (r : Reply). logAfter l (callsMade es) (r .next) (drop room (h .log))) (reply-is h ss e (a .0)))

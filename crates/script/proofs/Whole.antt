@@ -1,0 +1,93 @@
+-- A whole script: refused, or run on a formatted table, with the model's log.
+-- Assumes nothing.
+use mathlib.Core.Path.{_≡_, refl, sym, ap, ap₂, subst, _∙_}
+use mathlib.Core.Bool.{Bool, true, false, cond, true≢false, _&&_}
+use mathlib.Core.List.{List, []}
+use Prim.Native.Nat.{ℕ, zero, suc, _-_, _*_, _≤_, _<_}
+use native.Mathlib.Nat.{div-mul-le-self}
+use native.Mathlib.Omega.{arith}
+use lib.ListN.{length}
+use lib.Dec.{leb}
+use borrow.Author.Tests.{ne-eqb, le-leb, lt-leb}
+use Rattle.octets.proofs.Tests.{and-both}
+use Rattle.block.specs.Table.{tableSized}
+use Rattle.block.specs.Fresh.{formatted}
+use Rattle.tree.specs.Sound.{sound}
+use Rattle.tree.proofs.Fresh.{fresh-sized, fresh-sound}
+use Rattle.table.specs.Calls.{Call, Lengths}
+use Rattle.table.specs.History.{History}
+use Rattle.table.proofs.Demand.{demand3}
+use Rattle.script.specs.Script.{callsIn, partOf, logAfter}
+use Rattle.script.specs.Run.{Held, held, Run, lengthsIn, partIn, Happened, Ran}
+use Rattle.script.proofs.Logs.{history-of, ends-sound, as-model}
+
+parts-within : (bytes n : ℕ) → partOf bytes n * n ≤ bytes
+unfolding partOf
+parts-within bytes zero = omega arith
+parts-within bytes (suc n) = rw (ne-eqb (suc n) 0 (λ e. omega arith)) (div-mul-le-self bytes (suc n))
+
+-- the parts are within the log
+pub parts-fit : (bytes n part : ℕ) → part ≡ partOf bytes n → part * n ≤ bytes
+parts-fit bytes n part e = rw e (parts-within bytes n)
+
+-- ---- refused: one of the two tests fails, and nothing changes
+
+module _ (script t w m log : List ℕ) where
+  says-not : tableSized (length t) && leb 8 (partIn script log) ≡ false → Ran script t w m log t w m log false
+  says-not p =
+      record {
+        runs = sym p;
+        refused = λ e. (refl, refl, refl, refl);
+        answers = λ e. absurd (true≢false (sym e));
+        staysSound = λ e. absurd (true≢false (sym e));
+        sameLengths = (refl, refl, refl, refl);
+        happened = λ e. absurd (true≢false (sym e));
+      }
+
+  pub says-unsized : tableSized (length t) ≡ false → Ran script t w m log t w m log false
+  says-unsized e = says-not (ap (λ (b : Bool). b && leb 8 (partIn script log)) e)
+
+  pub says-short : (part : ℕ) → part ≡ partIn script log → part < 8 → tableSized (length t) ≡ true → Ran script t w m log t w m log false
+  says-short part e h z = says-not (ap₂ (λ (a b : Bool). a && b) z (ap (leb 8) (sym e) ∙ lt-leb 8 part h))
+
+-- ---- run
+
+module _ (script t w m log t′ w′ m′ log′ : List ℕ) (sized : tableSized (length t) ≡ true) where
+  -- demand 3 of the run's history
+  happens : (part : ℕ) (u : List ℕ) → part ≡ partIn script log → u ≡ formatted (length t)
+      → Run script (callsIn script) (lengthsIn u w m part) (held u w m log) t′ w′ m′ log′
+      → Happened script t w m log t′ w′ m′ log′
+  happens part u ep eu r =
+      let l : Lengths = lengthsIn t w m (partIn script log) in
+      let h : Held = held (formatted (length t)) w m log in
+      let run : Run script (callsIn script) l h t′ w′ m′ log′ =
+      subst (λ (k : Lengths). Run script (callsIn script) k h t′ w′ m′ log′)
+      (ap₂ (λ (bytes p : ℕ). record { table = bytes; output = p - 8; readMap = length m; scratch = length w }) (fresh-sized (length t) sized) ep)
+      (subst (λ (x : List ℕ). Run script (callsIn script) (lengthsIn x w m part) (held x w m log) t′ w′ m′ log′) eu r)
+      in
+      let past : History (formatted (length t)) (run .events) = history-of l h (run .events) (run .inTurn) in
+      record { run = run; history = past; agreed = demand3 (length t) sized (run .events) past }
+
+  pub says-run : (part : ℕ) (u : List ℕ) → part ≡ partIn script log → 8 ≤ part → u ≡ cond (tableSized (length t)) (formatted (length t)) t
+      → Run script (callsIn script) (lengthsIn u w m part) (held u w m log) t′ w′ m′ log′
+      → length t′ ≡ length t
+      → length w′ ≡ length w
+      → length m′ ≡ length m
+      → length log′ ≡ length log
+      → Ran script t w m log t′ w′ m′ log′ true
+  says-run part u ep p eu r nt nw nm nl =
+      let k : Happened script t w m log t′ w′ m′ log′ =
+      happens part u ep (eu ∙ ap (λ (b : Bool). cond b (formatted (length t)) t) sized) r
+      in
+      let l : Lengths = lengthsIn t w m (partIn script log) in
+      let h : Held = held (formatted (length t)) w m log in
+      record {
+        runs = sym (and-both (tableSized (length t)) (leb 8 (partIn script log)) sized (ap (leb 8) (sym ep) ∙ le-leb 8 part p));
+        refused = λ e. absurd (true≢false e);
+        answers =
+            λ e. k .run .log ∙ as-model l h [] (k .run .events) (k .run .inTurn) (k .agreed)
+            ∙ ap (λ (cs : List Call). logAfter l cs [] log) (k .run .calls);
+        staysSound = λ e. ap sound (k .run .table) ∙ ends-sound l h [] (k .run .events) (fresh-sound (length t) sized) (k .agreed);
+        sameLengths = (nt, nw, nm, nl);
+        happened = λ e. k;
+      }

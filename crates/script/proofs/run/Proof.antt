@@ -1,0 +1,63 @@
+-- `script::run` meets its contract: refused before anything is written, or all calls made on a formatted table.
+-- Assumes nothing.
+use mathlib.Core.Path.{sym, _∙_}
+use native.Mathlib.Omega.{arith}
+use borrow.Author.Needs.{needs}
+use borrow.Author.Tests.{not-true, not-false}
+use Rattle.script.proofs.Whole.{parts-fit, says-unsized, says-short, says-run}
+use Rattle.script.proofs.run.Statement.{statement}
+use Rattle.script.proofs.run.Tie as tie
+
+part-of-requires : tie.Need-part-of-requires
+part-of-requires c κs = search needs
+
+sized-requires : tie.Need-sized-requires
+sized-requires c κs = search needs
+
+returns : tie.Need-returns
+returns c = says-unsized _ _ _ _ _ (sym (c .before .sized .ensures) ∙ not-true _ (c .if1 .taken))
+
+returns-2 : tie.Need-returns-2
+returns-2 c =
+    says-short _ _ _ _ _ (c .before .before .before .part-of .result) (c .before .before .before .part-of .ensures) (c .if2 .taken) (sym (c .before .before .sized .ensures) ∙ not-false _ (c .before .if1 .left))
+
+format-requires : tie.Need-format-requires
+format-requires c κs = search needs
+
+make-calls-requires : tie.Need-make-calls-requires
+make-calls-requires c κs = (omega arith, omega (arith, c .before .before .before .before .before .before .before .before .if2 .left), parts-fit _ _ _ (c .before .before .before .before .before .before .before .before .before .before .before .part-of .ensures))
+
+same-length : tie.Need-same-length
+same-length c = search needs
+
+same-length-2 : tie.Need-same-length-2
+same-length-2 c = search needs
+
+same-length-3 : tie.Need-same-length-3
+same-length-3 c = search needs
+
+same-length-4 : tie.Need-same-length-4
+same-length-4 c = search needs
+
+returns-3 : tie.Need-returns-3
+returns-3 c =
+    let part = c .before .before .before .before .before .before .before .before .before .before .before .before .before .before .before .before .before .before .before .before .part-of in
+    let format = c .before .before .before .before .before .before .before .before .before .before .before .before .before .before .before .format in
+    let made = c .before .before .before .before .before .before .before .before .make-calls in
+    says-run _ _ _ _ _ _ _ _ _ (sym (c .before .before .before .before .before .before .before .before .before .before .before .before .before .before .before .before .before .before .before .sized .ensures) ∙ not-false _ (c .before .before .before .before .before .before .before .before .before .before .before .before .before .before .before .before .before .before .if1 .left)) (part .result) (format .last .0) (part .ensures) (omega (arith, c .before .before .before .before .before .before .before .before .before .before .before .before .before .before .before .before .before .if2 .left)) (format .ensures .written) (made .ensures) (made .kept .1 .1 .0 ∙ format .kept .0) (made .kept .1 .1 .1 .0) (made .kept .1 .1 .1 .1 .0) (made .kept .1 .1 .1 .1 .1 .0)
+
+pub run-spec : {M : Type 1} → statement M
+run-spec =
+    tie.close
+    (tie.spec
+    part-of-requires
+    sized-requires
+    returns
+    returns-2
+    format-requires
+    make-calls-requires
+    same-length
+    same-length-2
+    same-length-3
+    same-length-4
+    returns-3)

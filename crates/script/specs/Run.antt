@@ -1,0 +1,130 @@
+-- A run of a script over a table, call by call. t, w, m and log are the table, the scratch, the read map and the log as lent; t′, w′, m′ and log′ as left.
+-- Assumes nothing.
+use mathlib.Core.Path.{_≡_}
+use Prim.Native.Nat.{ℕ, _+_, _-_}
+use mathlib.Core.Bool.{Bool, true, false, _&&_}
+use mathlib.Core.List.{List, [], _∷_, _++_}
+use lib.ListN.{length, take, drop}
+use lib.Dec.{leb}
+use Rattle.block.specs.declared.Answer.{Answer}
+use Rattle.block.specs.Table.{tableSized}
+use Rattle.block.specs.Fresh.{formatted}
+use Rattle.tree.specs.Sound.{sound}
+use Rattle.table.specs.Calls.{Call, format, add, withdraw, report, top, count, check, rebuild, Lengths, argumentsFit}
+use Rattle.table.specs.Answers.{lengths}
+use Rattle.table.specs.Model.{fourBytes}
+use Rattle.table.specs.History.{Event, MetBy, History, AllAgreed, isQuery}
+use Rattle.script.specs.Script.{callsIn, callsOf, partOf, logAfter}
+
+-- the calls that are lent the scratch
+abbrev pub takesScratch : Call → Bool
+takesScratch format = false
+takesScratch (add place rank track) = true
+takesScratch (withdraw place rank) = true
+takesScratch (report x1 x2 y) = false
+takesScratch (top x1 x2 k) = false
+takesScratch count = false
+takesScratch check = false
+takesScratch rebuild = true
+
+-- an event of its call, what it was lent beside the table, its answer, and what it left
+abbrev pub eventOf : Call → List ℕ → List ℕ → List ℕ → Answer → List ℕ → List ℕ → List ℕ → List ℕ → Event
+eventOf c w m out r t′ w′ m′ out′ =
+    record { call = c; output = out; readMap = m; scratch = w; answer = r; output′ = out′; readMap′ = m′; scratch′ = w′; table′ = t′ }
+
+-- the call of an event met its post-condition on the table t, with arguments that fit, and what it isn't lent stayed as it was
+pub record Called (t : List ℕ) (e : Event) : Type 0 where
+  pub fit : argumentsFit (e .call) ≡ true
+  pub met : MetBy (e .call) t e
+  pub outputKept : isQuery (e .call) ≡ false → e .output′ ≡ e .output
+  pub mapKept : isQuery (e .call) ≡ false → e .readMap′ ≡ e .readMap
+  pub scratchKept : takesScratch (e .call) ≡ false → e .scratch′ ≡ e .scratch
+
+-- what an event writes into its part of the log
+abbrev pub entry : Event → List ℕ
+entry e = fourBytes (e .answer .number) ++ fourBytes (e .answer .detail) ++ e .output′
+
+-- one turn: the call c, and its part of the log as lent and as left
+pub record Turned (c : Call) (t w m part t′ w′ m′ part′ : List ℕ) : Type 0 where
+  pub answer : Answer
+  pub output′ : List ℕ
+  pub called : Called t (eventOf c w m (drop 8 part) answer t′ w′ m′ output′)
+  pub written : part′ ≡ entry (eventOf c w m (drop 8 part) answer t′ w′ m′ output′)
+
+-- what a run has between two calls: table, scratch and read map as the last call left them, and the rest of the log as it was lent
+pub record Held : Type 0 where
+  pub table : List ℕ
+  pub scratch : List ℕ
+  pub readMap : List ℕ
+  pub log : List ℕ
+
+-- of its four lists
+abbrev pub held : List ℕ → List ℕ → List ℕ → List ℕ → Held
+held t w m log = record { table = t; scratch = w; readMap = m; log = log }
+
+-- after an event, where the parts of the log have room for an output of so many bytes
+abbrev pub passed : ℕ → Held → Event → Held
+passed room h e = held (e .table′) (e .scratch′) (e .readMap′) (drop (8 + room) (h .log))
+
+-- after one event and then the next
+abbrev pub heldAfter : ℕ → Held → List Event → Held
+heldAfter room h [] = h
+heldAfter room h (e ∷ es) = heldAfter room (passed room h e) es
+
+-- an event of a run: it is lent what the run has, and the output of its part of the log
+pub record InTurn (l : Lengths) (h : Held) (e : Event) : Type 0 where
+  pub called : Called (h .table) e
+  pub scratch : e .scratch ≡ h .scratch
+  pub readMap : e .readMap ≡ h .readMap
+  pub output : e .output ≡ take (l .output) (drop 8 (h .log))
+  -- "the lengths of table, output, read map and work area"
+  pub lent : lengths (h .table) (e .output) (e .readMap) (e .scratch) ≡ l
+
+-- so is each, and gets what the last one left
+abbrev pub AllInTurn : Lengths → Held → List Event → Type 0
+AllInTurn l h [] = Unit {0}
+AllInTurn l h (e ∷ es) = InTurn l h e × AllInTurn l (passed (l .output) h e) es
+
+-- their calls
+abbrev pub callsMade : List Event → List Call
+callsMade [] = []
+callsMade (e ∷ es) = e .call ∷ callsMade es
+
+-- what the events of a run write
+abbrev pub entries : List Event → List ℕ
+entries [] = []
+entries (e ∷ es) = entry e ++ entries es
+
+-- the first n calls of the script were made, and led from h to what is left
+pub record Run (script : List ℕ) (n : ℕ) (l : Lengths) (h : Held) (t′ w′ m′ log′ : List ℕ) : Type 0 where
+  pub events : List Event
+  pub calls : callsMade events ≡ callsOf script n
+  pub inTurn : AllInTurn l h events
+  pub table : t′ ≡ heldAfter (l .output) h events .table
+  pub scratch : w′ ≡ heldAfter (l .output) h events .scratch
+  pub readMap : m′ ≡ heldAfter (l .output) h events .readMap
+  pub log : log′ ≡ entries events ++ heldAfter (l .output) h events .log
+
+-- the lengths that every call of a run is lent, where a part of the log has so many bytes
+abbrev pub lengthsIn : List ℕ → List ℕ → List ℕ → ℕ → Lengths
+lengthsIn t w m part = record { table = length t; output = part - 8; readMap = length m; scratch = length w }
+
+-- the part of each call in the log of a script
+abbrev pub partIn : List ℕ → List ℕ → ℕ
+partIn script log = partOf (length log) (callsIn script)
+
+-- the whole script, run on a formatted table, is a history; and of it all of demand 3 is said
+pub record Happened (script t w m log t′ w′ m′ log′ : List ℕ) : Type 0 where
+  pub run : Run script (callsIn script) (lengthsIn t w m (partIn script log)) (held (formatted (length t)) w m log) t′ w′ m′ log′
+  pub history : History (formatted (length t)) (run .events)
+  pub agreed : AllAgreed (formatted (length t)) [] (run .events)
+
+-- a script was run, from an empty table on, or refused. It is refused where the table has no size that Format accepts, and where a part of the log is too
+-- short for an answer.
+pub record Ran (script t w m log t′ w′ m′ log′ : List ℕ) (r : Bool) : Type 0 where
+  pub runs : r ≡ (tableSized (length t) && leb 8 (partIn script log))
+  pub refused : r ≡ false → (t′ ≡ t) × (w′ ≡ w) × (m′ ≡ m) × (log′ ≡ log)
+  pub answers : r ≡ true → log′ ≡ logAfter (lengthsIn t w m (partIn script log)) (callsOf script (callsIn script)) [] log
+  pub staysSound : r ≡ true → sound t′ ≡ true
+  pub sameLengths : (length t′ ≡ length t) × (length w′ ≡ length w) × (length m′ ≡ length m) × (length log′ ≡ length log)
+  pub happened : r ≡ true → Happened script t w m log t′ w′ m′ log′

@@ -1,0 +1,308 @@
+-- Marks at the spots of a run: set where the query wants the key, and struck where a change of it waits above.
+-- Assumes nothing.
+use mathlib.Core.Path.{_≡_, refl, sym, ap, ap₂, subst, _∙_}
+use mathlib.Core.Logic.{⊎-elim}
+use mathlib.Core.Bool.{Bool, true, false, cond, not, _&&_, _||_, and-true, and-assoc, or-false}
+use mathlib.Core.List.{List, [], _∷_, _++_, List·Memᴰ}
+use Prim.Native.Nat.{ℕ, zero, suc, _+_, _-_, _*_, _≤_, _<_}
+use native.Mathlib.Numerals.{add-one}
+use native.Mathlib.Nat.{mul-suc, mul-zero}
+use native.Mathlib.Omega.{arith}
+use lib.Dec.{eqb}
+use lib.ListN.{length, take, getD, set, replicate, length-append, length-set, length-replicate, getD-replicate, List·getD-eq-default}
+use lib.Seq.{take-suc, take-all, getD-set-same, getD-set-other, getD-take}
+use borrow.Author.Tests.{ne-eqb}
+use Rattle.octets.specs.Lists.{has, keep, records, rising}
+use Rattle.octets.proofs.Order.{same-or-not, less-or-not}
+use Rattle.octets.proofs.Records.{left, left-cons, length-records, records-at, records-append, records-more}
+use Rattle.octets.proofs.Rising.{rising-rest, rising-make, rising-least, rising-right}
+use Rattle.octets.proofs.Sets.{has-append, has-not}
+use Rattle.octets.proofs.Tests.{keep-append}
+use Rattle.spot.specs.Spots.{keyAt, spotAt}
+use Rattle.spot.specs.Query.{wantsKey}
+use Rattle.spot.specs.declared.Spot.{Spot}
+use Rattle.spot.specs.declared.Query.{Query}
+use Rattle.block.specs.Node.{storeOf}
+use Rattle.block.proofs.Shut.{all2}
+use Rattle.tree.specs.Walk.{takes, takesKey}
+use Rattle.visit.specs.declared.Path.{Path}
+use Rattle.visit.specs.Visit.{above, waiting, waitingBy, waitingAbove, keysFrom, belowIn, taken, chosen, marksIn, Wanted, Struck, Marks}
+use Rattle.visit.proofs.Counts.{spot-key}
+use Rattle.visit.proofs.Paths.{waiting-append, path-length}
+use Rattle.visit.proofs.Search.{run-down, run-at, run-rises}
+
+takes-is : (q : Query) (named : List ℕ) (k : ℕ) → takesKey q named k ≡ wantsKey q k && not (has k named)
+unfolding takesKey
+takes-is q named k = all2 (wantsKey q k) (not (has k named))
+
+-- ---- those wanted
+
+module _ (t : List ℕ) (at : ℕ) (q : Query) where
+  pub wanted-none : Wanted t at 0 q (replicate 64 false)
+  wanted-none =
+      record {
+        sized = length-replicate 64 false;
+        takes = λ i h. absurd (let z : ⊥ = omega arith in z);
+        rest = λ i h.
+            ⊎-elim (λ (l : 64 ≤ i). let g : length (replicate 64 false) ≤ i = omega (arith, length-replicate 64 false) in List·getD-eq-default (replicate 64 false) false g)
+            (λ (l : i < 64). getD-replicate 64 i false false l)
+            (less-or-not 64 i);
+      }
+
+  pub wanted-more : {m : List Bool} {b : Bool} {k : ℕ} (i : ℕ) → Wanted t at i q m → i < 64 → k ≡ keyAt t (at + 12 * i) → b ≡ wantsKey q k
+      → Wanted t at (i + 1) q (set m i b)
+  wanted-more {m} {b} {k} i v l e g =
+      record {
+        sized = length-set m i b ∙ v .sized;
+        takes = λ j h.
+            ⊎-elim (λ (s : j ≡ i). ap (λ (y : ℕ). getD (set m i b) y false) s ∙ getD-set-same m i b false (omega (arith, v .sized)) ∙ g
+            ∙ ap (wantsKey q) e ∙ sym (ap (λ (y : ℕ). wantsKey q (keyAt t (at + 12 * y))) s))
+            (λ (d : j ≡ i → ⊥). getD-set-other m i j b false d ∙ v .takes j (omega arith))
+            (same-or-not j i);
+        rest = λ j h. getD-set-other m i j b false (λ s. omega arith) ∙ v .rest j (omega arith);
+      }
+
+-- ---- those struck
+
+not-or : (a b : Bool) → not (a || b) ≡ not a && not b
+not-or true b = refl
+not-or false b = refl
+
+module _ {t : List ℕ} {at n : ℕ} where
+  pub struck-none : {ks : List ℕ} (m : List Bool) → ((i : ℕ) → i < n → has (keyAt t (at + 12 * i)) ks ≡ false) → Struck t at n ks m m
+  struck-none m h =
+      record {
+        sized = refl;
+        takes = λ i l. sym (ap (λ (b : Bool). getD m i false && not b) (h i l) ∙ and-true (getD m i false));
+        rest = λ i l. refl;
+      }
+
+  pub struck-same : {xs ys : List ℕ} {m m′ : List Bool} → ((i : ℕ) → i < n → has (keyAt t (at + 12 * i)) xs ≡ has (keyAt t (at + 12 * i)) ys)
+      → Struck t at n xs m m′ → Struck t at n ys m m′
+  struck-same {xs} {ys} {m} h s =
+      record {
+        sized = s .sized;
+        takes = λ i l. s .takes i l ∙ ap (λ (b : Bool). getD m i false && not b) (h i l);
+        rest = s .rest;
+      }
+
+  -- by some keys, and then by others
+  pub struck-then : {xs ys : List ℕ} {m m′ m″ : List Bool} → Struck t at n xs m m′ → Struck t at n ys m′ m″ → Struck t at n (xs ++ ys) m m″
+  struck-then {xs} {ys} {m} r s =
+      record {
+        sized = s .sized ∙ r .sized;
+        takes = λ i l.
+            let k : ℕ = keyAt t (at + 12 * i) in
+            s .takes i l ∙ ap (λ (b : Bool). b && not (has k ys)) (r .takes i l) ∙ and-assoc (getD m i false) (not (has k xs)) (not (has k ys))
+            ∙ ap (λ (b : Bool). getD m i false && b) (sym (ap not (has-append k xs ys) ∙ not-or (has k xs) (has k ys)));
+        rest = λ i l. s .rest i l ∙ r .rest i l;
+      }
+
+-- ---- one key
+
+module _ (t : List ℕ) (at n : ℕ) (p : rising (keysFrom t 12 n at) ≡ true) (k : ℕ) {i : ℕ} (e : i ≡ belowIn k (keysFrom t 12 n at)) where
+  -- it stands nowhere but at its place
+  not-here : (j : ℕ) → j < n → (j ≡ i → ⊥) → has (keyAt t (at + 12 * j)) (k ∷ []) ≡ false
+  not-here j h d =
+      or-false (eqb (keyAt t (at + 12 * j)) k)
+      ∙ ne-eqb (keyAt t (at + 12 * j)) k (λ g. d (sym (run-at t 12 n at p j h) ∙ ap (λ (y : ℕ). belowIn y (keysFrom t 12 n at)) g ∙ sym e))
+
+  pub struck-hit : {x : ℕ} (m : List Bool) → n ≤ length m → i < n → x ≡ keyAt t (at + 12 * i)
+      → Struck t at n (k ∷ []) m (set m i (getD m i false && not (eqb x k)))
+  struck-hit {x} m long h g =
+      let b : Bool = getD m i false && not (eqb x k) in
+      record {
+        sized = length-set m i b;
+        takes = λ j l.
+            ⊎-elim (λ (s : j ≡ i). ap (λ (y : ℕ). getD (set m i b) y false) s ∙ getD-set-same m i b false (omega arith)
+            ∙ ap (λ (y : ℕ). getD m i false && not (eqb y k)) g
+            ∙ ap (λ (y : Bool). getD m i false && not y) (sym (or-false (eqb (keyAt t (at + 12 * i)) k)))
+            ∙ sym (ap (λ (y : ℕ). getD m y false && not (has (keyAt t (at + 12 * y)) (k ∷ []))) s))
+            (λ (d : j ≡ i → ⊥). getD-set-other m i j b false d
+            ∙ sym (ap (λ (y : Bool). getD m j false && not y) (not-here j l d) ∙ and-true (getD m j false)))
+            (same-or-not j i);
+        rest = λ j l. getD-set-other m i j b false (λ s. omega arith);
+      }
+
+  pub struck-miss : (m : List Bool) → n ≤ i → Struck t at n (k ∷ []) m m
+  struck-miss m h = struck-none m (λ j l. not-here j l (λ s. omega arith))
+
+-- ---- the keys of a node, and those of all nodes above
+
+has-none : (f : ℕ → ℕ) (w n at k : ℕ) → ((i : ℕ) → i < n → k ≡ f (at + w * i) → ⊥) → has k (records f w n at) ≡ false
+has-none f w zero at k h = refl
+has-none f w (suc n) at k h =
+    ap₂ (λ (a b : Bool). a || b)
+    (ne-eqb k (f at) (λ e. h 0 (omega arith) (e ∙ ap f (let g : at ≡ at + w * 0 = omega (arith, mul-zero w) in g))))
+    (has-none f w n (at + w) k (λ i l e. h (suc i) (omega arith) (e ∙ ap f (let g : at + w + w * i ≡ at + w * suc i = omega (arith, mul-suc w i) in g))))
+
+first-least : (x : ℕ) (xs : List ℕ) {k : ℕ} → rising (x ∷ xs) ≡ true → List·Memᴰ k (x ∷ xs) → x ≤ k
+first-least x xs p i = rising-least x (x ∷ xs) (rising-make x x xs (omega arith) (rising-rest 0 x xs p)) i
+
+module _ (t : List ℕ) (at n a w c : ℕ) (some : 0 < n) (p : rising (keysFrom t 12 n at) ≡ true) (r : rising (keysFrom t w c a) ≡ true) where
+  first-key : (i : ℕ) → i < n → keyAt t at ≤ keyAt t (at + 12 * i)
+  first-key i h =
+      let e : at + 12 * 0 ≡ at = omega arith in
+      subst (λ (x : ℕ). keyAt t x ≤ keyAt t (at + 12 * i)) e (run-rises t 12 n at p 0 i (omega arith) h)
+
+  -- keys below the first spot strike none
+  pub strike-start : {lo j : ℕ} (m : List Bool) → lo ≡ keyAt t at → j ≡ belowIn lo (keysFrom t w c a) → j ≤ c → Struck t at n (keysFrom t w j a) m m
+  strike-start {lo} {j} m e g l = struck-none m (λ i h. has-none (keyAt t) w j a (keyAt t (at + 12 * i)) (apart i h))
+    where
+      apart : (i : ℕ) → i < n → (y : ℕ) → y < j → keyAt t (at + 12 * i) ≡ keyAt t (a + w * y) → ⊥
+      apart i h y z q =
+          ⊎-elim (λ (o : lo ≤ keyAt t (a + w * y)). omega (arith, run-down t w c a r lo y (omega arith) o))
+          (λ (o : keyAt t (a + w * y) < lo). omega (arith, first-key i h))
+          (less-or-not lo (keyAt t (a + w * y)))
+
+  pub strike-next : {k : ℕ} {m m′ m″ : List Bool} (j : ℕ) → k ≡ keyAt t (a + w * j) → Struck t at n (keysFrom t w j a) m m′ → Struck t at n (k ∷ []) m′ m″
+      → Struck t at n (keysFrom t w (j + 1) a) m m″
+  strike-next {k} {m} {m′} {m″} j e s v =
+      subst (λ (l : List ℕ). Struck t at n l m m″)
+      (ap (λ (x : ℕ). keysFrom t w j a ++ (x ∷ [])) e ∙ sym (records-more (keyAt t) w j a) ∙ ap (λ (x : ℕ). keysFrom t w x a) (sym (add-one j)))
+      (struck-then s v)
+
+  -- keys above the last spot strike none
+  pub strike-stop : {hi k : ℕ} {m m′ : List Bool} (j : ℕ) → j < c → hi ≡ keyAt t (at + 12 * (n - 1)) → k ≡ keyAt t (a + w * j) → hi < k
+      → Struck t at n (keysFrom t w j a) m m′ → Struck t at n (keysFrom t w c a) m m′
+  strike-stop {hi} {k} j h e g l s = struck-same same s
+    where
+      whole : keysFrom t w c a ≡ keysFrom t w j a ++ left (keyAt t) w c a j
+      whole =
+          let y : c ≡ j + (c - j) = omega arith in
+          ap (λ (x : ℕ). keysFrom t w x a) y ∙ records-append (keyAt t) w j (c - j) a
+
+      rest : left (keyAt t) w c a j ≡ keyAt t (a + w * j) ∷ left (keyAt t) w c a (j + 1)
+      rest = left-cons (keyAt t) w c a j h
+
+      above-last : (i : ℕ) → i < n → has (keyAt t (at + 12 * i)) (left (keyAt t) w c a j) ≡ false
+      above-last i z =
+          has-not (keyAt t (at + 12 * i)) (left (keyAt t) w c a j)
+          (λ o.
+          let up : rising (keyAt t (a + w * j) ∷ left (keyAt t) w c a (j + 1)) ≡ true = sym (ap rising rest) ∙ rising-right 0 (keysFrom t w j a) (left (keyAt t) w c a j) (sym (ap rising whole) ∙ r) in
+          let f : keyAt t (a + w * j) ≤ keyAt t (at + 12 * i) = first-least (keyAt t (a + w * j)) (left (keyAt t) w c a (j + 1)) up (subst (λ (y : List ℕ). List·Memᴰ (keyAt t (at + 12 * i)) y) rest o) in
+          omega (arith, run-rises t 12 n at p i (n - 1) (omega arith) (omega arith)))
+
+      same : (i : ℕ) → i < n → has (keyAt t (at + 12 * i)) (keysFrom t w j a) ≡ has (keyAt t (at + 12 * i)) (keysFrom t w c a)
+      same i z =
+          let x : ℕ = keyAt t (at + 12 * i) in
+          sym (
+          ap (has x) whole ∙ has-append x (keysFrom t w j a) (left (keyAt t) w c a j)
+          ∙ ap (λ (b : Bool). has x (keysFrom t w j a) || b) (above-last i z) ∙ or-false (has x (keysFrom t w j a)))
+
+  pub strike-end : {m m′ : List Bool} (j : ℕ) → j ≡ c → Struck t at n (keysFrom t w j a) m m′ → Struck t at n (keysFrom t w c a) m m′
+  strike-end {m} {m′} j e s = subst (λ (x : ℕ). Struck t at n (keysFrom t w x a) m m′) e s
+
+-- struck by what waits in the first i nodes above
+abbrev pub StruckBy : List ℕ → ℕ → ℕ → Path → ℕ → List Bool → List Bool → Type 0
+StruckBy t at n p i m m′ = Struck t at n (waitingBy (storeOf t) (take i (above p))) m m′
+
+module _ (t : List ℕ) (at n : ℕ) (q : Query) (p : Path) (long : length (p .blocks) ≡ 8) (few : p .n ≤ 7) where
+  pub path-start : (m : List Bool) → StruckBy t at n p 0 m m
+  path-start m = struck-none m (λ i h. refl)
+
+  pub path-more : {m m′ m″ : List Bool} (i : ℕ) → i < p .n → StruckBy t at n p i m m′ → Struck t at n (waiting (storeOf t (getD (p .blocks) i 0))) m′ m″ → StruckBy t at n p (i + 1) m m″
+  path-more {m} {m′} {m″} i h s v = struck-same same (struck-then s v)
+    where
+      b : ℕ
+      b = getD (p .blocks) i 0
+
+      one : take (i + 1) (above p) ≡ take i (above p) ++ (b ∷ [])
+      one =
+          ap (λ (j : ℕ). take j (above p)) (add-one i) ∙ take-suc (above p) i 0 (omega (arith, path-length p long few))
+          ∙ ap (λ (x : ℕ). take i (above p) ++ (x ∷ [])) (getD-take (p .n) (p .blocks) i 0 h)
+
+      same : (j : ℕ) → j < n
+          → has (keyAt t (at + 12 * j)) (waitingBy (storeOf t) (take i (above p)) ++ waiting (storeOf t b)) ≡ has (keyAt t (at + 12 * j)) (waitingBy (storeOf t) (take (i + 1) (above p)))
+      same j l =
+          let k : ℕ = keyAt t (at + 12 * j) in
+          let before : List ℕ = waitingBy (storeOf t) (take i (above p)) in
+          has-append k before (waiting (storeOf t b))
+          ∙ ap (λ (x : Bool). has k before || x) (sym (has-append k (waiting (storeOf t b)) [] ∙ or-false (has k (waiting (storeOf t b)))))
+          ∙ sym (ap (λ (xs : List ℕ). has k (waitingBy (storeOf t) xs)) one ∙ waiting-append (storeOf t) k (take i (above p)) (b ∷ []))
+
+  pub marks-all : {m m′ : List Bool} (i : ℕ) → p .n ≤ i → Wanted t at n q m → StruckBy t at n p i m m′ → Marks t at n q p m′
+  marks-all {m} {m′} i h v s =
+      let e : take i (above p) ≡ above p = take-all i (above p) (omega (arith, path-length p long few)) in
+      record {
+        sized = s .sized ∙ v .sized;
+        takes = λ j l.
+            let k : ℕ = keyAt t (at + 12 * j) in
+            s .takes j l ∙ ap₂ (λ (a : Bool) (xs : List ℕ). a && not (has k (waitingBy (storeOf t) xs))) (v .takes j l) e
+            ∙ sym (takes-is q (waitingAbove t p) k);
+        rest = λ j l. s .rest j l ∙ v .rest j l;
+      }
+
+pub marks-none : {t : List ℕ} {at n : ℕ} {q : Query} {m : List Bool} (p : Path) → n ≡ 0 → Wanted t at n q m → Marks t at n q p m
+marks-none p e v =
+    record {
+      sized = v .sized;
+      takes = λ i h. absurd (let z : ⊥ = omega arith in z);
+      rest = v .rest;
+    }
+
+-- ---- the spots with a mark
+
+module _ {A : Type 0} where
+  chosen-nil : (m : List Bool) → _≡_ {A = List A} (chosen m []) []
+  chosen-nil [] = refl
+  chosen-nil (b ∷ m) = refl
+
+  pub chosen-keep : (f : A → Bool) (m : List Bool) (xs : List A) (d : A) → ((i : ℕ) → i < length xs → getD m i false ≡ f (getD xs i d)) → keep f xs ≡ chosen m xs
+  chosen-keep f m [] d h = sym (chosen-nil m)
+  chosen-keep f [] (x ∷ xs) d h =
+      ap (λ (b : Bool). cond b (x ∷ keep f xs) (keep f xs)) (sym (h 0 (omega arith))) ∙ chosen-keep f [] xs d (λ i l. h (suc i) (omega arith))
+  chosen-keep f (b ∷ m) (x ∷ xs) d h =
+      ap₂ (λ (y : Bool) (l : List A). cond y (x ∷ l) l) (sym (h 0 (omega arith))) (chosen-keep f m xs d (λ i l. h (suc i) (omega arith)))
+
+  -- one element more
+  pub chosen-more : (m : List Bool) (xs : List A) (y : A) → chosen m (xs ++ (y ∷ [])) ≡ chosen m xs ++ cond (getD m (length xs) false) (y ∷ []) []
+  chosen-more [] xs y = refl
+  chosen-more (b ∷ m) [] y = ap (λ (l : List A). cond b (y ∷ l) l) (chosen-nil m)
+  chosen-more (true ∷ m) (x ∷ xs) y = ap (λ (l : List A). x ∷ l) (chosen-more m xs y)
+  chosen-more (false ∷ m) (x ∷ xs) y = chosen-more m xs y
+
+  pub chosen-most : (m : List Bool) (xs : List A) → length (chosen m xs) ≤ length xs
+  chosen-most [] xs = omega arith
+  chosen-most (b ∷ m) [] = omega arith
+  chosen-most (true ∷ m) (x ∷ xs) = omega (arith, chosen-most m xs)
+  chosen-most (false ∷ m) (x ∷ xs) = omega (arith, chosen-most m xs)
+
+  pub chosen-length : (m : List Bool) (xs : List A) → length (chosen m xs) ≡ marksIn (take (length xs) m)
+  chosen-length [] [] = refl
+  chosen-length [] (x ∷ xs) = refl
+  chosen-length (b ∷ m) [] = refl
+  chosen-length (true ∷ m) (x ∷ xs) = ap suc (chosen-length m xs)
+  chosen-length (false ∷ m) (x ∷ xs) = chosen-length m xs
+
+module _ {t : List ℕ} {at n : ℕ} {q : Query} {p : Path} {m : List Bool} (v : Marks t at n q p m) where
+  -- what a query takes of a run is what has a mark
+  pub marks-taken : taken t at n q p ≡ chosen m (records (spotAt t) 12 n at)
+  marks-taken =
+      chosen-keep (takes q (waitingAbove t p)) m (records (spotAt t) 12 n at) (spotAt t 0)
+      (λ i h.
+      let l : i < n = omega (arith, length-records (spotAt t) 12 n at) in
+      v .takes i l ∙ ap (takesKey q (waitingAbove t p)) (sym (ap (λ (s : Spot). s .key) (records-at (spotAt t) 12 n at i (spotAt t 0) l) ∙ spot-key t (at + 12 * i))))
+
+  pub marks-count : length (taken t at n q p) ≡ marksIn (take n m)
+  marks-count =
+      ap length marks-taken ∙ chosen-length m (records (spotAt t) 12 n at) ∙ ap (λ (k : ℕ). marksIn (take k m)) (length-records (spotAt t) 12 n at)
+
+-- ---- counting them
+
+module _ (m : List Bool) (i : ℕ) (h : i < length m) where
+  more : marksIn (take (i + 1) m) ≡ marksIn (take i m) + marksIn (getD m i false ∷ [])
+  more =
+      ap (λ (j : ℕ). marksIn (take j m)) (add-one i) ∙ ap marksIn (take-suc m i false h)
+      ∙ ap length (keep-append (λ b. b) (take i m) (getD m i false ∷ []))
+      ∙ length-append (keep (λ b. b) (take i m)) (keep (λ b. b) (getD m i false ∷ []))
+
+  pub count-mark : {sum : ℕ} → sum ≡ marksIn (take i m) → getD m i false ≡ true → sum + 1 ≡ marksIn (take (i + 1) m)
+  count-mark e g =
+      let z : marksIn (getD m i false ∷ []) ≡ 1 = ap (λ (b : Bool). marksIn (b ∷ [])) g in
+      omega (arith, more)
+
+  pub count-blank : {sum : ℕ} → sum ≡ marksIn (take i m) → getD m i false ≡ false → sum ≡ marksIn (take (i + 1) m)
+  count-blank e g =
+      let z : marksIn (getD m i false ∷ []) ≡ 0 = ap (λ (b : Bool). marksIn (b ∷ [])) g in
+      omega (arith, more)

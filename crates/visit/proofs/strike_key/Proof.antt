@@ -1,0 +1,53 @@
+-- `visit::strike_key` meets its contract: a key of a run that rises stands at one place.
+-- Assumes nothing.
+use borrow.Author.Needs.{needs}
+use denote.Ref.{now}
+use Rattle.visit.proofs.Marking.{struck-hit, struck-miss}
+use Rattle.visit.proofs.strike_key.Statement.{statement}
+use Rattle.visit.proofs.strike_key.Tie as tie
+
+below-requires : tie.Need-below-requires
+below-requires c κs = search needs
+
+slice-read-m : tie.Need-slice-read-m
+slice-read-m c = search needs
+
+mul-read-key : tie.Need-mul-read-key
+mul-read-key c = search needs
+
+add-read-key : tie.Need-add-read-key
+add-read-key c = search needs
+
+read-key-requires : tie.Need-read-key-requires
+read-key-requires c κs = search needs
+
+slice-write-m : tie.Need-slice-write-m
+slice-write-m c = search needs
+
+same-length : tie.Need-same-length
+same-length c = search needs
+
+returns : tie.Need-returns
+returns c =
+    let s = c .before .before .before .before .before .before .args in
+    let p = c .before .before .before .before .before .before .pre in
+    struck-hit (now (s .t)) (s .at) (s .n) (p .0 .4) (s .k) (c .before .before .before .below .ensures .0) (now (s .m)) (p .1) (c .before .before .if1 .taken) (c .read-key .ensures)
+
+returns-2 : tie.Need-returns-2
+returns-2 c =
+    let s = c .before .before .before .before .args in
+    struck-miss (now (s .t)) (s .at) (s .n) (c .before .before .before .before .pre .0 .4) (s .k) (c .before .below .ensures .0) (now (s .m)) (c .if1 .left)
+
+pub strike-key-spec : {M : Type 1} → statement M
+strike-key-spec =
+    tie.close
+    (tie.spec
+    below-requires
+    slice-read-m
+    mul-read-key
+    add-read-key
+    read-key-requires
+    slice-write-m
+    same-length
+    returns
+    returns-2)

@@ -1,0 +1,96 @@
+-- `visit::strike_node` meets its contract: the inserts and the deletes are runs of keys in the table.
+-- Assumes nothing.
+use borrow.Author.Needs.{needs}
+use native.Mathlib.Omega.{arith}
+use mathlib.Core.List.{List}
+use mathlib.Core.Path.{ap, subst, _∙_}
+use Prim.Native.Nat.{ℕ}
+use denote.Ref.{now}
+use Rattle.visit.proofs.Marking.{struck-then}
+use Rattle.visit.proofs.Runs.{Runs, runs-of, inserts-ready, deletes-ready, waiting-is}
+use Rattle.visit.specs.Visit.{Struck}
+use Rattle.block.proofs.Frames.{part-is}
+use Rattle.block.specs.Access.{frontOf}
+use Rattle.visit.proofs.strike_node.Statement.{statement}
+use Rattle.visit.proofs.strike_node.Tie as tie
+
+mul-from : tie.Need-mul-from
+mul-from c = search needs
+
+add-to : tie.Need-add-to
+add-to c = search needs
+
+sub-front-of : tie.Need-sub-front-of
+sub-front-of c = search needs
+
+part-front-of-start : tie.Need-part-front-of-start
+part-front-of-start c = search needs
+
+part-front-of-end : tie.Need-part-front-of-end
+part-front-of-end c = search needs
+
+front-of-requires : tie.Need-front-of-requires
+front-of-requires c κs = search needs
+
+-- the buffers of the node
+runs : (c : tie.After-front-of) → Runs (now (c .before .before .before .before .args .t)) (c .before .before .before .before .args .b) (c .front-of .result)
+runs c =
+    let s = c .before .before .before .before in
+    let a = s .args in
+    runs-of (now (a .t)) (a .b) (s .pre .2) (c .front-of .ensures .0 ∙ ap frontOf (part-is (now (a .t)) (a .b)))
+
+inserts-from-requires : tie.Need-inserts-from-requires
+inserts-from-requires c κs = omega (arith, runs c .used)
+
+add-ai : tie.Need-add-ai
+add-ai c = search needs
+
+deletes-from-requires : tie.Need-deletes-from-requires
+deletes-from-requires c κs = omega (arith, runs (c .before) .used)
+
+add-ad : tie.Need-add-ad
+add-ad c = search needs
+
+strike-requires : tie.Need-strike-requires
+strike-requires c κs =
+    let f = c .before .before .before in
+    let a = c .before .before .before .before .before .before .before .args in
+    let p = c .before .before .before .before .before .before .before .pre in
+    (p .0, p .1, inserts-ready (now (a .t)) (a .b) (f .front-of .result) (runs f) (p .2 .inside) (c .before .before .inserts-from .ensures), p .3)
+
+strike-requires-2 : tie.Need-strike-requires-2
+strike-requires-2 c κs =
+    let f = c .before .before .before .before .before .before .before in
+    let a = c .before .before .before .before .before .before .before .before .before .before .before .args in
+    let p = c .before .before .before .before .before .before .before .before .before .before .before .pre in
+    (p .0, p .1, deletes-ready (now (a .t)) (a .b) (f .front-of .result) (runs f) (p .2 .inside) (c .before .before .before .before .before .deletes-from .ensures), omega (arith, p .3, c .before .before .before .strike .ensures .sized))
+
+same-length : tie.Need-same-length
+same-length c = c .before .before .strike2 .ensures .sized ∙ c .before .before .before .before .before .before .strike .ensures .sized
+
+returns : tie.Need-returns
+returns c =
+    let f = c .before .before .before .before .before .before .before .before .before .before in
+    let a = c .before .before .before .before .before .before .before .before .before .before .before .before .before .before .args in
+    subst (λ (ks : List ℕ). Struck (now (a .t)) (a .at) (a .n) ks (now (a .m)) (c .before .before .strike2 .last .1 .1 .1 .0))
+    (waiting-is (now (a .t)) (a .b) (f .front-of .result) (runs f) (c .before .before .before .before .before .before .before .before .before .before .before .before .before .before .pre .2 .inside) (c .before .before .before .before .before .before .before .before .before .inserts-from .ensures) (c .before .before .before .before .before .before .before .before .deletes-from .ensures))
+    (struck-then (c .before .before .before .before .before .before .strike .ensures) (c .before .before .strike2 .ensures))
+
+pub strike-node-spec : {M : Type 1} → statement M
+strike-node-spec =
+    tie.close
+    (tie.spec
+    mul-from
+    add-to
+    sub-front-of
+    part-front-of-start
+    part-front-of-end
+    front-of-requires
+    inserts-from-requires
+    add-ai
+    deletes-from-requires
+    add-ad
+    strike-requires
+    strike-requires-2
+    same-length
+    returns)
