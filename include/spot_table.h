@@ -8,6 +8,8 @@
  *   4  add only: the table holds 16 spots for each block after block 0, and none of this identity
  *   5  more spots than output length div 12; detail is their number
  * After a refusal every lent byte is as it was, but for a work area after 3: its first table-length bytes are zero then, as after an accepted call.
+ *
+ * Nothing is allocated. Stack, as measured on tables of 4,096 blocks: 1.25 MB for spot_top, 0.5 MB for spot_add and spot_withdraw, 32 KB for the others.
  */
 #ifndef SPOT_TABLE_H
 #define SPOT_TABLE_H

@@ -31,7 +31,7 @@ use Rattle.tree.proofs.MapBits.{marks-make}
 use Rattle.tree.proofs.Marks.{map-bit, read-mem, zero-marked}
 use Rattle.tree.proofs.BestFirstSums.{sum}
 use Rattle.tree.proofs.BestFirstTop.{Done, broken-head}
-use Rattle.top.specs.Runs.{Ended, TopRun}
+use Rattle.top.specs.Runs.{Ended, Based, TopFront}
 use Rattle.top.specs.declared.TopTally.{TopTally}
 use Rattle.table.specs.Calls.{top}
 use Rattle.table.specs.Answers.{lengths, lengthNumber, outputLeft}
@@ -173,17 +173,19 @@ module _ (x1 x2 : ℤ) (k : ℕ) (t out map : List ℕ) where
 
     -- many, straight into the output
     pub top-wide : (r : Answer) (n : ℕ) (seen out′ map′ : List ℕ) {m : ℕ} {given : List Spot} {blocks : List ℕ} → Done t x1 x2 k given blocks → n ≡ length given
-        → Ended t x1 x2 k n out seen out′ m → n ≤ length out / 12 → r ≡ answer 0 n → map′ ≡ seen
+        → Based t x1 x2 k n out seen out′ m → n ≤ length out / 12 → r ≡ answer 0 n → map′ ≡ seen
         → TopPost x1 x2 k t out map r out′ map′
     top-wide r n seen out′ map′ d c v l a w =
-        let g = v .given in
-        let i : n ≡ length g = c ∙ d .many ∙ sym (v .done .many) in
-        top-given r n out′ map′ (v .done) (v .places) i l a
-        (v .output ∙ ap (λ (ss : List Spot). spotsBytes ss ++ drop (12 * length ss) out) (take-all n g (omega arith)))
-        (w ∙ v .map)
+        let u = v .ended in
+        let g = u .given in
+        let i : n ≡ length g = c ∙ d .many ∙ sym (u .done .many) in
+        top-given r n out′ map′ (u .done) (u .places) i l a
+        (u .output ∙ ap (λ (ss : List Spot). spotsBytes ss ++ drop (12 * length ss) (v .base)) (take-all n g (omega arith))
+        ∙ ap (λ (bs : List ℕ). spotsBytes g ++ bs) (subst (λ (j : ℕ). drop (12 * j) (v .base) ≡ drop (12 * j) out) i (v .behind)))
+        (w ∙ u .map)
 
     -- the second run ends as the first did
-    pub still-whole : {given : List Spot} {blocks : List ℕ} → Done t x1 x2 k given blocks → {q : Query} {n : ℕ} {seen out′ : List ℕ} {z : TopTally} → q ≡ topQuery x1 x2 0 → TopRun t q k n out seen out′ z → z .ok ≡ true
+    pub still-whole : {given : List Spot} {blocks : List ℕ} → Done t x1 x2 k given blocks → {q : Query} {n : ℕ} {seen out′ : List ℕ} {z : TopTally} → q ≡ topQuery x1 x2 0 → TopFront t q k n out seen out′ z → z .ok ≡ true
     still-whole d {z = z} a v = go (z .ok) refl
       where
         go : (b : Bool) → z .ok ≡ b → z .ok ≡ true

@@ -154,7 +154,8 @@ pub fn top(
         };
     }
     let mut again = [0u8; 512];
-    top::wide_run(table, &mut again, q, k as usize, output, n);
+    // Also by `top_run`: the wide search has one way in, so that there is one large frame.
+    top::top_run(table, &mut again, q, k as usize, output, n);
     octets::copy(&again, read_map, 512);
     block::Answer {
         number: 0,

@@ -4,9 +4,9 @@ use mathlib.Core.Path.{_≡_, ap, ap₂, sym, _∙_}
 use mathlib.Core.Logic.{⊎-elim}
 use mathlib.Core.Bool.{Bool, cond}
 use mathlib.Core.List.{List, [], _∷_, _++_, append-nil}
-use Prim.Native.Nat.{ℕ, _+_, _*_, _≤_, _<_}
+use Prim.Native.Nat.{ℕ, _+_, _-_, _*_, _≤_, _<_}
 use native.Mathlib.Omega.{arith}
-use lib.ListN.{length, drop, length-append, length-drop}
+use lib.ListN.{length, take, drop, length-append, length-drop, length-take}
 use lib.Seq.{take-all, take-append-le, take-at, drop-drop, drop-append-add}
 use lib.Dec.{ltb}
 use borrow.Author.Tests.{lt-ltb, le-ltb}
@@ -54,3 +54,15 @@ module _ (room : ℕ) (given : List Spot) (s : Spot) (base : List ℕ) (j : ℕ)
 -- at first nothing is written
 pub written-none : (room : ℕ) (base : List ℕ) → base ≡ written room [] base
 written-none room base = sym (ap (λ (ss : List Spot). spotsBytes ss ++ drop (12 * length ss) base) (take-all room [] (omega arith)))
+
+-- nothing is written behind the room
+pub written-behind : (room : ℕ) (given : List Spot) (base : List ℕ) → drop (12 * room) (written room given base) ≡ drop (12 * room) base
+written-behind room given base =
+    let m = length (take room given) in
+    let l : m ≤ room = omega (arith, length-take room given) in
+    let e : 12 * room ≡ 12 * m + (12 * room - 12 * m) = omega arith in
+    let n : length (spotsBytes (take room given)) ≡ 12 * m = length-spotsBytes (take room given) in
+    ap (λ (i : ℕ). drop i (written room given base)) (e ∙ ap (λ (i : ℕ). i + (12 * room - 12 * m)) (sym n))
+    ∙ drop-append-add (spotsBytes (take room given)) (drop (12 * m) base) (12 * room - 12 * m)
+    ∙ drop-drop (12 * room - 12 * m) (12 * m) base
+    ∙ ap (λ (i : ℕ). drop i base) (sym e)

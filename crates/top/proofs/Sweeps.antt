@@ -44,7 +44,7 @@ use Rattle.top.specs.Reading.{pendOf, unreadOf, foundOf, shownOf, Standi
 use Rattle.top.specs.Runs.{cellAt, Readable, Added, Rooted, Follows, Sofar, Gave, Seen, Swept, Ended, Searched, TopRun, TopFront}
 use Rattle.top.proofs.Ups.{shown-is}
 use Rattle.top.proofs.Steps.{Poised, root-poised, child-awaits, child-poised, node-breaks, twice-breaks, node-read, ends-full, ends-empty, slots-few}
-use Rattle.top.proofs.Outs.{written-none}
+use Rattle.top.proofs.Outs.{written-none, written-behind}
 use Rattle.top.proofs.Slots.{follows-pend, follows-inside, follows-above, follows-deep}
 
 -- ---- lengths that stay
@@ -137,6 +137,14 @@ module _ (t : List ℕ) (x1 x2 : ℤ) (k room : ℕ) (rows paths orders heads : 
 
 -- ---- spots given
 
+sofar-behind : {t : List ℕ} {x1 x2 : ℤ} {k room : ℕ} {rows paths heads : List (List ℕ)} {cell : ℕ → ℕ} {n : ℕ} {base out blocks : List ℕ} {count : ℕ}
+    → Sofar t x1 x2 k room rows paths heads cell n base out blocks count → drop (12 * room) out ≡ drop (12 * room) base
+sofar-behind {room = room} {base = base} o = ap (drop (12 * room)) (o .output) ∙ written-behind room (o .given) base
+
+pub swept-behind : {t : List ℕ} {x1 x2 : ℤ} {k room : ℕ} {base seen out : List ℕ} {rows paths heads : List (List ℕ)} {kids : List ℕ} {n count : ℕ}
+    → Swept t x1 x2 k room base seen out rows paths heads kids n count → drop (12 * room) out ≡ drop (12 * room) base
+swept-behind s = sofar-behind (s .sofar)
+
 module _ (t : List ℕ) (q : Query) (k room : ℕ) (base seen out : List ℕ) (rows paths orders heads : List (List ℕ)) (ranks kids : List ℕ) (n count c floor : ℕ) (high : Highest kids (8 * n) c) (is : floor ≡ getD kids c 0)
     (out' : List ℕ) (orders' heads' : List (List ℕ)) (ranks' : List ℕ) (r : ℕ) (v : Gave t q k room rows paths orders orders' heads heads' ranks ranks' n floor out out' count r) where
   low : (i : ℕ) → i < 8 * n → cellAt kids i ≤ floor
@@ -145,6 +153,9 @@ module _ (t : List ℕ) (q : Query) (k room : ℕ) (base seen out : List ℕ) (r
   module _ (x1 x2 : ℤ) (asks : q ≡ topQuery x1 x2 0) (s : Swept t x1 x2 k room base seen out rows paths heads kids n count) where
     pub gave-sofar : Sofar t x1 x2 k room rows paths heads' (cellAt kids) n base out' (s .blocks) r
     gave-sofar = v .passes x1 x2 (cellAt kids) base (s .blocks) asks low (s .sofar)
+
+    pub gave-behind : drop (12 * room) out' ≡ drop (12 * room) base
+    gave-behind = sofar-behind gave-sofar
 
     -- the end
     pub all-given : leb k r || eqb floor 0 ≡ true → {seen' : List ℕ} → seen' ≡ setBit seen 0 → Ended t x1 x2 k room base seen' out' r
@@ -290,15 +301,16 @@ root-broken {t} x1 x2 {k} {q} {seen} {rows} {paths} {orders} {heads} {ranks} {ki
 
 -- a search that gives nothing: a rule is broken, or the slots are few
 module _ {t : List ℕ} {q : Query} {k room cap : ℕ} {out seen' out' : List ℕ} {r : Search} where
-  pub searched-broken : r ≡ record { ok = false; short = false; spots = 0 } → ((x1 x2 : ℤ) → q ≡ topQuery x1 x2 0 → topWalk t x1 x2 k ≡ broken) → Searched t q k room cap out seen' out' r
-  searched-broken e h =
+  pub searched-broken : r ≡ record { ok = false; short = false; spots = 0 } → drop (12 * room) out' ≡ drop (12 * room) out → ((x1 x2 : ℤ) → q ≡ topQuery x1 x2 0 → topWalk t x1 x2 k ≡ broken)
+      → Searched t q k room cap out seen' out' r
+  searched-broken e d h =
       subst (Searched t q k room cap out seen' out') (sym e)
-      (record { short = λ z. absurd (false≢true z); fails = λ x1 x2 a y z. h x1 x2 a; ends = λ x1 x2 a z. absurd (false≢true z) })
+      (record { short = λ z. absurd (false≢true z); fails = λ x1 x2 a y z. h x1 x2 a; ends = λ x1 x2 a z. absurd (false≢true z); behind = d })
 
-  pub searched-short : r ≡ record { ok = false; short = true; spots = 0 } → cap ≤ 4095 → Searched t q k room cap out seen' out' r
-  searched-short e l =
+  pub searched-short : r ≡ record { ok = false; short = true; spots = 0 } → drop (12 * room) out' ≡ drop (12 * room) out → cap ≤ 4095 → Searched t q k room cap out seen' out' r
+  searched-short e d l =
       subst (Searched t q k room cap out seen' out') (sym e)
-      (record { short = λ z. l; fails = λ x1 x2 a y z. absurd (true≢false y); ends = λ x1 x2 a z. absurd (false≢true z) })
+      (record { short = λ z. l; fails = λ x1 x2 a y z. absurd (true≢false y); ends = λ x1 x2 a z. absurd (false≢true z); behind = d })
 
 -- with the same number of slots
 pub searched-as : {t : List ℕ} {q : Query} {k room cap cap' : ℕ} {out seen' out' : List ℕ} {r : Search} → cap ≡ cap' → Searched t q k room cap out seen' out' r → Searched t q k room cap' out seen' out' r
@@ -320,10 +332,11 @@ run-wide {t} {q} {k} {room} {r = r} s =
 
 pub run-some : {t : List ℕ} {q : Query} {k room cap : ℕ} {out seen' out' : List ℕ} {r : Search} → r .short ≡ false → Searched t q k room cap out seen' out' r
     → TopFront t q k room out seen' out' (record { ok = r .ok; spots = r .spots })
-run-some {out = out} e s = record { fails = λ x1 x2 a f. s .fails x1 x2 a e f; ends = λ x1 x2 a g. (out, refl, s .ends x1 x2 a g) }
+run-some {out = out} e s = record { fails = λ x1 x2 a f. s .fails x1 x2 a e f; ends = λ x1 x2 a g. record { base = out; long = refl; behind = refl; ended = s .ends x1 x2 a g } }
 
-pub run-again : {t : List ℕ} {q : Query} {k room : ℕ} {out via seen' out' : List ℕ} {r : TopTally} → length via ≡ length out → TopRun t q k room via seen' out' r → TopFront t q k room out seen' out' r
-run-again {via = via} e s = record { fails = s .fails; ends = λ x1 x2 a g. (via, e, s .ends x1 x2 a g) }
+pub run-again : {t : List ℕ} {q : Query} {k room : ℕ} {out via seen' out' : List ℕ} {r : TopTally} → length via ≡ length out → drop (12 * room) via ≡ drop (12 * room) out → TopRun t q k room via seen' out' r
+    → TopFront t q k room out seen' out' r
+run-again {via = via} e d s = record { fails = s .fails; ends = λ x1 x2 a g. record { base = via; long = e; behind = d; ended = s .ends x1 x2 a g } }
 
 pub zeroed : (seen : List ℕ) {after : List ℕ} → length seen ≡ 512 → after ≡ replicate 512 0 ++ drop 512 seen → after ≡ replicate 512 0
 zeroed seen l e = e ∙ over-all (replicate 512 0) seen 512 (omega arith)

@@ -217,6 +217,7 @@ pub record Searched (t : List ℕ) (q : Query) (k room cap : ℕ) (out seen' out
   pub short : r .short ≡ true → cap ≤ 4095
   pub fails : (x1 x2 : ℤ) → q ≡ topQuery x1 x2 0 → r .short ≡ false → r .ok ≡ false → topWalk t x1 x2 k ≡ broken
   pub ends : (x1 x2 : ℤ) → q ≡ topQuery x1 x2 0 → r .ok ≡ true → Ended t x1 x2 k room out seen' out' (r .spots)
+  pub behind : drop (12 * room) out' ≡ drop (12 * room) out
 
 pub record Runnable (t : List ℕ) (q : Query) (seen out : List ℕ) (k room : ℕ) : Type 0 where
   pub x1 : ℤ
@@ -232,7 +233,14 @@ pub record TopRun (t : List ℕ) (q : Query) (k room : ℕ) (out seen' out' : Li
   pub fails : (x1 x2 : ℤ) → q ≡ topQuery x1 x2 0 → r .ok ≡ false → topWalk t x1 x2 k ≡ broken
   pub ends : (x1 x2 : ℤ) → q ≡ topQuery x1 x2 0 → r .ok ≡ true → Ended t x1 x2 k room out seen' out' (r .spots)
 
--- the same, with any bytes behind the spots written
+-- Top is at its end, with any bytes between the spots written and the end of the room; behind it nothing has changed
+pub record Based (t : List ℕ) (x1 x2 : ℤ) (k room : ℕ) (out seen' out' : List ℕ) (spots : ℕ) : Type 0 where
+  pub base : List ℕ
+  pub long : length base ≡ length out
+  pub behind : drop (12 * room) base ≡ drop (12 * room) out
+  pub ended : Ended t x1 x2 k room base seen' out' spots
+
+-- the same as a TopRun but for those bytes
 pub record TopFront (t : List ℕ) (q : Query) (k room : ℕ) (out seen' out' : List ℕ) (r : TopTally) : Type 0 where
   pub fails : (x1 x2 : ℤ) → q ≡ topQuery x1 x2 0 → r .ok ≡ false → topWalk t x1 x2 k ≡ broken
-  pub ends : (x1 x2 : ℤ) → q ≡ topQuery x1 x2 0 → r .ok ≡ true → (base : List ℕ) × (length base ≡ length out) × Ended t x1 x2 k room base seen' out' (r .spots)
+  pub ends : (x1 x2 : ℤ) → q ≡ topQuery x1 x2 0 → r .ok ≡ true → Based t x1 x2 k room out seen' out' (r .spots)

@@ -342,7 +342,8 @@ fn look(
 }
 
 // Top of a table, with a slot for every block that a table may have.
-pub fn wide_run(
+// Its frame takes 1.2 MB, so it has one caller: inlined at two, it would lie on the stack twice.
+fn wide_run(
     t: &[u8],
     seen: &mut [u8],
     q: spot::Query,
