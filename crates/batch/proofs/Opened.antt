@@ -5,7 +5,7 @@ use mathlib.Core.Path.{_≡_, refl, sym, ap, subst, _∙_}
 use mathlib.Core.Logic.{_⊎_, inl, inr, ⊎-elim}
 use mathlib.Core.Bool.{true}
 use mathlib.Core.List.{List, [], _∷_, _++_, List·Memᴰ, List·Memᴰ·not-nil}
-use mathlib.Core.Option.{Option, none}
+use mathlib.Core.Option.{Option, none, Option·some-ne-none}
 use Prim.Native.Nat.{ℕ, zero, suc, _≤_, _<_}
 use native.Mathlib.Omega.{arith}
 use lib.ListN.{length, take, drop, length-take}
@@ -19,7 +19,6 @@ use Rattle.octets.proofs.Sets.{distinct-split, distinct-left}
 use Rattle.spot.specs.declared.Spot.{Spot}
 use Rattle.spot.specs.Keys.{rankKey, allKeys, within}
 use Rattle.spot.specs.Spots.{keys}
-use Rattle.spot.proofs.Canon.{some≢none}
 use Rattle.spot.proofs.Places.{within-from, within-to}
 use Rattle.spot.proofs.Buffers.{find-mem}
 use Rattle.block.specs.declared.Entry.{Entry}
@@ -114,7 +113,7 @@ open-leaf l m p h s e =
         above = λ k i. omega arith;
         underI = λ k i. absurd (noI k i);
         underD = λ k i. absurd (noD k i);
-        deep = λ k a i. absurd (some≢none (sym i ∙ ap (λ (es : List Entry). under l m (p .lo) (p .hi) es k) (b .0)));
+        deep = λ k a i. absurd (Option·some-ne-none _ (sym i ∙ ap (λ (es : List Entry). under l m (p .lo) (p .hi) es k) (b .0)));
       };
       found = λ k w. sym (lookup-step l m k p);
     }

@@ -14,7 +14,7 @@ use Rattle.octets.proofs.Order.{less-or-not, same-or-not}
 use Rattle.octets.proofs.Records.{left, left-all, left-cons, left-none}
 use Rattle.spot.specs.declared.Spot.{Spot}
 use Rattle.spot.specs.Keys.{rankKey, within, allKeys}
-use Rattle.spot.specs.Spots.{keys, keyAt, spotAt}
+use Rattle.spot.specs.Spots.{keys, keyAt, spotAt, spotsFrom}
 use Rattle.spot.proofs.Buffers.{spots-within}
 use Rattle.rebuild.specs.Build.{band}
 use Rattle.rebuild.proofs.Bands.{band-rises}
@@ -22,7 +22,7 @@ use Rattle.rebuild.proofs.Choose.{band-none, band-step, ends-apart}
 use Rattle.buffer.specs.declared.SpotBuffer.{SpotBuffer}
 use Rattle.buffer.specs.Buffer.{held, Ordered}
 use Rattle.octets.proofs.Lists.{take-push}
-use Rattle.build.specs.Building.{spotsOf, limitOf, Segment, Cut}
+use Rattle.build.specs.Building.{limitOf, Segment, Cut}
 use Rattle.build.specs.declared.Limit.{Limit}
 
 -- the test of a rank key against a cut and a limit
@@ -45,7 +45,7 @@ module _ (list : List ℕ) (from n c t : ℕ) where
   abbrev pub after : ℕ → List Spot
   after i = band c t (left (spotAt list) 12 n (12 * from) i)
 
-  pub after-all : band c t (spotsOf list from n) ≡ after 0
+  pub after-all : band c t (spotsFrom list from n) ≡ after 0
   after-all = ap (band c t) (left-all (spotAt list) 12 n (12 * from))
 
   pub after-none : (i : ℕ) → n ≤ i → after i ≡ []
@@ -71,7 +71,7 @@ module _ (list : List ℕ) (from n c t : ℕ) where
   pub record Counted (sum i : ℕ) : Type 0 where
     pub inside : i ≤ n
     pub small : sum ≤ i
-    pub whole : sum + length (after i) ≡ length (band c t (spotsOf list from n))
+    pub whole : sum + length (after i) ≡ length (band c t (spotsFrom list from n))
 
   pub counted-none : Counted 0 0
   counted-none = record { inside = omega arith; small = omega arith; whole = let e = ap (λ (l : List Spot). length l) after-all in omega arith }
@@ -94,7 +94,7 @@ module _ (list : List ℕ) (from n c t : ℕ) where
         let g : length (after i) ≡ length (after (i + 1)) = ap (λ (l : List Spot). length l) (after-out i l (told ∙ y)) in
         record { inside = omega arith; small = omega arith; whole = omega arith }
 
-  pub counted-all : {sum i : ℕ} → Counted sum i → n ≤ i → (sum ≡ length (band c t (spotsOf list from n))) × (sum ≤ n)
+  pub counted-all : {sum i : ℕ} → Counted sum i → n ≤ i → (sum ≡ length (band c t (spotsFrom list from n))) × (sum ≤ n)
   counted-all {sum} {i} r h =
       let a = r .inside in
       let m = r .small in
@@ -108,13 +108,13 @@ module _ (list : List ℕ) (from n c t : ℕ) where
     pub inside : i ≤ n
     pub long : length (out .spots) ≡ 80
     pub counted : out .n ≡ length (held out)
-    pub whole : held out ++ after i ≡ band c t (spotsOf list from n)
+    pub whole : held out ++ after i ≡ band c t (spotsFrom list from n)
 
   pub taken-none : {out : SpotBuffer} → length (out .spots) ≡ 80 → out .n ≡ 0 → held out ≡ [] → Taken out 0
   taken-none h e g =
       record { inside = omega arith; long = h; counted = e ∙ sym (ap (λ (l : List Spot). length l) g); whole = ap (λ (l : List Spot). l ++ after 0) g ∙ sym after-all }
 
-  pub taken-count : {out : SpotBuffer} {i : ℕ} → Taken out i → out .n + length (after i) ≡ length (band c t (spotsOf list from n))
+  pub taken-count : {out : SpotBuffer} {i : ℕ} → Taken out i → out .n + length (after i) ≡ length (band c t (spotsFrom list from n))
   taken-count {out} {i} r =
       ap (λ (k : ℕ). k + length (after i)) (r .counted) ∙ sym (length-append (held out) (after i)) ∙ ap (λ (l : List Spot). length l) (r .whole)
 
@@ -126,10 +126,10 @@ module _ (list : List ℕ) (from n c t : ℕ) where
     first-in : b ≡ true → after i ≡ s ∷ after (i + 1)
     first-in y = after-in i l (seen ∙ y) ∙ ap (λ (x : Spot). x ∷ after (i + 1)) (sym read)
 
-    pub taken-room : b ≡ true → length (band c t (spotsOf list from n)) ≤ 64 → out .n < 64
+    pub taken-room : b ≡ true → length (band c t (spotsFrom list from n)) ≤ 64 → out .n < 64
     taken-room y few = let k = taken-count r in let g = ap (λ (x : List Spot). length x) (first-in y) in omega arith
 
-    pub taken-in : b ≡ true → length (band c t (spotsOf list from n)) ≤ 64 → {new : SpotBuffer} → new ≡ record { n = out .n + 1; spots = set (out .spots) (out .n) s } → Taken new (i + 1)
+    pub taken-in : b ≡ true → length (band c t (spotsFrom list from n)) ≤ 64 → {new : SpotBuffer} → new ≡ record { n = out .n + 1; spots = set (out .spots) (out .n) s } → Taken new (i + 1)
     taken-in y few {new} q =
         subst (λ (x : SpotBuffer). Taken x (i + 1)) (sym q)
         (record {
@@ -149,18 +149,18 @@ module _ (list : List ℕ) (from n c t : ℕ) where
         subst (λ (x : SpotBuffer). Taken x (i + 1)) (sym q)
         (record { inside = omega arith; long = r .long; counted = r .counted; whole = ap (λ (x : List Spot). held out ++ x) (sym (after-out i l (seen ∙ y))) ∙ r .whole })
 
-  pub taken-all : {out : SpotBuffer} {i : ℕ} → rising (keys (spotsOf list from n)) ≡ true → length (band c t (spotsOf list from n)) ≤ 64 → Taken out i → n ≤ i
-      → Ordered out × (held out ≡ band c t (spotsOf list from n)) × (out .n ≤ 64)
+  pub taken-all : {out : SpotBuffer} {i : ℕ} → rising (keys (spotsFrom list from n)) ≡ true → length (band c t (spotsFrom list from n)) ≤ 64 → Taken out i → n ≤ i
+      → Ordered out × (held out ≡ band c t (spotsFrom list from n)) × (out .n ≤ 64)
   taken-all {out} {i} up few r h =
-      let same : held out ≡ band c t (spotsOf list from n) = sym (append-nil (held out)) ∙ ap (λ (x : List Spot). held out ++ x) (sym (after-none i h)) ∙ r .whole in
+      let same : held out ≡ band c t (spotsFrom list from n) = sym (append-nil (held out)) ∙ ap (λ (x : List Spot). held out ++ x) (sym (after-none i h)) ∙ r .whole in
       let k = taken-count r in
-      (record { fits = omega arith; up = ap (λ (x : List Spot). rising (keys x)) same ∙ band-rises c t 0 (spotsOf list from n) up }, same, omega arith)
+      (record { fits = omega arith; up = ap (λ (x : List Spot). rising (keys x)) same ∙ band-rises c t 0 (spotsFrom list from n) up }, same, omega arith)
 
 -- ---- a cut between two
 
 module _ (list : List ℕ) (from n : ℕ) (limit : Limit) where
   abbrev taken : ℕ → ℕ
-  taken c = length (band c (limitOf limit) (spotsOf list from n))
+  taken c = length (band c (limitOf limit) (spotsFrom list from n))
 
   -- the lower cut takes too many, the upper one too few
   pub record Between (lo hi : ℕ) : Type 0 where
@@ -171,7 +171,7 @@ module _ (list : List ℕ) (from n : ℕ) (limit : Limit) where
     pub near : hi ≤ limit .last
 
 module _ (list : List ℕ) (from n : ℕ) (limit : Limit) (seg : Segment list from n) where
-  keyed : every (within 0 allKeys) (keys (spotsOf list from n)) ≡ true
+  keyed : every (within 0 allKeys) (keys (spotsFrom list from n)) ≡ true
   keyed = spots-within list 12 n (12 * from)
 
   pub cut-all : {c r : ℕ} → c ≡ 0 → r ≡ taken list from n limit c → r ≤ 64 → Cut list from n limit c
@@ -182,7 +182,7 @@ module _ (list : List ℕ) (from n : ℕ) (limit : Limit) (seg : Segment list fr
   cut-some {c} {r} e h g = record { most = omega arith; least = inl (omega arith); under = ⊎-elim (λ (a : limitOf limit ≤ c). past a) (λ (a : c < limitOf limit). omega arith) (less-or-not (limitOf limit) c) }
     where
       past : limitOf limit ≤ c → c ≤ limitOf limit
-      past a = let z = ap length (band-none c (limitOf limit) a (spotsOf list from n)) in let q : ⊥ = omega arith in absurd q
+      past a = let z = ap length (band-none c (limitOf limit) a (spotsFrom list from n)) in let q : ⊥ = omega arith in absurd q
 
   pub between-first : {r : ℕ} → r ≡ taken list from n limit 0 → 64 < r → Between list from n limit 0 (limit .last)
   between-first {r} e h = go (limit .some) refl
@@ -190,14 +190,14 @@ module _ (list : List ℕ) (from n : ℕ) (limit : Limit) (seg : Segment list fr
       go : (b : Bool) → limit .some ≡ b → Between list from n limit 0 (limit .last)
       go false f =
           let z : limitOf limit ≡ 0 = ap (λ (b : Bool). cond b (suc (limit .last)) 0) f in
-          let g = ap (λ (t : ℕ). length (band 0 t (spotsOf list from n))) z ∙ ap length (band-none 0 0 (omega arith) (spotsOf list from n)) in
+          let g = ap (λ (t : ℕ). length (band 0 t (spotsFrom list from n))) z ∙ ap length (band-none 0 0 (omega arith) (spotsFrom list from n)) in
           let q : ⊥ = omega arith in
           absurd q
       go true f =
           let t = limitOf limit in
           let z : t ≡ suc (limit .last) = ap (λ (b : Bool). cond b (suc (limit .last)) 0) f in
-          let s = band-step (limit .last) t 0 (spotsOf list from n) keyed (seg .rises) in
-          let g = ap (λ (x : ℕ). length (band (suc (limit .last)) x (spotsOf list from n))) z ∙ ap length (band-none (suc (limit .last)) (suc (limit .last)) (omega arith) (spotsOf list from n)) in
+          let s = band-step (limit .last) t 0 (spotsFrom list from n) keyed (seg .rises) in
+          let g = ap (λ (x : ℕ). length (band (suc (limit .last)) x (spotsFrom list from n))) z ∙ ap length (band-none (suc (limit .last)) (suc (limit .last)) (omega arith) (spotsFrom list from n)) in
           let few : taken list from n limit (limit .last) ≤ 1 = omega arith in
           record { over = omega arith; short = omega arith; order = positive few; under = omega arith; near = omega arith }
         where
@@ -206,7 +206,7 @@ module _ (list : List ℕ) (from n : ℕ) (limit : Limit) (seg : Segment list fr
 
   module _ {lo hi : ℕ} (b : Between list from n limit lo hi) where
     apart : suc lo < hi
-    apart = ends-apart (limitOf limit) lo hi (spotsOf list from n) (seg .rises) keyed (b .order) (b .over) (b .short)
+    apart = ends-apart (limitOf limit) lo hi (spotsFrom list from n) (seg .rises) keyed (b .order) (b .over) (b .short)
 
     pub between-low : lo < lo + (hi - lo) / 2
     between-low = let a = apart in omega arith

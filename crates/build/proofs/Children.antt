@@ -9,7 +9,9 @@ use native.Mathlib.Nat.{mul-zero, mul-le-mul-right}
 use native.Mathlib.Omega.{arith}
 use lib.ListN.{length, length-append}
 use Rattle.octets.specs.Lists.{isEmpty}
+use Rattle.spot.specs.Spots.{spotsFrom}
 use Rattle.spot.specs.declared.Spot.{Spot}
+use Rattle.spot.proofs.Buffers.{spots-join}
 use Rattle.block.specs.declared.Entry.{Entry}
 use Rattle.block.specs.Node.{storeOf}
 use Rattle.block.specs.Table.{block, blocksOf}
@@ -18,10 +20,10 @@ use Rattle.node.specs.Memory.{entriesOf, EntryFits}
 use Rattle.rebuild.specs.Build.{leaves, nodes, fansOk, shapeOf, Shares, Built, BuildPost}
 use Rattle.rebuild.proofs.Choose.{Division, divide}
 use Rattle.rebuild.proofs.Steps.{child-built}
-use Rattle.build.specs.Building.{spotsOf, Segment, Buildable}
-use Rattle.build.proofs.Segments.{spots-split, segment-part, fans-root, Under}
+use Rattle.build.specs.Building.{Segment, Buildable}
+use Rattle.build.proofs.Segments.{segment-part, fans-root, Under}
 
-spots-some : (list : List ℕ) (from n : ℕ) → 1 ≤ n → isEmpty (spotsOf list from n) ≡ false
+spots-some : (list : List ℕ) (from n : ℕ) → 1 ≤ n → isEmpty (spotsFrom list from n) ≡ false
 spots-some list from zero h = let z : ⊥ = omega arith in absurd z
 spots-some list from (suc n) h = refl
 
@@ -39,7 +41,7 @@ module _ (list : List ℕ) (from n fan b c : ℕ) (fs : List ℕ) (t₀ : List �
     pub sized : length t ≡ length t₀
     pub least : leaves fs * (fan - j) ≤ left
     pub most : left ≤ 32 * leaves fs * (fan - j)
-    pub shares : Shares (λ b′ ys. Built fs room (storeOf t) b′ ys c) (storeOf t) (nodes fs) (b + 1) (entriesOf es) (spotsOf list from (n - left))
+    pub shares : Shares (λ b′ ys. Built fs room (storeOf t) b′ ys c) (storeOf t) (nodes fs) (b + 1) (entriesOf es) (spotsFrom list from (n - left))
     pub other : (i : ℕ) → (i < b + 1) ⊎ (b + 1 + j * nodes fs ≤ i) → block t i ≡ block t₀ i
 
   module _ (below : Under fan fs n b room) where
@@ -57,8 +59,8 @@ module _ (list : List ℕ) (from n fan b c : ℕ) (fs : List ℕ) (t₀ : List �
           least = subst (λ (k : ℕ). leaves fs * k ≤ n) (sym z) (below .least);
           most = subst (λ (k : ℕ). n ≤ 32 * leaves fs * k) (sym z) (below .most);
           shares =
-              subst (λ (l : List Entry). Shares (λ b′ ys. Built fs room (storeOf t₀) b′ ys c) (storeOf t₀) (nodes fs) (b + 1) l (spotsOf list from (n - n))) (sym g)
-              (ap (spotsOf list from) y);
+              subst (λ (l : List Entry). Shares (λ b′ ys. Built fs room (storeOf t₀) b′ ys c) (storeOf t₀) (nodes fs) (b + 1) l (spotsFrom list from (n - n))) (sym g)
+              (ap (spotsFrom list from) y);
           other = λ i h. refl;
         }
 
@@ -118,7 +120,7 @@ module _ (list : List ℕ) (from n fan b c : ℕ) (fs : List ℕ) (t₀ : List �
             blocks = omega (arith, rm .2, bl);
           })
 
-      pub child-added : {w : ℕ} → w ≡ nodes fs → {u : List ℕ} {e : Entry} {es′ : Entries} {x : ℕ} → x ≡ c → BuildPost (blocksOf (length t)) fs (b + 1 + j * w) (spotsOf list (from + (n - left)) share) x t u e → EntryFits e
+      pub child-added : {w : ℕ} → w ≡ nodes fs → {u : List ℕ} {e : Entry} {es′ : Entries} {x : ℕ} → x ≡ c → BuildPost (blocksOf (length t)) fs (b + 1 + j * w) (spotsFrom list (from + (n - left)) share) x t u e → EntryFits e
           → es′ .n ≡ es .n + 1
           → entriesOf es′ ≡ entriesOf es ++ (e ∷ [])
           → Children u es′ (left - share) (j + 1)
@@ -129,11 +131,11 @@ module _ (list : List ℕ) (from n fan b c : ℕ) (fs : List ℕ) (t₀ : List �
           let some = below .some in
           let count = r .count in
           let at : b + 1 + j * w ≡ b + 1 + length (entriesOf es) * nodes fs = omega (arith, ap (λ (k : ℕ). b + 1 + j * k) we, ap (λ (k : ℕ). b + 1 + k * nodes fs) (r .long)) in
-          let post : BuildPost room fs (b + 1 + length (entriesOf es) * nodes fs) (spotsOf list (from + (n - left)) share) c t u e = subst (λ (k : ℕ). BuildPost room fs k (spotsOf list (from + (n - left)) share) c t u e) at (subst (λ (k : ℕ). BuildPost k fs (b + 1 + j * w) (spotsOf list (from + (n - left)) share) c t u e) (ap blocksOf (r .sized)) (subst (λ (k : ℕ). BuildPost (blocksOf (length t)) fs (b + 1 + j * w) (spotsOf list (from + (n - left)) share) k t u e) xc p)) in
-          let together : spotsOf list from (n - left) ++ spotsOf list (from + (n - left)) share ≡ spotsOf list from (n - (left - share)) =
+          let post : BuildPost room fs (b + 1 + length (entriesOf es) * nodes fs) (spotsFrom list (from + (n - left)) share) c t u e = subst (λ (k : ℕ). BuildPost room fs k (spotsFrom list (from + (n - left)) share) c t u e) at (subst (λ (k : ℕ). BuildPost k fs (b + 1 + j * w) (spotsFrom list (from + (n - left)) share) c t u e) (ap blocksOf (r .sized)) (subst (λ (k : ℕ). BuildPost (blocksOf (length t)) fs (b + 1 + j * w) (spotsFrom list (from + (n - left)) share) k t u e) xc p)) in
+          let together : spotsFrom list from (n - left) ++ spotsFrom list (from + (n - left)) share ≡ spotsFrom list from (n - (left - share)) =
           let k : n - left + share ≡ n - (left - share) = omega arith in
-          sym (spots-split list from (n - left) share) ∙ ap (spotsOf list from) k in
-          let built = child-built room fs c (b + 1) t u (entriesOf es) (spotsOf list from (n - left)) e (spotsOf list (from + (n - left)) share) (r .shares) (spots-some list (from + (n - left)) share (omega arith)) post in
+          sym (spots-join list from (n - left) share) ∙ ap (spotsFrom list from) k in
+          let built = child-built room fs c (b + 1) t u (entriesOf es) (spotsFrom list from (n - left)) e (spotsFrom list (from + (n - left)) share) (r .shares) (spots-some list (from + (n - left)) share (omega arith)) post in
           let place : b + 1 + j * w ≡ b + 1 + j * nodes fs = ap (λ (k : ℕ). b + 1 + j * k) we in
           let d : (j + 1) * nodes fs ≡ j * nodes fs + nodes fs = omega arith in
           record {
@@ -150,7 +152,7 @@ module _ (list : List ℕ) (from n fan b c : ℕ) (fs : List ℕ) (t₀ : List �
             least = omega (arith, same-share, division .left);
             most = omega (arith, same-share, division .right);
             shares =
-                subst (λ (x : List Entry). Shares (λ b′ ys. Built fs room (storeOf u) b′ ys c) (storeOf u) (nodes fs) (b + 1) x (spotsOf list from (n - (left - share)))) (sym added)
+                subst (λ (x : List Entry). Shares (λ b′ ys. Built fs room (storeOf u) b′ ys c) (storeOf u) (nodes fs) (b + 1) x (spotsFrom list from (n - (left - share)))) (sym added)
                 (subst (λ (ys : List Spot). Shares (λ b′ zs. Built fs room (storeOf u) b′ zs c) (storeOf u) (nodes fs) (b + 1) (entriesOf es ++ (e ∷ [])) ys) together built);
             other =
                 λ i h.
@@ -167,7 +169,7 @@ module _ (list : List ℕ) (from n fan b c : ℕ) (fs : List ℕ) (t₀ : List �
         omega (arith, m, mul-zero (32 * leaves fs))
 
     pub children-shares : {t : List ℕ} {es : Entries} {left j : ℕ} → Children t es left j → fan ≤ j
-        → Shares (λ b′ ys. Built fs room (storeOf t) b′ ys c) (storeOf t) (nodes fs) (b + 1) (entriesOf es) (spotsOf list from n)
+        → Shares (λ b′ ys. Built fs room (storeOf t) b′ ys c) (storeOf t) (nodes fs) (b + 1) (entriesOf es) (spotsFrom list from n)
     children-shares {t} {es} {left} {j} r h =
         let k : n - left ≡ n = omega (arith, children-left r h) in
-        subst (λ (x : ℕ). Shares (λ b′ ys. Built fs room (storeOf t) b′ ys c) (storeOf t) (nodes fs) (b + 1) (entriesOf es) (spotsOf list from x)) k (r .shares)
+        subst (λ (x : ℕ). Shares (λ b′ ys. Built fs room (storeOf t) b′ ys c) (storeOf t) (nodes fs) (b + 1) (entriesOf es) (spotsFrom list from x)) k (r .shares)

@@ -9,7 +9,7 @@ use native.Mathlib.Omega.{arith}
 use lib.ListN.{length}
 use Rattle.octets.proofs.Records.{length-records}
 use Rattle.spot.specs.declared.Spot.{Spot}
-use Rattle.spot.specs.Spots.{spotAt}
+use Rattle.spot.specs.Spots.{spotAt, spotsFrom}
 use Rattle.block.specs.declared.Entry.{Entry}
 use Rattle.block.specs.declared.Asked.the-variants.{Child}
 use Rattle.block.specs.Node.{Node, storeOf, firstOpen}
@@ -21,7 +21,7 @@ use Rattle.rebuild.specs.Build.{leaves, nodes, fansOk, shapeOf, band, builtNode
 use Rattle.rebuild.proofs.Built.{nodes-some}
 use Rattle.rebuild.proofs.Steps.{band-length, leaf-built, node-built}
 use Rattle.build.specs.declared.Limit.{Limit}
-use Rattle.build.specs.Building.{spotsOf, limitOf, Cut, Buildable, Own, OwnPut}
+use Rattle.build.specs.Building.{limitOf, Cut, Buildable, Own, OwnPut}
 use Rattle.build.proofs.Segments.{shape-step, shape-leaf, shape-length, Under, under}
 use Rattle.build.proofs.Children.{Children, children-shares}
 
@@ -58,7 +58,7 @@ own-post fs b x ys t₀ t same old {u} {level} {es} {ps} {e} p built =
 
 module _ (t list : List ℕ) (from n f g h b : ℕ) (r : Buildable t list from n f g h b) (x : ℕ) where
   abbrev ys : List Spot
-  ys = spotsOf list from n
+  ys = spotsFrom list from n
 
   own-room : (b * 2048 + 2048 ≤ length t) × (b < 65536)
   own-room =

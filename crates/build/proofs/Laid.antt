@@ -10,7 +10,7 @@ use lib.Dec.{leb}
 use Rattle.octets.proofs.Records.{length-records}
 use Rattle.spot.specs.declared.Spot.{Spot}
 use Rattle.spot.specs.Keys.{allKeys}
-use Rattle.spot.specs.Spots.{spotAt}
+use Rattle.spot.specs.Spots.{spotAt, spotsFrom}
 use Rattle.spot.proofs.Buffers.{spots-within}
 use Rattle.block.specs.declared.Entry.{Entry}
 use Rattle.block.specs.Header.{headOf}
@@ -24,7 +24,7 @@ use Rattle.rebuild.proofs.Built.{nodes-some}
 use Rattle.rebuild.proofs.Kept.{built-kept}
 use Rattle.rebuild.proofs.Shape.{Fits, shape-fits}
 use Rattle.build.specs.declared.Fans.{Fans}
-use Rattle.build.specs.Building.{spotsOf, Segment, Buildable, HeaderFits, HeaderWritten, ShapeIs}
+use Rattle.build.specs.Building.{Segment, Buildable, HeaderFits, HeaderWritten, ShapeIs}
 use Rattle.build.proofs.Segments.{shape-length}
 
 module _ (t list : List ℕ) (n : ℕ) (sized : tableSized (length t) ≡ true) (few : n ≤ capacity (length t)) (seg : Segment list 0 n) (r : Fans) (sh : ShapeIs n r) where
@@ -32,7 +32,7 @@ module _ (t list : List ℕ) (n : ℕ) (sized : tableSized (length t) ≡ true) 
   fs = shapeOf (r .fan) (r .next) (r .height)
 
   abbrev ys : List Spot
-  ys = spotsOf list 0 n
+  ys = spotsFrom list 0 n
 
   blocks-most : (9 ≤ blocksOf (length t)) × (blocksOf (length t) ≤ 4096)
   blocks-most = (blocks-least (length t) sized, most-blocks (length t) sized)

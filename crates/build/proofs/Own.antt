@@ -8,7 +8,7 @@ use native.Mathlib.Omega.{arith}
 use lib.ListN.{length, take, getD, set}
 use Rattle.octets.proofs.Lists.{mem-same}
 use Rattle.spot.specs.declared.Spot.{Spot}
-use Rattle.spot.specs.Spots.{keys, keyAt, spotAt}
+use Rattle.spot.specs.Spots.{keys, keyAt, spotAt, spotsFrom}
 use Rattle.spot.proofs.Buffers.{find-mem}
 use Rattle.buffer.specs.declared.SpotBuffer.{SpotBuffer}
 use Rattle.buffer.specs.declared.KeyBuffer.{KeyBuffer}
@@ -24,7 +24,7 @@ use Rattle.node.specs.Memory.{entriesOf, EntriesFit, Storable, Stored}
 use Rattle.node.proofs.Fits.{open-fits}
 use Rattle.tree.proofs.Entries.{agree-make, agree-empty}
 use Rattle.rebuild.specs.Build.{firstKey, builtNode}
-use Rattle.build.specs.Building.{spotsOf, EntryFor, OwnPut}
+use Rattle.build.specs.Building.{EntryFor, OwnPut}
 
 abbrev pub noEntry : Entry
 noEntry = record { block = 0; size = 0; low = 0; top = 0; bottom = 0 }
@@ -37,11 +37,11 @@ opened (e ∷ l) (suc n) h = refl
 
 -- ---- the entry of a node
 
-pub first-none : (list : List ℕ) (from n : ℕ) → n ≡ 0 → 0 ≡ firstKey (spotsOf list from n)
+pub first-none : (list : List ℕ) (from n : ℕ) → n ≡ 0 → 0 ≡ firstKey (spotsFrom list from n)
 first-none list from zero e = refl
 first-none list from (suc n) e = let z : ⊥ = omega arith in absurd z
 
-pub first-some : (list : List ℕ) (from n : ℕ) → (n ≡ 0 → ⊥) → keyAt list (12 * from) ≡ firstKey (spotsOf list from n)
+pub first-some : (list : List ℕ) (from n : ℕ) → (n ≡ 0 → ⊥) → keyAt list (12 * from) ≡ firstKey (spotsFrom list from n)
 unfolding spotAt
 first-some list from zero d = absurd (d refl)
 first-some list from (suc n) d = refl

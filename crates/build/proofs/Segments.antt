@@ -9,39 +9,32 @@ use native.Mathlib.Omega.{arith}
 use lib.ListN.{length}
 use lib.Dec.{leb}
 use borrow.Author.Tests.{leb-true, le-leb}
-use Rattle.octets.specs.Lists.{records, rising}
-use Rattle.octets.proofs.Records.{records-append}
+use Rattle.octets.specs.Lists.{rising}
 use Rattle.octets.proofs.Rising.{rising-left, rising-right}
 use Rattle.octets.proofs.Tests.{and-left, and-right, and-both}
-use Rattle.spot.specs.Spots.{keys, spotAt}
-use Rattle.spot.proofs.Buffers.{keys-append}
+use Rattle.spot.specs.Spots.{keys, spotsFrom}
+use Rattle.spot.proofs.Buffers.{keys-append, spots-join}
 use Rattle.rebuild.specs.Build.{leaves, nodes, fansOk, shapeOf}
 use Rattle.rebuild.proofs.Made.{leaves-some}
-use Rattle.build.specs.Building.{spotsOf, Segment}
+use Rattle.build.specs.Building.{Segment}
 
 -- ---- a part of a segment
-
--- k spots, and then m
-pub spots-split : (list : List ℕ) (from k m : ℕ) → spotsOf list from (k + m) ≡ spotsOf list from k ++ spotsOf list (from + k) m
-spots-split list from k m =
-    let e : 12 * from + 12 * k ≡ 12 * (from + k) = omega arith in
-    records-append (spotAt list) 12 k m (12 * from) ∙ ap (λ (x : ℕ). spotsOf list from k ++ records (spotAt list) 12 m x) e
 
 pub segment-part : (list : List ℕ) (from n k m : ℕ) → Segment list from n → k + m ≤ n → Segment list (from + k) m
 segment-part list from n k m s h =
     let i = s .inside in
     let f = s .few in
     let e : n ≡ k + (m + (n - (k + m))) = omega arith in
-    record { inside = omega arith; few = omega arith; rises = go (n - (k + m)) (subst (λ (x : ℕ). rising (keys (spotsOf list from x)) ≡ true) e (s .rises)) }
+    record { inside = omega arith; few = omega arith; rises = go (n - (k + m)) (subst (λ (x : ℕ). rising (keys (spotsFrom list from x)) ≡ true) e (s .rises)) }
   where
-    go : (r : ℕ) → rising (keys (spotsOf list from (k + (m + r)))) ≡ true → rising (keys (spotsOf list (from + k) m)) ≡ true
+    go : (r : ℕ) → rising (keys (spotsFrom list from (k + (m + r)))) ≡ true → rising (keys (spotsFrom list (from + k) m)) ≡ true
     go r u =
-        let a = spotsOf list from k in
-        let b = spotsOf list (from + k) m in
-        let c = spotsOf list (from + k + m) r in
-        let split : keys (spotsOf list from (k + (m + r))) ≡ keys a ++ (keys b ++ keys c) =
-        ap keys (spots-split list from k (m + r)) ∙ keys-append a (spotsOf list (from + k) (m + r))
-        ∙ ap (λ (x : List ℕ). keys a ++ x) (ap keys (spots-split list (from + k) m r) ∙ keys-append b c) in
+        let a = spotsFrom list from k in
+        let b = spotsFrom list (from + k) m in
+        let c = spotsFrom list (from + k + m) r in
+        let split : keys (spotsFrom list from (k + (m + r))) ≡ keys a ++ (keys b ++ keys c) =
+        ap keys (spots-join list from k (m + r)) ∙ keys-append a (spotsFrom list (from + k) (m + r))
+        ∙ ap (λ (x : List ℕ). keys a ++ x) (ap keys (spots-join list (from + k) m r) ∙ keys-append b c) in
         rising-left 0 (keys b) (keys c) (rising-right 0 (keys a) (keys b ++ keys c) (ap rising (sym split) ∙ u))
 
 -- ---- a shape and the shape of a child

@@ -7,10 +7,10 @@ use mathlib.Core.Bool.{true, cond, _||_}
 use mathlib.Core.List.{List}
 use lib.ListN.{length, drop, replicate}
 use lib.Dec.{leb}
-use Rattle.octets.specs.Lists.{records, rising}
+use Rattle.octets.specs.Lists.{rising}
 use Rattle.octets.specs.Bytes.{be}
 use Rattle.octets.specs.Bitmap.{bit}
-use Rattle.spot.specs.Spots.{keys, spotAt}
+use Rattle.spot.specs.Spots.{keys, spotsFrom}
 use Rattle.spot.specs.declared.Spot.{Spot}
 use Rattle.block.specs.Table.{blocksOf, block, mapBlocks, capacity, tableSized}
 use Rattle.block.specs.Header.{Header, headOf}
@@ -25,10 +25,6 @@ use Rattle.rebuild.specs.Build.{leaves, nodes, fansOk, shapeOf, shape, band, bu
 use Rattle.build.specs.declared.Limit.{Limit}
 use Rattle.build.specs.declared.Fans.{Fans}
 
--- the spots of a list from the one at `from` on, n of them
-abbrev pub spotsOf : List ℕ → ℕ → ℕ → List Spot
-spotsOf list from n = records (spotAt list) 12 n (12 * from)
-
 -- a limit above every key it admits: 0 admits none, 2^64 admits all
 abbrev pub limitOf : Limit → ℕ
 limitOf l = cond (l .some) (suc (l .last)) 0
@@ -37,12 +33,12 @@ limitOf l = cond (l .some) (suc (l .last)) 0
 pub record Segment (list : List ℕ) (from n : ℕ) : Type 0 where
   pub inside : 12 * (from + n) ≤ length list
   pub few : n ≤ 65520
-  pub rises : rising (keys (spotsOf list from n)) ≡ true
+  pub rises : rising (keys (spotsFrom list from n)) ≡ true
 
 -- a rank key from which on a node takes 32 to 64 of the spots under the limit, or all of them
 pub record Cut (list : List ℕ) (from n : ℕ) (limit : Limit) (c : ℕ) : Type 0 where
-  pub most : length (band c (limitOf limit) (spotsOf list from n)) ≤ 64
-  pub least : (32 ≤ length (band c (limitOf limit) (spotsOf list from n))) ⊎ (c ≡ 0)
+  pub most : length (band c (limitOf limit) (spotsFrom list from n)) ≤ 64
+  pub least : (32 ≤ length (band c (limitOf limit) (spotsFrom list from n))) ⊎ (c ≡ 0)
   pub under : c ≤ limitOf limit
 
 -- a segment that a tree of this shape is to be built of, from a block on
@@ -117,7 +113,7 @@ pub record EntryFor (b k : ℕ) (ps : List Spot) (e : Entry) : Type 0 where
 -- a node that can be stored in block b: the spots of a segment with a rank key from c up to, and without, x, over these entries
 pub record Own (t list : List ℕ) (from n c x level : ℕ) (es : Entries) (b : ℕ) : Type 0 where
   pub segment : Segment list from n
-  pub most : length (band c x (spotsOf list from n)) ≤ 64
+  pub most : length (band c x (spotsFrom list from n)) ≤ 64
   pub shallow : level ≤ 6
   pub entries : EntriesFit es
   pub inside : b * 2048 + 2048 ≤ length t

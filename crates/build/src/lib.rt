@@ -5,13 +5,14 @@ ghost use mathlib.Core.List.{_∷_, [], _++_};
 ghost use Prim.Native.Nat.{_+_, _*_, _^_, _≤_, _<_};
 ghost use lib.ListN.{length};
 ghost use Rattle.spot.specs.Keys.{rankKey, within};
+ghost use Rattle.spot.specs.Spots.{spotsFrom};
 ghost use Rattle.block.specs.Table.{tableSized, blocksOf, capacity};
 ghost use Rattle.block.specs.Header.{headerOf};
 ghost use Rattle.block.specs.Node.{firstOpen};
 ghost use Rattle.buffer.specs.Buffer.{held, Ordered};
 ghost use Rattle.node.specs.Memory.{entriesOf, EntryFits};
 ghost use Rattle.rebuild.specs.Build.{nodes, shapeOf, band, firstKey, BuildPost, Rebuilt};
-ghost use Rattle.build.specs.Building.{spotsOf, limitOf, Segment, Cut, Buildable, HeaderFits, HeaderWritten, ShapeIs, NumbersAre, HeadSays, Marked, EntryFor, Own, OwnPut};
+ghost use Rattle.build.specs.Building.{limitOf, Segment, Cut, Buildable, HeaderFits, HeaderWritten, ShapeIs, NumbersAre, HeadSays, Marked, EntryFor, Own, OwnPut};
 
 // A limit of rank keys: all up to `last`, or none.
 pub struct Limit {
@@ -37,7 +38,7 @@ pub fn in_band(k: u64, cut: u64, limit: Limit) -> bool
 // How many of the n spots from `from` on lie in the band.
 pub fn count_band(list: &[u8], from: usize, n: usize, cut: u64, limit: Limit) -> usize
     requires { ⌜ Segment (now list) from n ⌝ }
-    ensures { λ r. ⌜ (r ≡ length (band cut (limitOf limit) (spotsOf (now (list .entry)) from n))) × (r ≤ n) ⌝ }
+    ensures { λ r. ⌜ (r ≡ length (band cut (limitOf limit) (spotsFrom (now (list .entry)) from n))) × (r ≤ n) ⌝ }
 {
     let mut sum = 0;
     let mut i = 0;
@@ -147,8 +148,8 @@ pub fn choose_cut(list: &[u8], from: usize, n: usize, limit: Limit) -> u64
 
 // The spots of the band, in place order.
 pub fn take_band(list: &[u8], from: usize, n: usize, cut: u64, limit: Limit) -> buffer::SpotBuffer
-    requires { ⌜ Segment (now list) from n × (length (band cut (limitOf limit) (spotsOf (now list) from n)) ≤ 64) ⌝ }
-    ensures { λ r. ⌜ Ordered r × (held r ≡ band cut (limitOf limit) (spotsOf (now (list .entry)) from n)) × (r .n ≤ 64) ⌝ }
+    requires { ⌜ Segment (now list) from n × (length (band cut (limitOf limit) (spotsFrom (now list) from n)) ≤ 64) ⌝ }
+    ensures { λ r. ⌜ Ordered r × (held r ≡ band cut (limitOf limit) (spotsFrom (now (list .entry)) from n)) × (r .n ≤ 64) ⌝ }
 {
     let mut out = buffer::empty();
     let mut i = 0;
@@ -323,7 +324,7 @@ fn open_first(es: node::Entries) -> node::Entries
 // The lowest key of a segment, 0 where it is empty.
 fn first_key(list: &[u8], from: usize, n: usize) -> u64
     requires { ⌜ Segment (now list) from n ⌝ }
-    ensures { λ r. ⌜ r ≡ firstKey (spotsOf (now (list .entry)) from n) ⌝ }
+    ensures { λ r. ⌜ r ≡ firstKey (spotsFrom (now (list .entry)) from n) ⌝ }
 {
     if n == 0 {
         return 0;
@@ -370,7 +371,7 @@ fn put_own(
     b: usize,
 ) -> block::Entry
     requires { ⌜ Own (now t) (now list) from n cut (limitOf limit) level es b ⌝ }
-    ensures { λ r. ⌜ OwnPut (now (t .entry)) (now (t .exit)) b level (entriesOf es) (band cut (limitOf limit) (spotsOf (now (list .entry)) from n)) (firstKey (spotsOf (now (list .entry)) from n)) r ⌝ }
+    ensures { λ r. ⌜ OwnPut (now (t .entry)) (now (t .exit)) b level (entriesOf es) (band cut (limitOf limit) (spotsFrom (now (list .entry)) from n)) (firstKey (spotsFrom (now (list .entry)) from n)) r ⌝ }
 {
     let points = take_band(list, from, n, cut, limit);
     let entries = open_first(es);
@@ -418,7 +419,7 @@ pub fn build(
     b: usize,
 ) -> block::Entry
     requires { ⌜ Buildable (now t) (now list) from n (fans .fan) (fans .next) (fans .height) b ⌝ }
-    ensures { λ r. ⌜ BuildPost (blocksOf (length (now (t .entry)))) (shapeOf (fans .fan) (fans .next) (fans .height)) b (spotsOf (now (list .entry)) from n) (limitOf limit) (now (t .entry)) (now (t .exit)) r × EntryFits r ⌝ }
+    ensures { λ r. ⌜ BuildPost (blocksOf (length (now (t .entry)))) (shapeOf (fans .fan) (fans .next) (fans .height)) b (spotsFrom (now (list .entry)) from n) (limitOf limit) (now (t .entry)) (now (t .exit)) r × EntryFits r ⌝ }
 {
     let mut es = no_entries();
     let height = fans.height;
@@ -451,7 +452,7 @@ pub fn build(
 // The table built whole from the n spots at the front of the list.
 pub fn build_table(t: &mut [u8], list: &[u8], n: usize)
     requires { ⌜ (tableSized (length (now t)) ≡ true) × (n ≤ capacity (length (now t))) × Segment (now list) 0 n ⌝ }
-    ensures { λ _. ⌜ Rebuilt (now (t .exit)) (spotsOf (now (list .entry)) 0 n) × (length (now (t .exit)) ≡ length (now (t .entry))) ⌝ }
+    ensures { λ _. ⌜ Rebuilt (now (t .exit)) (spotsFrom (now (list .entry)) 0 n) × (length (now (t .exit)) ≡ length (now (t .entry))) ⌝ }
 {
     let fans = shape_of(n);
     let all = Limit {

@@ -1,14 +1,17 @@
--- Tests over lists: `all`, `every` and `keep`.
+-- Tests over lists: `all`, `every`, `keep` and `sameList`.
 -- Assumes nothing.
-use mathlib.Core.Path.{_≡_, refl, ap, sym, _∙_}
+use mathlib.Core.Path.{_≡_, refl, ap, ap₂, sym, _∙_}
 use mathlib.Core.Bool.{Bool, true, false, cond, not, _&&_, _||_, Bool·beq, and-assoc, false≢true, true≢false}
 use mathlib.Core.List.{List, [], _∷_, _++_, List·Memᴰ, List·Memᴰ·head, List·Memᴰ·tail, List·Memᴰ·not-nil, List·Memᴰ·cases-cons}
 use mathlib.Core.Logic.{_⊎_, inl, inr, ⊎-elim}
-use Prim.Native.Nat.{ℕ, zero, suc, _≤_, _<_}
+use Prim.Native.Nat.{ℕ, zero, suc, _+_, _≤_, _<_}
 use native.Mathlib.Nat.{le-of-suc-le-suc, not-suc-le-zero}
 use native.Mathlib.Omega.{arith}
-use lib.ListN.{length, getD, replicate}
-use Rattle.octets.specs.Lists.{all, every, keep, isEmpty}
+use lib.ListN.{length, getD, replicate, drop}
+use lib.Dec.{eqb}
+use borrow.Author.Tests.{eq-eqb, eqb-true}
+use Rattle.octets.specs.Lists.{all, every, keep, isEmpty, sameList}
+use Rattle.octets.proofs.Lists.{drop-next}
 
 -- ---- truth values
 
@@ -237,3 +240,26 @@ module _ {A : Type 0} where
 
   pub empty-length : (xs : List A) → isEmpty xs ≡ true → length xs ≡ 0
   empty-length xs h = ap length (empty-list xs h)
+
+-- ---- two lists that are the same
+
+-- lists that pass the test are one
+pub same-lists : (a b : List ℕ) → sameList a b ≡ true → a ≡ b
+same-lists [] [] h = refl
+same-lists [] (y ∷ ys) h = absurd (false≢true h)
+same-lists (x ∷ xs) [] h = absurd (false≢true h)
+same-lists (x ∷ xs) (y ∷ ys) h =
+    ap₂ (λ (z : ℕ) (zs : List ℕ). z ∷ zs) (eqb-true x y (and-left (eqb x y) (sameList xs ys) h)) (same-lists xs ys (and-right (eqb x y) (sameList xs ys) h))
+
+same-self : (a : List ℕ) → sameList a a ≡ true
+same-self [] = refl
+same-self (x ∷ xs) = and-both (eqb x x) (sameList xs xs) (eq-eqb x x refl) (same-self xs)
+
+-- and one list passes it
+pub lists-same : (a b : List ℕ) → a ≡ b → sameList a b ≡ true
+lists-same a b e = rw (← e) (same-self a)
+
+-- from the element with index i on
+pub same-from : (a b : List ℕ) (i : ℕ) → i < length a → i < length b
+    → sameList (drop i a) (drop i b) ≡ eqb (getD a i 0) (getD b i 0) && sameList (drop (i + 1) a) (drop (i + 1) b)
+same-from a b i l m = ap₂ sameList (drop-next a i 0 l) (drop-next b i 0 m)

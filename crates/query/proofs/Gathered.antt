@@ -9,7 +9,7 @@ use lib.ListN.{length, getD, drop, take-append-drop}
 use Rattle.octets.specs.Lists.{distinct}
 use Rattle.octets.proofs.Tests.{and-left, and-right}
 use Rattle.spot.specs.Keys.{allKeys}
-use Rattle.spot.specs.Spots.{spotsBytes}
+use Rattle.spot.specs.Spots.{spotsBytes, spotsIn}
 use Rattle.spot.specs.declared.Query.{Query}
 use Rattle.spot.proofs.Stored.{spotsBytes-records}
 use Rattle.block.specs.declared.Asked.the-variants.{Root}
@@ -26,7 +26,7 @@ use Rattle.visit.specs.declared.Span.{Span}
 use Rattle.visit.specs.declared.Path.{Path}
 use Rattle.visit.specs.Visit.{above, namedAbove, endOf, partOf}
 use Rattle.visit.proofs.Above.{above-root}
-use Rattle.query.specs.Walks.{Collected, Collectable, spotsIn}
+use Rattle.query.specs.Walks.{Collected, Collectable}
 use Rattle.query.proofs.Roots.{root-low, levels-few, levels-are, root-part}
 
 whole-by : (b : Bool) (w : Walk) → isBroken (cond b w broken) ≡ false → b ≡ true

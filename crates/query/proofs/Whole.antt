@@ -5,11 +5,11 @@ use mathlib.Core.Bool.{Bool, true, false, cond, not, _&&_, false≢true}
 use mathlib.Core.List.{List, [], List·Memᴰ}
 use Prim.Native.Nat.{ℕ, zero, suc, _+_, _-_, _<_}
 use native.Mathlib.Omega.{arith}
-use lib.ListN.{length, replicate}
+use lib.ListN.{length, replicate, length-replicate}
 use Rattle.octets.specs.Lists.{distinct}
 use Rattle.octets.specs.Bitmap.{setBit, onesBelow, digit}
 use Rattle.octets.proofs.Tests.{and-left}
-use Rattle.octets.proofs.Bits.{setBit-length, ones-none, ones-suc, ones-le-bits}
+use Rattle.octets.proofs.Bits.{setBit-length, ones-none, ones-suc, ones-le-bits, bit-zeros}
 use Rattle.spot.specs.Keys.{allKeys}
 use Rattle.spot.specs.declared.Query.{Query}
 use Rattle.spot.specs.declared.Spot.{Spot}
@@ -22,7 +22,7 @@ use Rattle.tree.specs.Walk.{Walk, walked, broken, walkTable, isBroken, spots, b
 use Rattle.tree.specs.Trace.{obeys, visits, gains, tally, unseen, marked, namedBy}
 use Rattle.tree.specs.ReadMap.{readMap}
 use Rattle.tree.proofs.Onto.{onto}
-use Rattle.tree.proofs.MapBits.{bit-zeros, zeros-length, unseen-zeros, marks-make, read-onto}
+use Rattle.tree.proofs.MapBits.{unseen-zeros, marks-make, read-onto}
 use Rattle.tree.proofs.Traces.{table-trace, gains-length}
 use Rattle.tree.proofs.Sources.{header-few, table-visits}
 use Rattle.visit.specs.declared.Span.{Span}
@@ -83,7 +83,7 @@ module _ (t : List ℕ) (q : Query) where
     both = ap (λ (x : Bool). x && (obeys L (storeOf t) q W && distinct read)) ok ∙ fresh-is
 
     long : length seen ≡ 512
-    long = k .sized ∙ ap length e ∙ zeros-length 512
+    long = k .sized ∙ ap length e ∙ length-replicate {A = ℕ} 512 0
 
     pub no-walk : {none : Tally} → r .ok ≡ false → none .ok ≡ false → none .spots ≡ 0 → TableCounted t q seen none
     no-walk n f s = no-table long f s (both ∙ n)

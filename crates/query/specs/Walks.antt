@@ -6,9 +6,9 @@ use mathlib.Core.Bool.{Bool, true, not, _&&_}
 use mathlib.Core.List.{List, [], _∷_}
 use lib.ListN.{length, drop}
 use lib.Dec.{leb}
-use Rattle.octets.specs.Lists.{records, rising}
+use Rattle.octets.specs.Lists.{rising}
 use Rattle.octets.specs.Bitmap.{bit, setBit, onesBelow}
-use Rattle.spot.specs.Spots.{keys, spotAt}
+use Rattle.spot.specs.Spots.{keys, spotsIn}
 use Rattle.spot.specs.declared.Spot.{Spot}
 use Rattle.spot.specs.declared.Query.{Query}
 use Rattle.block.specs.declared.Asked.{Asked}
@@ -44,10 +44,6 @@ pub record Counted (t map map′ : List ℕ) (l : ℕ) (q : Query) (path : Path)
   pub spots : r .ok ≡ true → r .spots ≡ y .spots + tally l (storeOf t) q (namedAbove t path) p
   pub seen : r .ok ≡ true → map′ ≡ marked map (visits l (storeOf t) q p)
   pub tallied : r .ok ≡ true → Tallied map′ r
-
--- the first n spots of an output
-abbrev pub spotsIn : List ℕ → ℕ → List Spot
-spotsIn out n = records (spotAt out) 12 n 0
 
 -- each number is at least the one before it
 abbrev pub ascends : ℕ → List ℕ → Bool

@@ -10,7 +10,7 @@ use lib.Seq.{drop-append-add, drop-drop}
 use borrow.Author.Tests.{not-true, not-false}
 use Rattle.octets.specs.Lists.{rising, risingFrom}
 use Rattle.spot.specs.Query.{everything}
-use Rattle.spot.specs.Spots.{keys, spotsBytes}
+use Rattle.spot.specs.Spots.{keys, spotsBytes, spotsIn}
 use Rattle.spot.specs.declared.Spot.{Spot}
 use Rattle.spot.proofs.Buffers.{keys-records}
 use Rattle.spot.proofs.Stored.{length-spotsBytes}
@@ -21,7 +21,6 @@ use Rattle.block.proofs.Facts.{head-facts}
 use Rattle.tree.specs.Walk.{walkTable, isBroken, spots, liveSpots}
 use Rattle.tree.specs.Sound.{sound}
 use Rattle.tree.proofs.Tables.{sound-header, live-rises, count-finds, counted, live-walk}
-use Rattle.query.specs.Walks.{spotsIn}
 use Rattle.query.specs.declared.Tally.{Tally}
 use Rattle.query.proofs.Gathered.{whole-header}
 use Rattle.renew.specs.Renewed.{Gathered}

@@ -11,7 +11,7 @@ use borrow.Author.Tests.{lt-leb}
 use Rattle.octets.specs.Lists.{rising}
 use Rattle.octets.proofs.Records.{length-records}
 use Rattle.octets.proofs.Parts.{drop-more}
-use Rattle.spot.specs.Spots.{keys, without, spotAt}
+use Rattle.spot.specs.Spots.{keys, without, spotAt, spotsFrom, spotsIn}
 use Rattle.spot.specs.declared.Spot.{Spot}
 use Rattle.spot.proofs.Canon.{length-without}
 use Rattle.block.specs.Table.{tableSized, capacity}
@@ -19,12 +19,12 @@ use Rattle.block.proofs.Making.{blocks-least, blocks-most}
 use Rattle.tree.specs.Walk.{liveSpots}
 use Rattle.query.specs.declared.Tally.{Tally}
 use Rattle.rebuild.specs.Build.{Rebuilt}
-use Rattle.build.specs.Building.{Segment, spotsOf}
-use Rattle.amend.specs.Amended.{listed, Amendable, Amended}
+use Rattle.build.specs.Building.{Segment}
+use Rattle.amend.specs.Amended.{Amendable, Amended}
 use Rattle.renew.specs.Renewed.{Gathered, Renewed}
 
 -- nothing changed
-pub amended-none : (w : List ℕ) (n : ℕ) → Amended w w n (listed w n) n
+pub amended-none : (w : List ℕ) (n : ℕ) → Amended w w n (spotsIn w n) n
 amended-none w n = record { holds = refl; count = sym (length-records (spotAt w) 12 n 0); rest = refl; sized = refl }
 
 -- nothing gathered
@@ -55,8 +55,8 @@ module _ {t w w₁ : List ℕ} {r : Tally} (z : tableSized (length t) ≡ true) 
         rises = ap (λ (l : List Spot). rising (keys l)) (g .holds ok) ∙ g .rises ok;
       }
 
-  module _ {w₂ : List ℕ} {m : ℕ} (f : List Spot → List Spot) (a : Amended w₁ w₂ (r .spots) (f (listed w₁ (r .spots))) m) where
-    holds-is : spotsOf w₂ 0 m ≡ f (liveSpots t)
+  module _ {w₂ : List ℕ} {m : ℕ} (f : List Spot → List Spot) (a : Amended w₁ w₂ (r .spots) (f (spotsIn w₁ (r .spots))) m) where
+    holds-is : spotsFrom w₂ 0 m ≡ f (liveSpots t)
     holds-is = a .holds ∙ ap f (g .holds ok)
 
     count-is : m ≡ length (f (liveSpots t))
@@ -89,7 +89,7 @@ module _ {t w w₁ : List ℕ} {r : Tally} (z : tableSized (length t) ≡ true) 
           rises = ap (λ (l : List Spot). rising (keys l)) holds-is ∙ up (g .rises ok);
         }
 
-    pub renew-built : {t′ : List ℕ} (b : Bool) → Rebuilt t′ (spotsOf w₂ 0 m) × (length t′ ≡ length t) → Renewed t t′ w w₂ (f (liveSpots t)) b true
+    pub renew-built : {t′ : List ℕ} (b : Bool) → Rebuilt t′ (spotsFrom w₂ 0 m) × (length t′ ≡ length t) → Renewed t t′ w w₂ (f (liveSpots t)) b true
     renew-built {t′} b h =
         record {
           sized = h .1;
@@ -102,5 +102,5 @@ module _ {t w w₁ : List ℕ} {r : Tally} (z : tableSized (length t) ≡ true) 
         }
 
   -- one taken out leaves no more than there were
-  pub out-few : {w₂ : List ℕ} {m : ℕ} (k : ℕ) → Amended w₁ w₂ (r .spots) (without k (listed w₁ (r .spots))) m → m ≤ capacity (length t)
+  pub out-few : {w₂ : List ℕ} {m : ℕ} (k : ℕ) → Amended w₁ w₂ (r .spots) (without k (spotsIn w₁ (r .spots))) m → m ≤ capacity (length t)
   out-few k a = omega (arith, count-is (without k) a, length-without k (liveSpots t), live-long, g .few ok)

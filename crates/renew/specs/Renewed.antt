@@ -7,14 +7,13 @@ use mathlib.Core.Bool.{Bool, true, false}
 use mathlib.Core.List.{List}
 use lib.ListN.{length, drop}
 use Rattle.octets.specs.Lists.{rising}
-use Rattle.spot.specs.Spots.{keys}
+use Rattle.spot.specs.Spots.{keys, spotsIn}
 use Rattle.spot.specs.declared.Spot.{Spot}
 use Rattle.block.specs.Table.{capacity}
 use Rattle.block.specs.Header.{headOf}
 use Rattle.block.specs.HeaderRules.{headerOk}
 use Rattle.tree.specs.Walk.{liveSpots}
 use Rattle.tree.specs.Sound.{sound}
-use Rattle.query.specs.Walks.{spotsIn}
 use Rattle.query.specs.declared.Tally.{Tally}
 use Rattle.rebuild.specs.Build.{Rebuilt}
 

@@ -3,13 +3,12 @@
 use mathlib.Core.Path.{_≡_, sym, ap, ap₂, _∙_}
 use mathlib.Core.Bool.{Bool, _&&_, and-true, and-assoc}
 use mathlib.Core.List.{List}
-use Prim.Native.Nat.{ℕ, suc, _+_, _≤_, _<_}
-use native.Mathlib.Numerals.{add-one}
+use Prim.Native.Nat.{ℕ, _+_, _≤_, _<_}
 use native.Mathlib.Omega.{arith}
 use lib.Dec.{eqb}
 use lib.ListN.{length, getD, drop, drop-of-length-le}
-use Rattle.tree.specs.SameList.{sameList}
-use Rattle.tree.proofs.MapBits.{same-from}
+use Rattle.octets.specs.Lists.{sameList}
+use Rattle.octets.proofs.Tests.{same-from}
 
 abbrev pub SameInv : List ℕ → List ℕ → Bool → ℕ → Type 0
 SameInv a b same i = sameList a b ≡ same && sameList (drop i a) (drop i b)
@@ -19,8 +18,7 @@ module _ (a b : List ℕ) (p : length a ≡ 512) (q : length b ≡ 512) where
   same-next same i h l =
       h
       ∙ ap (λ (x : Bool). same && x) (same-from a b i (omega arith) (omega arith))
-      ∙ sym (and-assoc same (eqb (getD a i 0) (getD b i 0)) (sameList (drop (suc i) a) (drop (suc i) b)))
-      ∙ ap (λ (k : ℕ). (same && eqb (getD a i 0) (getD b i 0)) && sameList (drop k a) (drop k b)) (sym (add-one i))
+      ∙ sym (and-assoc same (eqb (getD a i 0) (getD b i 0)) (sameList (drop (i + 1) a) (drop (i + 1) b)))
 
   pub same-end : (same : Bool) (i : ℕ) → SameInv a b same i → 512 ≤ i → same ≡ sameList a b
   same-end same i h l =

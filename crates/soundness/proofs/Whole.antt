@@ -8,7 +8,7 @@ use Prim.Native.Nat.{ℕ, suc, _+_, _-_, _≤_, _<_}
 use native.Mathlib.Omega.{arith}
 use lib.ListN.{length, getD, take, drop, replicate, length-take, length-drop, List·getD-eq-default}
 use lib.Seq.{getD-take, getD-drop, length-take-le}
-use Rattle.octets.specs.Lists.{distinct}
+use Rattle.octets.specs.Lists.{distinct, sameList}
 use Rattle.octets.specs.Bitmap.{setBit}
 use Rattle.octets.proofs.Order.{less-or-not}
 use Rattle.spot.specs.Keys.{allKeys}
@@ -19,7 +19,6 @@ use Rattle.block.specs.Node.{storeOf}
 use Rattle.block.proofs.Heads.{map-part}
 use Rattle.tree.specs.Part.{Part, whole}
 use Rattle.tree.specs.Reach.{reach}
-use Rattle.tree.specs.SameList.{sameList}
 use Rattle.tree.specs.Sound.{soundAt, mapExact}
 use Rattle.tree.specs.Trace.{unseen, marked}
 use Rattle.tree.proofs.MapBits.{Bytes, unseen-zeros, exact-by}

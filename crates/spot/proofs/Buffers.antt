@@ -4,25 +4,41 @@ use mathlib.Core.Path.{_≡_, refl, ap, sym, _∙_}
 use mathlib.Core.Logic.{_⊎_, inl, inr, ⊎-elim}
 use mathlib.Core.Bool.{Bool, true, false, cond, or-true, true≢false}
 use mathlib.Core.List.{List, [], _∷_, _++_, List·Memᴰ, List·Memᴰ·head, List·Memᴰ·tail, List·Memᴰ·not-nil, List·Memᴰ·cases-cons, Memᴰ·cast}
-use mathlib.Core.Option.{Option, none, some}
-use Prim.Native.Nat.{ℕ, zero, suc, _+_, _<_, _≤_}
+use mathlib.Core.Option.{Option, none, some, Option·none-ne-some}
+use Prim.Native.Nat.{ℕ, zero, suc, _+_, _*_, _<_, _≤_}
 use native.Mathlib.Omega.{arith}
 use lib.Dec.{eqb, leb}
 use lib.ListN.{length}
 use borrow.Author.Tests.{eq-eqb, ne-eqb}
 use Rattle.octets.specs.Lists.{every, keep, has, distinct, rising, risingFrom, records}
 use Rattle.octets.proofs.Order.{same-or-not}
+use Rattle.octets.proofs.Records.{records-append, records-more}
 use Rattle.octets.proofs.Lists.{mem-same}
 use Rattle.octets.proofs.Tests.{cond-mem, every-mem, every-make, keep-mem, keep-in, keep-length}
 use Rattle.octets.proofs.Sets.{distinct-head, distinct-tail, distinct-cons}
 use Rattle.octets.proofs.Rising.{rising-rest, rising-least}
 use Rattle.spot.specs.declared.Spot.{Spot}
 use Rattle.spot.specs.Keys.{allKeys, within}
-use Rattle.spot.specs.Spots.{keyAt, spotAt, keys, find, put, putAll}
+use Rattle.spot.specs.Spots.{keyAt, spotAt, spotsFrom, spotsIn, keys, find, put, putAll}
 use Rattle.spot.specs.Sorted.{only}
 use Rattle.spot.proofs.Card.{keyAt-lt}
 use Rattle.spot.proofs.Places.{within-yes}
-use Rattle.spot.proofs.Canon.{some≢none, find-here, find-past, find-put, put-rises, length-put, keep-rises}
+use Rattle.spot.proofs.Canon.{find-here, find-past, find-put, put-rises, length-put, keep-rises}
+
+-- ---- spots in bytes
+
+-- n spots, and then m
+pub spots-join : (s : List ℕ) (i n m : ℕ) → spotsFrom s i (n + m) ≡ spotsFrom s i n ++ spotsFrom s (i + n) m
+spots-join s i n m =
+    let e : 12 * i + 12 * n ≡ 12 * (i + n) = omega arith in
+    records-append (spotAt s) 12 n m (12 * i) ∙ ap (λ (a : ℕ). spotsFrom s i n ++ records (spotAt s) 12 m a) e
+
+-- one more
+pub spots-more : (s : List ℕ) (i : ℕ) → spotsIn s (i + 1) ≡ spotsIn s i ++ (spotAt s (12 * i) ∷ [])
+spots-more s i =
+    let e : i + 1 ≡ suc i = omega arith in
+    let g : 0 + 12 * i ≡ 12 * i = omega arith in
+    ap (spotsIn s) e ∙ records-more (spotAt s) 12 i 0 ∙ ap (λ (a : ℕ). spotsIn s i ++ (spotAt s a ∷ [])) g
 
 -- ---- names
 
@@ -67,7 +83,7 @@ spots-within s w n at = ap (every (within 0 allKeys)) (keys-records s w n at) �
 
 -- what is found is a key, and a key is found
 pub find-mem : (k : ℕ) (ss : List Spot) {a : ℕ} → find k ss ≡ some a → List·Memᴰ k (keys ss)
-find-mem k [] e = absurd (some≢none (sym e))
+find-mem k [] e = absurd (Option·none-ne-some _ e)
 find-mem k (s ∷ ss) {a} e =
     ⊎-elim (λ h. List·Memᴰ·head h) (λ (n : k ≡ s .key → ⊥). List·Memᴰ·tail (find-mem k ss (rw (ne-eqb k (s .key) n) at e))) (same-or-not k (s .key))
 

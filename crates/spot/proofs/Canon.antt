@@ -4,7 +4,7 @@ use mathlib.Core.Path.{_≡_, refl, ap, ap₂, sym, _∙_}
 use mathlib.Core.Logic.{⊎-elim}
 use mathlib.Core.Bool.{Bool, true, false, cond}
 use mathlib.Core.List.{List, [], _∷_}
-use mathlib.Core.Option.{Option, none, some}
+use mathlib.Core.Option.{Option, none, some, Option·some-ne-none, Option·some-injective}
 use Prim.Native.Nat.{ℕ, suc, _<_, _≤_}
 use native.Mathlib.Omega.{arith}
 use lib.Dec.{leb, eqb}
@@ -29,20 +29,14 @@ absent a k [] h l = refl
 absent a k (s ∷ ss) h l =
     find-past k s ss (λ e. omega (arith, rising-first a (s .key) (keys ss) h)) ∙ absent (suc (s .key)) k ss (rising-rest a (s .key) (keys ss) h) (omega (arith, rising-first a (s .key) (keys ss) h))
 
-pub some≢none : {a : ℕ} → some a ≡ none → ⊥
-some≢none {a} e = let z : _≡_ {A = ℕ} 0 1 = cc in omega arith
-
-pub some-inj : {a b : ℕ} → some a ≡ some b → a ≡ b
-some-inj e = cc
-
 pub spot-eq : (x y : Spot) → x .key ≡ y .key → x .track ≡ y .track → x ≡ y
 spot-eq x y p q = λ i. record { key = p i; track = q i }
 
 -- two lists that rise from a and find the same are one
 pub canon : (a : ℕ) (xs ys : List Spot) → risingFrom a (keys xs) ≡ true → risingFrom a (keys ys) ≡ true → ((k : ℕ) → find k xs ≡ find k ys) → xs ≡ ys
 canon a [] [] hx hy f = refl
-canon a [] (y ∷ ys) hx hy f = absurd (some≢none (sym (find-here (y .key) y ys refl) ∙ sym (f (y .key))))
-canon a (x ∷ xs) [] hx hy f = absurd (some≢none (sym (find-here (x .key) x xs refl) ∙ f (x .key)))
+canon a [] (y ∷ ys) hx hy f = absurd (Option·some-ne-none _ (sym (find-here (y .key) y ys refl) ∙ sym (f (y .key))))
+canon a (x ∷ xs) [] hx hy f = absurd (Option·some-ne-none _ (sym (find-here (x .key) x xs refl) ∙ f (x .key)))
 canon a (x ∷ xs) (y ∷ ys) hx hy f =
     ap₂ (λ (s : Spot) (l : List Spot). s ∷ l) (spot-eq x y same-key same-track) (canon (suc (x .key)) xs ys rest-x rest-y tails)
   where
@@ -51,13 +45,13 @@ canon a (x ∷ xs) (y ∷ ys) hx hy f =
 
     not-less : (x .key < y .key) → ⊥
     not-less l =
-        some≢none
+        Option·some-ne-none _
         (sym (find-here (x .key) x xs refl) ∙ f (x .key) ∙ find-past (x .key) y ys (λ e. omega arith) ∙
         absent (suc (y .key)) (x .key) ys (rising-rest a (y .key) (keys ys) hy) (omega arith))
 
     not-more : (y .key < x .key) → ⊥
     not-more l =
-        some≢none
+        Option·some-ne-none _
         (sym (find-here (y .key) y ys refl) ∙ sym (f (y .key)) ∙ find-past (y .key) x xs (λ e. omega arith) ∙
         absent (suc (x .key)) (y .key) xs rest-x (omega arith))
 
@@ -67,7 +61,7 @@ canon a (x ∷ xs) (y ∷ ys) hx hy f =
         (same-or-not (x .key) (y .key))
 
     same-track : x .track ≡ y .track
-    same-track = some-inj (sym (find-here (x .key) x xs refl) ∙ f (x .key) ∙ find-here (x .key) y ys same-key)
+    same-track = Option·some-injective _ _ (sym (find-here (x .key) x xs refl) ∙ f (x .key) ∙ find-here (x .key) y ys same-key)
 
     rest-y : risingFrom (suc (x .key)) (keys ys) ≡ true
     rest-y = rising-lower (suc (x .key)) (suc (y .key)) (keys ys) (omega (arith, same-key)) (rising-rest a (y .key) (keys ys) hy)
@@ -99,7 +93,7 @@ put-rises a s (x ∷ xs) l h n =
     (less-or-not (s .key) (x .key))
   where
     apart : s .key ≡ x .key → ⊥
-    apart e = some≢none (sym (find-here (s .key) x xs e) ∙ n)
+    apart e = Option·some-ne-none _ (sym (find-here (s .key) x xs e) ∙ n)
 
     before : s .key ≤ x .key → risingFrom a (keys (s ∷ x ∷ xs)) ≡ true
     before g =

@@ -5,7 +5,7 @@ use mathlib.Core.Bool.{cond, not}
 use mathlib.Core.List.{List, [], _∷_, _++_}
 use mathlib.Core.Option.{Option, none, some}
 use lib.Dec.{leb, eqb}
-use Rattle.octets.specs.Lists.{keep}
+use Rattle.octets.specs.Lists.{keep, records}
 use Rattle.octets.specs.Bytes.{be, bytesOf, putBe}
 use Rattle.spot.specs.Keys.{word, turned, rankKey}
 use Rattle.spot.specs.declared.Spot.{Spot}
@@ -17,6 +17,13 @@ keyAt s i = turned (be 4 s i) * word + turned (be 4 s (i + 4))
 -- "spots of 12 bytes: place, rank, track"
 unfoldable pub spotAt : List ℕ → ℕ → Spot
 spotAt s i = record { key = keyAt s i; track = be 4 s (i + 8) }
+
+-- n spots side by side, from the one at i on, and from the first on
+abbrev pub spotsFrom : List ℕ → ℕ → ℕ → List Spot
+spotsFrom s i n = records (spotAt s) 12 n (12 * i)
+
+abbrev pub spotsIn : List ℕ → ℕ → List Spot
+spotsIn s n = records (spotAt s) 12 n 0
 
 -- a key's 8 bytes, and a spot's 12
 unfoldable pub keyBytes : ℕ → List ℕ

@@ -9,11 +9,9 @@ use lib.Dec.{eqb}
 use borrow.Author.Tests.{eqb-true}
 use lib.ListN.{length, getD, replicate, drop}
 use lib.IntN.{ℤ, pos, negsuc}
-use Rattle.octets.specs.Lists.{all, every}
-use Rattle.octets.proofs.Tests.{all-at, every-at}
+use Rattle.octets.specs.Lists.{all, every, sameList}
+use Rattle.octets.proofs.Tests.{all-at, every-at, same-lists}
 use Rattle.spot.specs.Keys.{signed32, unsigned32}
-use Rattle.tree.specs.SameList.{sameList}
-use Rattle.tree.proofs.MapBits.{same-lists}
 use Rattle.table.specs.Calls.{Call, format, add, withdraw, report, top, count, check, rebuild, Lengths, argumentsFit}
 use Rattle.table.specs.Model.{PlainSpot, eqZ, hasIdentity, placeBefore, rankHigher, ofPlaces, ofReport, takenOut, broughtIn, highest, fourBytes, complement, Reply, outputAfter, refuse, accept, badTable, badMap, shortScratch, full, handOut, reply}
 

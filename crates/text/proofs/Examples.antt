@@ -5,11 +5,11 @@ use mathlib.Core.Bool.{Bool, true, false, cond}
 use mathlib.Core.List.{List, [], _∷_, map}
 use Prim.Native.Nat.{ℕ}
 use lib.IntN.{pos, negsuc}
-use Rattle.octets.specs.Lists.{every}
+use Rattle.octets.specs.Lists.{every, sameList}
 use Rattle.spot.specs.Keys.{unbiased}
 use Rattle.text.specs.Text.{decimal, signed, joined, spotLine, countLine, refusalLine}
 use Rattle.text.specs.Commands.{commandText, Parsed}
-use Rattle.text.specs.Reading.{integer, commandOf, guess, alike}
+use Rattle.text.specs.Reading.{integer, commandOf, guess}
 use Rattle.text.specs.declared.Command.{Command}
 use Rattle.text.specs.declared.Command.the-variants.{Add, Withdraw, Report, Top, Bad}
 use Rattle.text.proofs.Inverse.{parse-yes, parse-no}
@@ -43,14 +43,14 @@ isBad (Top x y n) = false
 -- ---- read: what `parse` answers
 
 abbrev answer : List ℕ → Command
-answer line = cond (alike line (commandText (guess line))) (guess line) Bad
+answer line = cond (sameList line (commandText (guess line))) (guess line) Bad
 
-answer-by : (b : Bool) (line : List ℕ) → alike line (commandText (guess line)) ≡ b → Parsed line (cond b (guess line) Bad)
+answer-by : (b : Bool) (line : List ℕ) → sameList line (commandText (guess line)) ≡ b → Parsed line (cond b (guess line) Bad)
 answer-by true line h = parse-yes line (guess line) refl h
 answer-by false line h = parse-no line (guess line) refl h
 
 pub answer-parsed : (line : List ℕ) → Parsed line (answer line)
-answer-parsed line = answer-by (alike line (commandText (guess line))) line refl
+answer-parsed line = answer-by (sameList line (commandText (guess line))) line refl
 
 -- the paper's commands; the last has the ends of the numbers
 reads-row : map answer

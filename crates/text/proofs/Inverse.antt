@@ -9,14 +9,14 @@ use native.Mathlib.Omega.{arith}
 use lib.Dec.{eqb}
 use lib.IntN.{ℤ}
 use lib.ListN.{getD}
-use borrow.Author.Tests.{leb-true, le-leb, eqb-true, eq-eqb}
-use Rattle.octets.specs.Lists.{has}
-use Rattle.octets.proofs.Tests.{and-left, and-right, and-both}
+use borrow.Author.Tests.{leb-true, le-leb}
+use Rattle.octets.specs.Lists.{has, sameList}
+use Rattle.octets.proofs.Tests.{and-left, and-right, and-both, same-lists, lists-same}
 use Rattle.spot.specs.Keys.{word, signed32, unsigned32}
 use Rattle.spot.proofs.Signed.{signed-fits, fits-signed}
 use Rattle.text.specs.Text.{decimal, signed, joined}
 use Rattle.text.specs.Commands.{commandText, fits, Parsed}
-use Rattle.text.specs.Reading.{front, behind, value, integer, commandOf, guess, alike}
+use Rattle.text.specs.Reading.{front, behind, value, integer, commandOf, guess}
 use Rattle.text.specs.declared.Command.{Command}
 use Rattle.text.specs.declared.Command.the-variants.{Add, Withdraw, Report, Top, Bad}
 use Rattle.text.proofs.Decimal.{decimal-unspaced}
@@ -142,21 +142,6 @@ guess-fits l h =
     (fits-signed (integer (front b)) (integer-fits (front b))) (fits-signed (integer (front c)) (integer-fits (front c)))
     (lt-unsigned (value 0 (front c)) (value-lt 0 (front c) (omega arith))) (getD l 0 0) h
 
--- ---- the comparison
-
-pub alike-same : (xs ys : List ℕ) → alike xs ys ≡ true → xs ≡ ys
-alike-same [] [] h = refl
-alike-same [] (y ∷ ys) h = let z : _≡_ {A = ℕ} 0 1 = cc in absurd (omega arith)
-alike-same (x ∷ xs) [] h = let z : _≡_ {A = ℕ} 0 1 = cc in absurd (omega arith)
-alike-same (x ∷ xs) (y ∷ ys) h =
-    let e : x ≡ y = eqb-true x y (and-left (eqb x y) (alike xs ys) h) in
-    let f : xs ≡ ys = alike-same xs ys (and-right (eqb x y) (alike xs ys) h) in
-    cc
-
-pub alike-refl : (xs : List ℕ) → alike xs xs ≡ true
-alike-refl [] = refl
-alike-refl (x ∷ xs) = and-both (eqb x x) (alike xs xs) (eq-eqb x x refl) (alike-refl xs)
-
 -- ---- the answer
 
 module _ (line : List ℕ) (c : Command) (made : c ≡ guess line) where
@@ -164,10 +149,10 @@ module _ (line : List ℕ) (c : Command) (made : c ≡ guess line) where
   only : (d : Command) → fits d ≡ true → line ≡ commandText d → c ≡ d
   only d f t = made ∙ ap guess t ∙ guess-text d f
 
-  pub parse-yes : alike line (commandText c) ≡ true → Parsed line c
+  pub parse-yes : sameList line (commandText c) ≡ true → Parsed line c
   parse-yes h =
       record {
-        command = λ e. (rw made (guess-fits line (λ g. e (made ∙ g))), alike-same line (commandText c) h);
+        command = λ e. (rw made (guess-fits line (λ g. e (made ∙ g))), same-lists line (commandText c) h);
         none =
             λ (e : c ≡ Bad) d (f : fits d ≡ true) t.
             let g : fits c ≡ fits d = ap fits (only d f t) in
@@ -176,14 +161,14 @@ module _ (line : List ℕ) (c : Command) (made : c ≡ guess line) where
             omega arith;
       }
 
-  pub parse-no : alike line (commandText c) ≡ false → Parsed line Bad
+  pub parse-no : sameList line (commandText c) ≡ false → Parsed line Bad
   parse-no h =
       record {
         command = λ e. absurd (e refl);
         none =
             λ e d (f : fits d ≡ true) t.
-            let g : alike line (commandText c) ≡ alike line line = ap (alike line) (ap commandText (only d f t) ∙ sym t) in
-            let r : alike line line ≡ true = alike-refl line in
+            let g : sameList line (commandText c) ≡ sameList line line = ap (sameList line) (ap commandText (only d f t) ∙ sym t) in
+            let r : sameList line line ≡ true = lists-same line line refl in
             let z : _≡_ {A = ℕ} 0 1 = cc in
             omega arith;
       }

@@ -8,11 +8,11 @@ use native.Mathlib.Omega.{arith}
 use lib.ListN.{length, getD, take, drop, drop-of-length-le}
 use lib.Seq.{drop-drop}
 use borrow.Author.Tests.{eq-eqb, ne-eqb}
-use Rattle.octets.proofs.Tests.{refuted}
+use Rattle.octets.specs.Lists.{sameList}
+use Rattle.octets.proofs.Tests.{refuted, same-lists, same-from}
 use Rattle.octets.proofs.Lists.{drop-next}
-use Rattle.text.specs.Reading.{front, behind, step, value, alike}
+use Rattle.text.specs.Reading.{front, behind, step, value}
 use Rattle.text.proofs.Words.{front-take, behind-drop}
-use Rattle.text.proofs.Inverse.{alike-same}
 
 -- ---- to the end of a word
 
@@ -44,21 +44,21 @@ value-end w i n h = rw (drop-of-length-le w {i = i} h)
 
 -- ---- the comparison
 
-pub alike-lengths : (a b : List ℕ) → (length a ≡ length b → ⊥) → alike a b ≡ false
-alike-lengths a b h = refuted (alike a b) (λ (e : alike a b ≡ true). h (ap length (alike-same a b e)))
+pub same-lengths : (a b : List ℕ) → (length a ≡ length b → ⊥) → sameList a b ≡ false
+same-lengths a b h = refuted (sameList a b) (λ (e : sameList a b ≡ true). h (ap length (same-lists a b e)))
 
 module _ (a b : List ℕ) (i : ℕ) (l : i < length a) (m : i < length b) where
-  pub alike-next : getD a i 0 ≡ getD b i 0 → alike (drop (i + 1) a) (drop (i + 1) b) ≡ alike (drop i a) (drop i b)
-  alike-next e =
-      sym (ap₂ alike (drop-next a i 0 l) (drop-next b i 0 m) ∙ ap (λ (t : Bool). t && alike (drop (i + 1) a) (drop (i + 1) b)) (eq-eqb (getD a i 0) (getD b i 0) e))
+  pub same-next : getD a i 0 ≡ getD b i 0 → sameList (drop (i + 1) a) (drop (i + 1) b) ≡ sameList (drop i a) (drop i b)
+  same-next e =
+      sym (same-from a b i l m ∙ ap (λ (t : Bool). t && sameList (drop (i + 1) a) (drop (i + 1) b)) (eq-eqb (getD a i 0) (getD b i 0) e))
 
-  pub alike-differ : (getD a i 0 ≡ getD b i 0 → ⊥) → alike (drop i a) (drop i b) ≡ false
-  alike-differ e =
-      ap₂ alike (drop-next a i 0 l) (drop-next b i 0 m)
-      ∙ ap (λ (t : Bool). t && alike (drop (i + 1) a) (drop (i + 1) b)) (ne-eqb (getD a i 0) (getD b i 0) e)
+  pub same-differ : (getD a i 0 ≡ getD b i 0 → ⊥) → sameList (drop i a) (drop i b) ≡ false
+  same-differ e =
+      same-from a b i l m
+      ∙ ap (λ (t : Bool). t && sameList (drop (i + 1) a) (drop (i + 1) b)) (ne-eqb (getD a i 0) (getD b i 0) e)
 
-pub alike-end : (a b : List ℕ) (i : ℕ) → length a ≤ i → length b ≤ i → alike (drop i a) (drop i b) ≡ true
-alike-end a b i l m = ap₂ alike (drop-of-length-le a {i = i} l) (drop-of-length-le b {i = i} m)
+pub same-end : (a b : List ℕ) (i : ℕ) → length a ≤ i → length b ≤ i → sameList (drop i a) (drop i b) ≡ true
+same-end a b i l m = ap₂ sameList (drop-of-length-le a {i = i} l) (drop-of-length-le b {i = i} m)
 
 -- ---- a word as it lies in a line
 

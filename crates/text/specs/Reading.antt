@@ -1,7 +1,7 @@
 -- What `parse` makes of any line before it prints the command and compares. On the text of a command it is the command.
 -- Assumes nothing.
 use Prim.Native.Nat.{ℕ, _+_, _-_, _*_, _%_}
-use mathlib.Core.Bool.{Bool, true, false, cond, _&&_}
+use mathlib.Core.Bool.{cond}
 use mathlib.Core.List.{List, [], _∷_}
 use lib.Dec.{eqb}
 use lib.IntN.{ℤ}
@@ -44,10 +44,3 @@ guess line =
     let b = behind a in
     let c = behind b in
     commandOf (getD line 0 0) (integer (front a)) (integer (front b)) (integer (front c)) (value 0 (front c))
-
--- the two lists are the same
-abbrev pub alike : List ℕ → List ℕ → Bool
-alike [] [] = true
-alike [] (y ∷ ys) = false
-alike (x ∷ xs) [] = false
-alike (x ∷ xs) (y ∷ ys) = eqb x y && alike xs ys

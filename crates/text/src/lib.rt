@@ -3,10 +3,11 @@ ghost use mathlib.Core.Path.{_≡_};
 ghost use mathlib.Core.List.{[], _∷_};
 ghost use Prim.Native.Nat.{_+_, _-_, _≤_, _<_};
 ghost use lib.ListN.{length, getD, drop};
+ghost use Rattle.octets.specs.Lists.{sameList};
 ghost use Rattle.text.specs.Text.{decimal, signed, joined, spotLine, countLine, refusalLine};
 ghost use Rattle.text.specs.Commands.{commandText, Parsed};
 ghost use Rattle.text.specs.Written.{Wrote};
-ghost use Rattle.text.specs.Reading.{front, behind, value, integer, commandOf, guess, alike};
+ghost use Rattle.text.specs.Reading.{front, behind, value, integer, commandOf, guess};
 
 // A line as a command. A line of no such form is bad.
 pub enum Command {
@@ -254,7 +255,7 @@ fn candidate(line: &[u8]) -> Command
 }
 
 fn same(a: &[u8], b: &[u8]) -> bool
-    ensures { λ r. ⌜ r ≡ alike (now (a .entry)) (now (b .entry)) ⌝ }
+    ensures { λ r. ⌜ r ≡ sameList (now (a .entry)) (now (b .entry)) ⌝ }
 {
     if a.len() != b.len() {
         return false;
@@ -271,7 +272,7 @@ fn same(a: &[u8], b: &[u8]) -> bool
 
 // Whether the line is the command's text.
 fn prints(c: Command, line: &[u8]) -> bool
-    ensures { λ r. ⌜ r ≡ alike (now (line .entry)) (commandText c) ⌝ }
+    ensures { λ r. ⌜ r ≡ sameList (now (line .entry)) (commandText c) ⌝ }
 {
     let mut space = [0u8; 40];
     let n = write_command(&mut space, c);

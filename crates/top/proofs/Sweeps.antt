@@ -6,14 +6,14 @@ use mathlib.Core.Bool.{Bool, true, false, _||_, or-comm, true≢false, false≢t
 use mathlib.Core.List.{List, [], _∷_, _++_}
 use Prim.Native.Nat.{ℕ, _+_, _-_, _*_, _/_, _%_, _≤_, _<_}
 use native.Mathlib.Omega.{arith}
-use lib.ListN.{length, getD, set, drop, replicate, length-set}
+use lib.ListN.{length, getD, set, drop, replicate, length-set, length-replicate}
 use lib.Seq.{getD-set-same, getD-set-other}
 use lib.Dec.{leb, eqb}
 use lib.IntN.{ℤ}
 use borrow.Author.Tests.{leb-true, leb-false, eqb-true, eqb-false}
 use Rattle.octets.specs.Lists.{has}
 use Rattle.octets.specs.Bitmap.{bit, setBit}
-use Rattle.octets.proofs.Bits.{setBit-length}
+use Rattle.octets.proofs.Bits.{setBit-length, bit-zeros}
 use Rattle.octets.proofs.Tests.{or-either}
 use Rattle.octets.proofs.Lists.{over-all}
 use Rattle.spot.specs.Keys.{rankOf}
@@ -34,7 +34,7 @@ use Rattle.tree.specs.BestFirst.{Pending}
 use Rattle.tree.proofs.BestFirst.{given-few, blocks-in}
 use Rattle.tree.proofs.BestFirstTop.{Done}
 use Rattle.tree.proofs.Marks.{map-bit}
-use Rattle.tree.proofs.MapBits.{bits-same, setBit-bytes, bit-setBit, zeros-length, zeros-bytes, bit-zeros, read-length, read-bytes}
+use Rattle.tree.proofs.MapBits.{bits-same, setBit-bytes, bit-setBit, zeros-bytes, read-length, read-bytes}
 use Rattle.front.specs.declared.Slot.{Slot}
 use Rattle.front.specs.Frontier.{slotAt, headAt, kidCell, Highest, Best}
 use Rattle.top.specs.declared.Fresh.{Fresh}
@@ -63,7 +63,7 @@ pub record Lens (seen out : List ℕ) (rows paths orders heads : List (List ℕ)
 
 pub seen-start : {seen : List ℕ} → seen ≡ replicate 512 0 → Seen seen []
 seen-start {seen} e =
-    subst (λ (m : List ℕ). Seen m []) (sym e) (record { sized = zeros-length 512; bytes = zeros-bytes 512; bits = bit-zeros 512 })
+    subst (λ (m : List ℕ). Seen m []) (sym e) (record { sized = length-replicate {A = ℕ} 512 0; bytes = zeros-bytes 512; bits = bit-zeros 512 })
 
 pub seen-more : {seen blocks : List ℕ} (b : ℕ) → b < 4096 → Seen seen blocks → Seen (setBit seen b) (b ∷ blocks)
 seen-more {seen} {blocks} b l s =
@@ -280,7 +280,7 @@ root-readable r e l p o h k c =
     record {
       inside = r .inside;
       near = r .near;
-      mapped = ap length e ∙ zeros-length 512;
+      mapped = ap length e ∙ length-replicate {A = ℕ} 512 0;
       few = omega arith;
       row = omega arith;
       pathed = omega arith;

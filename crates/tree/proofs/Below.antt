@@ -5,7 +5,7 @@ use mathlib.Core.Path.{_≡_, refl, ap, sym, _∙_}
 use mathlib.Core.Logic.{_⊎_, inl, inr, ⊎-elim}
 use mathlib.Core.Bool.{Bool, true, false, cond, _||_, or-true, true≢false, false≢true}
 use mathlib.Core.List.{List, [], _∷_, _++_, map, Memᴰ·map, Memᴰ·of-map, List·Memᴰ, List·Memᴰ·head, List·Memᴰ·tail, List·Memᴰ·not-nil, List·Memᴰ·cases-cons, Memᴰ·append-left, Memᴰ·append-right}
-use mathlib.Core.Option.{Option, none, some}
+use mathlib.Core.Option.{Option, none, some, Option·none-ne-some}
 use Prim.Native.Nat.{ℕ, zero, suc, _≤_, _<_}
 use native.Mathlib.Omega.{arith}
 use lib.ListN.{length}
@@ -17,7 +17,6 @@ use Rattle.octets.proofs.Extremes.{maximum-ge, max-is}
 use Rattle.spot.specs.declared.Spot.{Spot}
 use Rattle.spot.specs.Spots.{keys, find}
 use Rattle.spot.specs.Keys.{rankKey}
-use Rattle.spot.proofs.Canon.{some≢none}
 use Rattle.spot.proofs.Buffers.{find-mem}
 use Rattle.block.specs.declared.Entry.{Entry}
 use Rattle.block.specs.Node.{Node, Store}
@@ -149,7 +148,7 @@ under-live (suc l) m k p {a} s e = by-points (find k (n .points)) refl e (λ c h
         record { held = v .held; below = omega (arith, v .below, u .below, t .1) }
 
     by-deletes : Deeper → (b : Bool) → cond b none (down (lookup l m k) k (children p n)) ≡ some a → Under k n
-    by-deletes ih true g = absurd (some≢none (sym g))
+    by-deletes ih true g = absurd (Option·none-ne-some _ g)
     by-deletes ih false g = by-child ih g
 
     by-inserts : Deeper → (o : Option ℕ) → find k (n .inserts) ≡ o → orElse o (cond (has k (n .deletes)) none (down (lookup l m k) k (children p n))) ≡ some a → Under k n

@@ -4,7 +4,7 @@ use mathlib.Core.Path.{_≡_, refl, ap, sym, _∙_, subst⁻¹}
 use mathlib.Core.Logic.{⊎-elim}
 use mathlib.Core.Bool.{Bool, true, false, cond, not, _&&_, _||_, true≢false, false≢true}
 use mathlib.Core.List.{List, [], _∷_, _++_}
-use mathlib.Core.Option.{Option, none, some}
+use mathlib.Core.Option.{Option, none, some, Option·none-ne-some}
 use Prim.Native.Nat.{ℕ, zero, suc, _≤_, _<_}
 use native.Mathlib.Omega.{arith}
 use borrow.Author.Tests.{eqb-false, leb-true, ne-eqb, le-leb, not-true}
@@ -18,7 +18,7 @@ use Rattle.spot.specs.Spots.{keys, find, putAll}
 use Rattle.spot.specs.Keys.{rankKey, rankOf, within}
 use Rattle.spot.specs.declared.Query.{Query}
 use Rattle.spot.specs.Query.{wantsKey}
-use Rattle.spot.proofs.Canon.{some≢none, cond-none, find-only}
+use Rattle.spot.proofs.Canon.{cond-none, find-only}
 use Rattle.spot.proofs.Places.{within-yes, within-low, within-high, within-from, within-to, meets-at, wants-placed, wants-rank}
 use Rattle.spot.proofs.Buffers.{keys-append, keep-distinct, putAll-rises}
 use Rattle.block.specs.declared.Entry.{Entry}
@@ -323,7 +323,7 @@ lookup-within (suc l) m k p {a} s h e = by-names (has k (names n)) refl
     ru = node-rules l m p s
 
     by-deletes : (b : Bool) → cond b none (down (lookup l m k) k (children p n)) ≡ some a → within (p .lo) (p .hi) k ≡ true
-    by-deletes true g = absurd (some≢none (sym g))
+    by-deletes true g = absurd (Option·none-ne-some _ g)
     by-deletes false g = down-in (lookup l m k) k (p .lo) (p .hi) (n .entries) (steps-of l p n h (all-at _ s 0) (all-at _ s 1)) g
 
     by-names : (b : Bool) → has k (names n) ≡ b → within (p .lo) (p .hi) k ≡ true

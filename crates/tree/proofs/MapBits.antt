@@ -3,27 +3,26 @@
 -- Assumes nothing.
 use mathlib.Core.Path.{_≡_, refl, ap, ap₂, sym, _∙_}
 use mathlib.Core.Logic.{⊎-elim}
-use mathlib.Core.Bool.{Bool, true, false, not, _&&_, _||_, or-true, or-false, or-assoc, and-assoc, false≢true}
+use mathlib.Core.Bool.{Bool, true, false, not, _&&_, _||_, or-true, or-false, or-assoc, and-assoc}
 use mathlib.Core.List.{List, [], _∷_, _++_, List·Memᴰ, List·Memᴰ·head, List·Memᴰ·tail}
 use Prim.Native.Nat.{ℕ, zero, suc, _+_, _*_, _/_, _%_, _^_, _≤_, _<_}
 use native.Mathlib.Nat.{pow-suc}
 use native.Mathlib.Omega.{arith}
-use lib.ListN.{length, getD, set, drop, replicate, length-set, length-replicate, List·getD-eq-default}
-use lib.Seq.{ext-getD, getD-set-same, getD-set-other, drop-cons}
+use lib.ListN.{length, getD, set, replicate, length-set, length-replicate, List·getD-eq-default}
+use lib.Seq.{ext-getD, getD-set-same, getD-set-other}
 use lib.Dec.{eqb}
 use lib.Bits.{bitOr, or-lt}
 use lib.Pow.{pow-lt}
 use borrow.Author.Tests.{eq-eqb, ne-eqb, eqb-true}
-use Rattle.octets.specs.Lists.{every, has, distinct, records}
+use Rattle.octets.specs.Lists.{every, has, distinct, records, sameList}
 use Rattle.octets.specs.Bitmap.{bit, setBit, markByte}
 use Rattle.octets.proofs.Order.{same-or-not, less-or-not, eqb-flip}
-use Rattle.octets.proofs.Tests.{and-left, and-right, and-both, bool-ext}
+use Rattle.octets.proofs.Tests.{and-left, and-right, and-both, bool-ext, same-lists, lists-same}
 use Rattle.octets.proofs.Records.{length-records, records-at}
 use Rattle.octets.proofs.Digits.{digitAt, digit-zero, digit-suc, digit-lt}
-use Rattle.octets.proofs.Bits.{zeros-at, bit-zeros as zeros-clear, setBit-length, setBit-same, setBit-other}
+use Rattle.octets.proofs.Bits.{zeros-at, bit-zeros, setBit-length, setBit-same, setBit-other}
 use Rattle.octets.proofs.Marks.{mark-byte-lt}
 use Rattle.block.specs.Table.{mapBytes}
-use Rattle.tree.specs.SameList.{sameList}
 use Rattle.tree.specs.Sound.{mapExact}
 use Rattle.tree.specs.ReadMap.{isRead, readMap}
 use Rattle.tree.specs.Trace.{unseen, marked}
@@ -131,17 +130,9 @@ marked-append m (x ∷ xs) ys = marked-append (setBit m x) xs ys
 abbrev pub zeros : ℕ → List ℕ
 zeros n = replicate n 0
 
--- its length
-pub zeros-length : (n : ℕ) → length (zeros n) ≡ n
-zeros-length n = length-replicate n 0
-
 -- its bytes
 pub zeros-bytes : (n : ℕ) → Bytes (zeros n)
 zeros-bytes n i = rw (zeros-at n i) (omega arith)
-
--- no bit is set
-pub bit-zeros : (n k : ℕ) → bit (zeros n) k ≡ false
-bit-zeros n k = zeros-clear n k
 
 -- ---- the map of blocks read
 
@@ -152,7 +143,7 @@ freshMarks n bs = setBit (marked (zeros n) bs) 0
 module _ (n : ℕ) (bs : List ℕ) where
   -- its length
   pub fresh-length : length (freshMarks n bs) ≡ n
-  fresh-length = setBit-length (marked (zeros n) bs) 0 ∙ marked-length (zeros n) bs ∙ zeros-length n
+  fresh-length = setBit-length (marked (zeros n) bs) 0 ∙ marked-length (zeros n) bs ∙ length-replicate n 0
 
   -- its bytes
   pub fresh-bytes : Bytes (freshMarks n bs)
@@ -162,8 +153,8 @@ module _ (n : ℕ) (bs : List ℕ) where
   pub fresh-bit : 0 < n → Fit bs n → (k : ℕ) → bit (freshMarks n bs) k ≡ isRead bs k
   unfolding isRead
   fresh-bit z h k =
-      bit-setBit (marked (zeros n) bs) 0 k (omega (arith, marked-length (zeros n) bs, zeros-length n)) ∙
-      ap (λ (a : Bool). a || eqb k 0) (bit-marked (zeros n) bs (λ b i. rw (zeros-length n) (h b i)) k ∙ ap (λ (a : Bool). a || has k bs) (bit-zeros n k)) ∙
+      bit-setBit (marked (zeros n) bs) 0 k (omega (arith, marked-length (zeros n) bs, length-replicate {A = ℕ} n 0)) ∙
+      ap (λ (a : Bool). a || eqb k 0) (bit-marked (zeros n) bs (λ b i. rw (length-replicate {A = ℕ} n 0) (h b i)) k ∙ ap (λ (a : Bool). a || has k bs) (bit-zeros n k)) ∙
       swap (has k bs) (eqb k 0)
     where
       swap : (a b : Bool) → a || b ≡ b || a
@@ -254,29 +245,6 @@ unseen-zeros n bs = ap (λ (t : Bool). t && distinct bs) (clear bs)
     clear : (xs : List ℕ) → every (λ b. not (bit (zeros n) b)) xs ≡ true
     clear [] = refl
     clear (x ∷ xs) = rw (bit-zeros n x) (clear xs)
-
--- ---- two lists that are the same
-
--- lists that pass the test are one
-pub same-lists : (a b : List ℕ) → sameList a b ≡ true → a ≡ b
-same-lists [] [] h = refl
-same-lists [] (y ∷ ys) h = absurd (false≢true h)
-same-lists (x ∷ xs) [] h = absurd (false≢true h)
-same-lists (x ∷ xs) (y ∷ ys) h =
-    ap₂ (λ (z : ℕ) (zs : List ℕ). z ∷ zs) (eqb-true x y (and-left (eqb x y) (sameList xs ys) h)) (same-lists xs ys (and-right (eqb x y) (sameList xs ys) h))
-
-same-self : (a : List ℕ) → sameList a a ≡ true
-same-self [] = refl
-same-self (x ∷ xs) = and-both (eqb x x) (sameList xs xs) (eq-eqb x x refl) (same-self xs)
-
--- and one list passes it
-pub lists-same : (a b : List ℕ) → a ≡ b → sameList a b ≡ true
-lists-same a b e = rw (← e) (same-self a)
-
--- from the element with index i on
-pub same-from : (a b : List ℕ) (i : ℕ) → i < length a → i < length b
-    → sameList (drop i a) (drop i b) ≡ eqb (getD a i 0) (getD b i 0) && sameList (drop (suc i) a) (drop (suc i) b)
-same-from a b i l m = ap₂ sameList (drop-cons a i 0 l) (drop-cons b i 0 m)
 
 -- ---- the map of blocks in use
 

@@ -4,7 +4,7 @@ use mathlib.Core.Path.{_≡_, refl, ap, ap₂, sym, _∙_}
 use mathlib.Core.Logic.{⊎-elim}
 use mathlib.Core.Bool.{Bool, true, false, cond}
 use mathlib.Core.List.{List, [], _∷_, List·Memᴰ, List·Memᴰ·head, List·Memᴰ·tail, List·Memᴰ·not-nil, List·Memᴰ·cases-cons}
-use mathlib.Core.Option.{Option, some}
+use mathlib.Core.Option.{Option, some, Option·none-ne-some}
 use Prim.Native.Nat.{ℕ, suc, _≤_, _<_}
 use native.Mathlib.Omega.{arith}
 use lib.ListN.{length}
@@ -12,7 +12,6 @@ use Rattle.octets.specs.Lists.{rest, rising, risingFrom}
 use Rattle.octets.proofs.Tests.{all-at, every-mem}
 use Rattle.octets.proofs.Rising.{rising-first, rising-rest}
 use Rattle.spot.specs.Keys.{within}
-use Rattle.spot.proofs.Canon.{some≢none}
 use Rattle.spot.proofs.Places.{within-yes, within-high, within-from, within-to}
 use Rattle.block.specs.declared.Entry.{Entry}
 use Rattle.block.specs.declared.Asked.the-variants.{Child}
@@ -79,7 +78,7 @@ parts-mem lo hi (e ∷ es) {c} k =
 
 -- what is found is found in a part whose range holds the key
 pub down-from : (f : Part → Option ℕ) (k : ℕ) (ps : List Part) {a : ℕ} → down f k ps ≡ some a → (c : Part) × List·Memᴰ c ps × (within (c .lo) (c .hi) k ≡ true) × (f c ≡ some a)
-down-from f k [] e = absurd (some≢none (sym e))
+down-from f k [] e = absurd (Option·none-ne-some _ e)
 down-from f k (p ∷ ps) {a} e = go (within (p .lo) (p .hi) k) refl e (down-from f k ps)
   where
     go : (b : Bool) → within (p .lo) (p .hi) k ≡ b → cond b (f p) (down f k ps) ≡ some a

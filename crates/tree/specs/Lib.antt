@@ -8,4 +8,3 @@ pub mod Sound
 pub mod Read
 pub mod Top
 pub mod BestFirst
-pub mod SameList

@@ -2,11 +2,10 @@
 -- Assumes nothing.
 use mathlib.Core.Path.{_≡_, sym, _∙_}
 use mathlib.Core.List.{List, [], List·Memᴰ, List·Memᴰ·not-nil}
-use mathlib.Core.Option.{Option, none, some}
+use mathlib.Core.Option.{Option, none, some, Option·some-ne-none}
 use Prim.Native.Nat.{ℕ, _<_, _≤_}
 use native.Mathlib.Omega.{arith}
 use Rattle.spot.specs.Keys.{rankKey, allKeys}
-use Rattle.spot.proofs.Canon.{some≢none}
 use Rattle.block.specs.declared.Entry.{Entry}
 use Rattle.block.specs.Node.{Store}
 use Rattle.tree.specs.Part.{parts}
@@ -36,5 +35,5 @@ pub open-bare : (l : ℕ) (m : Store) (lo hi : ℕ) → hi ≤ allKeys → (r : 
     → Open l m lo hi 0 es b f
 open-bare l m lo hi full r es b f o i d e =
     open-held l m lo hi r 0 es b b f f o
-    (ready-at lo hi full r (b .points) (b .inserts) (b .deletes) (under l m lo hi es) (o .ready) 0 (λ k j. omega arith) (λ k j. absurd (List·Memᴰ·not-nil (rw i at j))) (λ k j. absurd (List·Memᴰ·not-nil (rw d at j))) (λ k a g. absurd (some≢none (sym g ∙ e k))))
+    (ready-at lo hi full r (b .points) (b .inserts) (b .deletes) (under l m lo hi es) (o .ready) 0 (λ k j. omega arith) (λ k j. absurd (List·Memᴰ·not-nil (rw i at j))) (λ k j. absurd (List·Memᴰ·not-nil (rw d at j))) (λ k a g. absurd (Option·some-ne-none _ (sym g ∙ e k))))
     (o .found)

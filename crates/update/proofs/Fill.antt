@@ -4,7 +4,7 @@ use mathlib.Core.Path.{_≡_, refl, ap, sym, _∙_, subst⁻¹}
 use mathlib.Core.Logic.{_⊎_, inl, inr}
 use mathlib.Core.Bool.{Bool, true, false, cond}
 use mathlib.Core.List.{List, [], _∷_, _++_, List·Memᴰ, List·Memᴰ·head, Memᴰ·append-right}
-use mathlib.Core.Option.{Option, none, some}
+use mathlib.Core.Option.{Option, none, some, Option·some-ne-none}
 use Prim.Native.Nat.{ℕ, _<_, _≤_}
 use native.Mathlib.Omega.{arith}
 use lib.Dec.{eqb}
@@ -15,7 +15,6 @@ use Rattle.spot.specs.declared.Spot.{Spot}
 use Rattle.spot.specs.Spots.{keys, find, put}
 use Rattle.spot.specs.Keys.{rankKey, allKeys, within}
 use Rattle.spot.specs.Sorted.{only, but, lower}
-use Rattle.spot.proofs.Canon.{some≢none}
 use Rattle.spot.proofs.Places.{within-from, within-to}
 use Rattle.block.specs.declared.Entry.{Entry}
 use Rattle.block.specs.Node.{Store}
@@ -98,7 +97,7 @@ module _ (l : ℕ) (New : ℕ → Type 0) (x y : Store) (lo hi : ℕ) (full : hi
   inn k a h = go (same-or-not k t)
     where
       go : (k ≡ t) ⊎ (k ≡ t → ⊥) → within lo hi k ≡ true
-      go (inl i) = absurd (some≢none (sym h ∙ ap B₁ i ∙ gone))
+      go (inl i) = absurd (Option·some-ne-none _ (sym h ∙ ap B₁ i ∙ gone))
       go (inr n) = down-in (lookup l x k) k lo hi (us ++ (e ∷ vs)) (o .steps) (sym (stays k n) ∙ h)
 
   one : Steps (childAt lo hi us vs e .lo) (childAt lo hi us vs e .hi) (e′ ∷ [])

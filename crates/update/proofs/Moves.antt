@@ -4,7 +4,7 @@ use mathlib.Core.Path.{_≡_, refl, ap, sym, _∙_}
 use mathlib.Core.Logic.{_⊎_, inl, inr, ⊎-elim}
 use mathlib.Core.Bool.{Bool, true, false, not, cond, _||_}
 use mathlib.Core.List.{List, [], _∷_, List·Memᴰ, List·Memᴰ·head, List·Memᴰ·tail}
-use mathlib.Core.Option.{Option, none, some}
+use mathlib.Core.Option.{Option, none, some, Option·none-ne-some}
 use Prim.Native.Nat.{ℕ, suc, _<_, _≤_}
 use native.Mathlib.Omega.{arith}
 use lib.Dec.{eqb, leb}
@@ -18,7 +18,7 @@ use Rattle.spot.specs.declared.Spot.{Spot}
 use Rattle.spot.specs.Spots.{keys, find, put}
 use Rattle.spot.specs.Keys.{rankKey, allKeys, within}
 use Rattle.spot.specs.Sorted.{only, insertKey, but}
-use Rattle.spot.proofs.Canon.{some≢none, find-put, find-only}
+use Rattle.spot.proofs.Canon.{find-put, find-only}
 use Rattle.spot.proofs.Buffers.{only-rises, only-mem, find-mem, put-mem, put-up}
 use Rattle.spot.proofs.Sorted.{but-not}
 use Rattle.tree.specs.Lookup.{orElse}
@@ -137,7 +137,7 @@ module _ (lo hi : ℕ) (full : hi ≤ allKeys) (r : ℕ) (below : ℕ → Option
           (λ k a i. go k a (has k (keep (λ j. not (g j)) D)) (sym (e k) ∙ i))
         where
           go : (k a : ℕ) (t : Bool) → cond t none (below k) ≡ some a → rankKey k < r
-          go k a true i = absurd (some≢none (sym i))
+          go k a true i = absurd (Option·none-ne-some _ i)
           go k a false i = h .deep k a i
 
       pub pushed-D : ((k : ℕ) → below′ k ≡ cond (has k (keep (λ j. not (g j)) D)) none (below k)) → (k : ℕ) → say P I (keep g D) k (below′ k) ≡ say P I D k (below k)

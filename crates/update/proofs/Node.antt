@@ -4,7 +4,7 @@ use mathlib.Core.Path.{_≡_, refl, ap, sym, _∙_}
 use mathlib.Core.Logic.{_⊎_, ⊎-elim}
 use mathlib.Core.Bool.{true, false≢true}
 use mathlib.Core.List.{List, [], _∷_, _++_, List·Memᴰ, List·Memᴰ·head, List·Memᴰ·tail, List·Memᴰ·not-nil, List·Memᴰ·cases-cons, Memᴰ·append-left, Memᴰ·append-right, List·Memᴰ·append-cases}
-use mathlib.Core.Option.{Option, none, some}
+use mathlib.Core.Option.{Option, none, some, Option·some-ne-none}
 use Prim.Native.Nat.{ℕ, zero, suc, _<_, _≤_}
 use native.Mathlib.Omega.{arith}
 use borrow.Author.Tests.{eqb-true, ltb-true, lt-ltb}
@@ -14,7 +14,6 @@ use Rattle.octets.proofs.Sets.{distinct-split, distinct-join}
 use Rattle.octets.proofs.Rising.{rising-distinct}
 use Rattle.spot.specs.Spots.{keys}
 use Rattle.spot.specs.Keys.{rankKey, within}
-use Rattle.spot.proofs.Canon.{some≢none}
 use Rattle.spot.proofs.Buffers.{mem-find}
 use Rattle.block.specs.declared.Entry.{Entry}
 use Rattle.block.specs.Node.{Node, Store}
@@ -131,7 +130,7 @@ module _ (l : ℕ) (m : Store) (p : Part) (n : Node) (s : every (soundAt l m) (c
   -- so it is ready
   pub ready-lowest : Rules l p n → lowest n ≡ true → Ready (p .lo) (p .hi) 0 (n .points) (n .inserts) (n .deletes) (beneath l m p n)
   ready-lowest h e =
-      ready-by h 0 (λ k j. omega arith) (λ k j. absurd (has-insert n j e)) (λ k j. absurd (has-delete n j e)) (λ k a f. absurd (some≢none (sym f ∙ nothing-below e k)))
+      ready-by h 0 (λ k j. omega arith) (λ k j. absurd (has-insert n j e)) (λ k j. absurd (has-delete n j e)) (λ k a f. absurd (Option·some-ne-none _ (sym f ∙ nothing-below e k)))
 
   -- FINISH
   pub rules-back : Steps (p .lo) (p .hi) (n .entries) → (r : ℕ) → Ready (p .lo) (p .hi) r (n .points) (n .inserts) (n .deletes) (beneath l m p n) → Rules l p n

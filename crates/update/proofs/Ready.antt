@@ -4,7 +4,7 @@ use mathlib.Core.Path.{_≡_, refl, ap, sym, _∙_}
 use mathlib.Core.Logic.{_⊎_, inl, inr, ⊎-elim}
 use mathlib.Core.Bool.{Bool, true, false, not, cond, _||_}
 use mathlib.Core.List.{List, [], List·Memᴰ, List·Memᴰ·not-nil}
-use mathlib.Core.Option.{Option, none, some}
+use mathlib.Core.Option.{Option, none, some, Option·some-ne-none}
 use Prim.Native.Nat.{ℕ, suc, _<_, _≤_}
 use native.Mathlib.Omega.{arith}
 use lib.Dec.{eqb}
@@ -18,7 +18,7 @@ use Rattle.spot.specs.declared.Spot.{Spot}
 use Rattle.spot.specs.Spots.{keys, find, put}
 use Rattle.spot.specs.Keys.{rankKey, allKeys, within}
 use Rattle.spot.specs.Sorted.{only, insertKey, but, lower}
-use Rattle.spot.proofs.Canon.{cond-none, some≢none, find-put, find-only}
+use Rattle.spot.proofs.Canon.{cond-none, find-put, find-only}
 use Rattle.spot.proofs.Places.{within-to}
 use Rattle.spot.proofs.Halves.{rank-strict}
 use Rattle.spot.proofs.Buffers.{only-rises, only-mem, find-mem, find-none, put-mem, put-up}
@@ -101,7 +101,7 @@ module _ (lo hi : ℕ) (full : hi ≤ allKeys) where
       deep′ k a e = go (same-or-not k t)
         where
           go : (k ≡ t) ⊎ (k ≡ t → ⊥) → rankKey k < rankKey t
-          go (inl i) = absurd (some≢none (sym e ∙ ap below′ i ∙ gone))
+          go (inl i) = absurd (Option·some-ne-none _ (sym e ∙ ap below′ i ∙ gone))
           go (inr n) = strict k t (inn k a e) wt n (best k a (sym (stays k n) ∙ e))
 
       -- t, and nothing else, may come to P; all others are under it

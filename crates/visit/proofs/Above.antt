@@ -3,26 +3,25 @@
 use mathlib.Core.Path.{_≡_, refl, sym, ap, ap₂, subst, _∙_}
 use mathlib.Core.Logic.{_⊎_, inl, inr, ⊎-elim}
 use mathlib.Core.Bool.{Bool, true, not, _&&_, _||_}
-use mathlib.Core.List.{List, [], _∷_, _++_, List·Memᴰ, List·Memᴰ·head, List·Memᴰ·tail, List·Memᴰ·not-nil, List·Memᴰ·cases-cons, List·Memᴰ·append-cases, Memᴰ·append-left, Memᴰ·append-right}
-use Prim.Native.Nat.{ℕ, zero, suc, _+_, _*_, _≤_, _<_}
+use mathlib.Core.List.{List, [], _∷_, _++_, List·Memᴰ, List·Memᴰ·head, List·Memᴰ·tail, List·Memᴰ·not-nil, List·Memᴰ·append-cases, Memᴰ·append-left, Memᴰ·append-right}
+use Prim.Native.Nat.{ℕ, suc, _+_, _*_, _≤_, _<_}
 use native.Mathlib.Numerals.{add-one}
 use native.Mathlib.Omega.{arith}
 use lib.Dec.{leb, eqb}
 use lib.ListN.{length, take, drop}
 use borrow.Author.Tests.{leb-true, eqb-false, not-true}
-use Rattle.octets.specs.Lists.{all, has, records, isEmpty}
+use Rattle.octets.specs.Lists.{all, has, isEmpty}
 use Rattle.octets.specs.Bytes.{be}
 use Rattle.octets.proofs.Order.{same-or-not}
-use Rattle.octets.proofs.Lists.{mem-drop}
+use Rattle.octets.proofs.Lists.{mem-drop, mem-same}
 use Rattle.octets.proofs.Tests.{all-at, every-mem, or-either, or-swap, empty-list, keep-same}
 use Rattle.octets.proofs.Sets.{has-append, has-not}
 use Rattle.spot.specs.Keys.{allKeys, rankKey}
-use Rattle.spot.specs.Spots.{keyAt, spotAt, keys}
+use Rattle.spot.specs.Spots.{keys}
 use Rattle.spot.specs.Query.{wantsKey}
 use Rattle.spot.specs.declared.Spot.{Spot}
 use Rattle.spot.specs.declared.Query.{Query}
-use Rattle.spot.proofs.Buffers.{keys-mem}
-use Rattle.spot.proofs.Card.{keyAt-lt}
+use Rattle.spot.proofs.Buffers.{keys-mem, keys-records, keys-small}
 use Rattle.spot.proofs.Halves.{rank-small}
 use Rattle.block.specs.declared.Entry.{Entry}
 use Rattle.block.specs.declared.Asked.{Asked}
@@ -67,16 +66,12 @@ named-waiting t p top k a h = named-by (storeOf t) k (above p) (λ b i j. let l 
 
 -- ---- a node under its ceiling
 
-key-small : (s : List ℕ) (w n at : ℕ) {k : ℕ} → List·Memᴰ k (keys (records (spotAt s) w n at)) → k < allKeys
-unfolding spotAt
-key-small s w zero at i = absurd (List·Memᴰ·not-nil i)
-key-small s w (suc n) at {k} i =
-    ⊎-elim (λ (e : k ≡ keyAt s at). rw e (keyAt-lt s at)) (λ j. key-small s w n (at + w) j) (List·Memᴰ·cases-cons i)
-
 -- the keys of P in a table are of 64 bits
 points-small : (t : List ℕ) (b k : ℕ) → List·Memᴰ k (keys (storeOf t b .points)) → k < allKeys
 unfolding storeOf nodeOf nodeFrom
-points-small t b k i = key-small (block t b) 12 (be 1 (block t b) 4) (pointsFrom version1 (be 1 (block t b) 7)) i
+points-small t b k i =
+    let s : List ℕ = block t b in
+    keys-small s 12 (be 1 s 4) (pointsFrom version1 (be 1 s 7)) (mem-same (keys-records s 12 (be 1 s 4) (pointsFrom version1 (be 1 s 7))) i)
 
 -- P is no higher than the top of the entry that leads to it
 points-below : (a : Asked) (n : Node) (k : ℕ) → agrees a n ≡ true → List·Memᴰ k (keys (n .points)) → k < allKeys → rankKey k ≤ ceiling a
@@ -179,7 +174,7 @@ above-root t p top e =
 -- ---- the children of a node, one after the other
 
 -- the next child, and the parts that follow it
-first-part : (e : Entry) (lo : ℕ) (span : Span) (es : List Entry)
+pub first-part : (e : Entry) (lo : ℕ) (span : Span) (es : List Entry)
     → let s : Span = record { lo = lo; hi = nextLow es (span .hi); endless = isEmpty es && span .endless } in
     parts lo (endOf span) (e ∷ es) ≡ partOf (e .block) (Child e) s ∷ parts (s .hi) (endOf span) es
 first-part e lo span [] = refl

@@ -1,7 +1,8 @@
 -- `build::put_own` meets its contract: what is stored is a node as a rebuild leaves it.
 -- Assumes nothing.
+use Rattle.spot.specs.Spots.{spotsFrom}
 use Rattle.rebuild.specs.Build.{band}
-use Rattle.build.specs.Building.{spotsOf, limitOf}
+use Rattle.build.specs.Building.{limitOf}
 use Rattle.build.proofs.Own.{own-storable, own-put}
 use borrow.Author.Needs.{needs}
 use Rattle.build.proofs.put_own.Statement.{statement}
@@ -37,7 +38,7 @@ same-length c = search needs
 returns : tie.Need-returns
 returns c =
     let a = c .before .before .before .before .before .before .before .before .before .before .before .before .args in
-    own-put (a .level) (a .es) (c .before .before .before .before .before .before .before .before .open-first .result) (c .before .before .before .before .before .before .before .before .before .take-band .result) (c .before .before .before .before .before .before .before .empty .result) (c .before .before .before .before .before .before .empty-keys .result) (c .before .before .before .before .before .before .before .before .open-first .ensures .0) (c .before .before .before .before .before .before .before .before .open-first .ensures .1) (c .before .before .before .before .before .before .before .empty .ensures .0) (c .before .before .before .before .before .before .empty-keys .ensures .0) {ps = band (a .cut) (limitOf (a .limit)) (spotsOf (a .list .now) (a .from) (a .n))} (c .before .before .before .before .put-node .ensures) (c .before .before .before .before .before .before .before .before .before .take-band .ensures .1) (c .before .first-key .ensures) (c .entry-for .ensures)
+    own-put (a .level) (a .es) (c .before .before .before .before .before .before .before .before .open-first .result) (c .before .before .before .before .before .before .before .before .before .take-band .result) (c .before .before .before .before .before .before .before .empty .result) (c .before .before .before .before .before .before .empty-keys .result) (c .before .before .before .before .before .before .before .before .open-first .ensures .0) (c .before .before .before .before .before .before .before .before .open-first .ensures .1) (c .before .before .before .before .before .before .before .empty .ensures .0) (c .before .before .before .before .before .before .empty-keys .ensures .0) {ps = band (a .cut) (limitOf (a .limit)) (spotsFrom (a .list .now) (a .from) (a .n))} (c .before .before .before .before .put-node .ensures) (c .before .before .before .before .before .before .before .before .before .take-band .ensures .1) (c .before .first-key .ensures) (c .entry-for .ensures)
 
 pub put-own-spec : {M : Type 1} → statement M
 put-own-spec =

@@ -2,13 +2,12 @@
 -- Assumes nothing.
 use Rattle.table.proofs.Topping.{top-short, top-lent, top-zero, top-broken, top-many, top-few, top-wide, still-whole, top-asks}
 use Rattle.table.proofs.Answering.{map-is}
-use Rattle.tree.proofs.MapBits.{zeros-length}
 use borrow.Author.Tests.{not-true, not-false, ne-eqb, eq-eqb}
 use mir.ValLaws.{toZ-ofZ}
 use mir.Syntax.{w32}
 use denote.Ref.{now}
 use lib.ListN.{length, length-replicate}
-use Prim.Native.Nat.{zero}
+use Prim.Native.Nat.{ℕ, zero}
 use mathlib.Core.Path.{_≡_, refl, sym, _∙_}
 use borrow.Author.Needs.{needs}
 use native.Mathlib.Omega.{arith}
@@ -92,7 +91,7 @@ slice-aggregate-copy-2 : tie.Need-slice-aggregate-copy-2
 slice-aggregate-copy-2 c = search needs
 
 copy-requires-2 : tie.Need-copy-requires-2
-copy-requires-2 c κs = (omega (arith, c .before .before .before .before .before .before .before .before .before .before .before .before .before .top-run .kept .1 .0, zeros-length 512), omega arith)
+copy-requires-2 c κs = (omega (arith, c .before .before .before .before .before .before .before .before .before .before .before .before .before .top-run .kept .1 .0, length-replicate {A = ℕ} 512 0), omega arith)
 
 cast-t34 : tie.Need-cast-t34
 cast-t34 c = omega (arith, c .before .before .before .before .before .before .before .before .before .before .if6 .taken)
@@ -108,7 +107,7 @@ returns-6 c =
     let mapped : length (now (c .before .before .before .before .before .before .before .before .before .before .before .before .before .before .before .before .before .before .before .before .before .before .before .before .before .before .before .args .read-map)) ≡ 512 = omega arith in
     let v = (c .before .before .before .before .before .before .before .before .before .before .before .before .before .before .before .before .top-run .ensures .ends (c .before .before .before .before .before .before .before .before .before .before .before .before .before .before .before .before .before .before .before .before .before .before .before .before .before .before .before .args .x1) (c .before .before .before .before .before .before .before .before .before .before .before .before .before .before .before .before .before .before .before .before .before .before .before .before .before .before .before .args .x2) (top-asks (c .before .before .before .before .before .before .before .before .before .before .before .before .before .before .before .before .before .before .before .before .before .before .before .before .before .before .before .args .x1) (c .before .before .before .before .before .before .before .before .before .before .before .before .before .before .before .before .before .before .before .before .before .before .before .before .before .before .before .args .x2) _ _ _ (toZ-ofZ w32 _ (c .before .before .before .before .before .before .before .before .before .before .before .before .before .before .before .before .before .before .before .before .before .before .before .before .before .before .before .fits .x1)) (toZ-ofZ w32 _ (c .before .before .before .before .before .before .before .before .before .before .before .before .before .before .before .before .before .before .before .before .before .before .before .before .before .before .before .fits .x2)) (c .before .before .before .before .before .before .before .before .before .before .before .before .before .before .before .before .before .before .before .top-query .ensures)) (not-false _ (c .before .before .before .before .before .before .before .before .before .before .before .before .if4 .left))) in
     top-few (c .before .before .before .before .before .before .before .before .before .before .before .before .before .before .before .before .before .before .before .before .before .before .before .before .before .before .before .args .x1) (c .before .before .before .before .before .before .before .before .before .before .before .before .before .before .before .before .before .before .before .before .before .before .before .before .before .before .before .args .x2) (c .before .before .before .before .before .before .before .before .before .before .before .before .before .before .before .before .before .before .before .before .before .before .before .before .before .before .before .args .k) (now (c .before .before .before .before .before .before .before .before .before .before .before .before .before .before .before .before .before .before .before .before .before .before .before .before .before .before .before .args .table)) (now (c .before .before .before .before .before .before .before .before .before .before .before .before .before .before .before .before .before .before .before .before .before .before .before .before .before .before .before .args .output)) (now (c .before .before .before .before .before .before .before .before .before .before .before .before .before .before .before .before .before .before .before .before .before .before .before .before .before .before .before .args .read-map)) (sym (c .before .before .before .before .before .before .before .before .before .before .before .before .before .before .before .before .before .before .before .before .before .before .before .sized .ensures) ∙ not-false _ (c .before .before .before .before .before .before .before .before .before .before .before .before .before .before .before .before .before .before .before .before .before .before .if1 .left)) (eq-eqb (length (now (c .before .before .before .before .before .before .before .before .before .before .before .before .before .before .before .before .before .before .before .before .before .before .before .before .before .before .before .args .read-map))) 512 mapped) _ _ (v .base) _ _ _ _ (v .ended) (c .before .before .before .before .before .before .before .before .before .before .if6 .taken) (c .before .before .before .before .before .before .before .before .before .before .before .if5 .left) refl (c .before .before .before .before .before .before .before .copy .ensures)
-    (map-is _ (now (c .before .before .before .before .before .before .before .before .before .before .before .before .before .before .before .before .before .before .before .before .before .before .before .before .before .before .before .args .read-map)) _ _ (c .before .before .before .before .before .before .before .before .before .before .before .before .before .before .before .before .top-run .kept .1 .0 ∙ zeros-length 512) mapped refl (c .before .before .copy2 .ensures))
+    (map-is _ (now (c .before .before .before .before .before .before .before .before .before .before .before .before .before .before .before .before .before .before .before .before .before .before .before .before .before .before .before .args .read-map)) _ _ (c .before .before .before .before .before .before .before .before .before .before .before .before .before .before .before .before .top-run .kept .1 .0 ∙ length-replicate {A = ℕ} 512 0) mapped refl (c .before .before .copy2 .ensures))
 
 slice-aggregate-top-run-3 : tie.Need-slice-aggregate-top-run-3
 slice-aggregate-top-run-3 c = search needs
@@ -129,7 +128,7 @@ slice-aggregate-copy-3 : tie.Need-slice-aggregate-copy-3
 slice-aggregate-copy-3 c = search needs
 
 copy-requires-3 : tie.Need-copy-requires-3
-copy-requires-3 c κs = (omega (arith, c .before .before .before .before .before .top-run2 .kept .1 .0, zeros-length 512), omega arith)
+copy-requires-3 c κs = (omega (arith, c .before .before .before .before .before .top-run2 .kept .1 .0, length-replicate {A = ℕ} 512 0), omega arith)
 
 cast-t45 : tie.Need-cast-t45
 cast-t45 c = let v = (c .before .before .before .before .before .before .before .before .before .before .before .before .before .before .before .before .before .top-run .ensures .ends (c .before .before .before .before .before .before .before .before .before .before .before .before .before .before .before .before .before .before .before .before .before .before .before .before .before .before .before .before .args .x1) (c .before .before .before .before .before .before .before .before .before .before .before .before .before .before .before .before .before .before .before .before .before .before .before .before .before .before .before .before .args .x2) (top-asks (c .before .before .before .before .before .before .before .before .before .before .before .before .before .before .before .before .before .before .before .before .before .before .before .before .before .before .before .before .args .x1) (c .before .before .before .before .before .before .before .before .before .before .before .before .before .before .before .before .before .before .before .before .before .before .before .before .before .before .before .before .args .x2) _ _ _ (toZ-ofZ w32 _ (c .before .before .before .before .before .before .before .before .before .before .before .before .before .before .before .before .before .before .before .before .before .before .before .before .before .before .before .before .fits .x1)) (toZ-ofZ w32 _ (c .before .before .before .before .before .before .before .before .before .before .before .before .before .before .before .before .before .before .before .before .before .before .before .before .before .before .before .before .fits .x2)) (c .before .before .before .before .before .before .before .before .before .before .before .before .before .before .before .before .before .before .before .before .top-query .ensures)) (not-false _ (c .before .before .before .before .before .before .before .before .before .before .before .before .before .if4 .left))) in omega (arith, v .ended .few, c .before .before .before .before .before .before .before .before .before .before .before .before .before .before .before .before .before .before .before .before .before .before .before .before .before .before .before .before .fits .k)
@@ -149,7 +148,7 @@ returns-7 c =
     (c .before .before .before .before .before .before .before .before .top-run2 .ensures .ends (c .before .before .before .before .before .before .before .before .before .before .before .before .before .before .before .before .before .before .before .before .before .before .before .before .before .before .before .before .args .x1) (c .before .before .before .before .before .before .before .before .before .before .before .before .before .before .before .before .before .before .before .before .before .before .before .before .before .before .before .before .args .x2) asks (still-whole (c .before .before .before .before .before .before .before .before .before .before .before .before .before .before .before .before .before .before .before .before .before .before .before .before .before .before .before .before .args .x1) (c .before .before .before .before .before .before .before .before .before .before .before .before .before .before .before .before .before .before .before .before .before .before .before .before .before .before .before .before .args .x2) (c .before .before .before .before .before .before .before .before .before .before .before .before .before .before .before .before .before .before .before .before .before .before .before .before .before .before .before .before .args .k) (now (c .before .before .before .before .before .before .before .before .before .before .before .before .before .before .before .before .before .before .before .before .before .before .before .before .before .before .before .before .args .table)) (now (c .before .before .before .before .before .before .before .before .before .before .before .before .before .before .before .before .before .before .before .before .before .before .before .before .before .before .before .before .args .output)) (now (c .before .before .before .before .before .before .before .before .before .before .before .before .before .before .before .before .before .before .before .before .before .before .before .before .before .before .before .before .args .read-map)) (sym (c .before .before .before .before .before .before .before .before .before .before .before .before .before .before .before .before .before .before .before .before .before .before .before .before .sized .ensures) ∙ not-false _ (c .before .before .before .before .before .before .before .before .before .before .before .before .before .before .before .before .before .before .before .before .before .before .before .if1 .left)) (eq-eqb (length (now (c .before .before .before .before .before .before .before .before .before .before .before .before .before .before .before .before .before .before .before .before .before .before .before .before .before .before .before .before .args .read-map))) 512 mapped) (v .ended .done) asks (c .before .before .before .before .before .before .before .before .top-run2 .ensures)))
     (c .before .before .before .before .before .before .before .before .before .before .before .before .if5 .left)
     refl
-    (map-is _ (now (c .before .before .before .before .before .before .before .before .before .before .before .before .before .before .before .before .before .before .before .before .before .before .before .before .before .before .before .before .args .read-map)) _ _ (c .before .before .before .before .before .before .before .before .top-run2 .kept .1 .0 ∙ zeros-length 512) mapped refl (c .before .before .copy3 .ensures))
+    (map-is _ (now (c .before .before .before .before .before .before .before .before .before .before .before .before .before .before .before .before .before .before .before .before .before .before .before .before .before .before .before .before .args .read-map)) _ _ (c .before .before .before .before .before .before .before .before .top-run2 .kept .1 .0 ∙ length-replicate {A = ℕ} 512 0) mapped refl (c .before .before .copy3 .ensures))
 
 pub top-spec : {M : Type 1} → statement M
 top-spec =

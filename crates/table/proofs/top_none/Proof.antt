@@ -3,13 +3,14 @@
 use Rattle.table.proofs.Topping.{map-none}
 use Rattle.table.proofs.Answering.{map-is}
 use Rattle.query.proofs.Roots.{sized-long}
-use Rattle.tree.proofs.MapBits.{zeros-length}
 use borrow.Author.Tests.{not-true, not-false}
 use denote.Ref.{now}
 use mathlib.Core.Logic.{inl, inr}
 use mathlib.Core.Path.{refl, sym, _∙_}
+use Prim.Native.Nat.{ℕ}
 use borrow.Author.Needs.{needs}
 use native.Mathlib.Omega.{arith}
+use lib.ListN.{length-replicate}
 use Rattle.table.proofs.top_none.Statement.{statement}
 use Rattle.table.proofs.top_none.Tie as tie
 
@@ -32,7 +33,7 @@ slice-aggregate-copy : tie.Need-slice-aggregate-copy
 slice-aggregate-copy c = search needs
 
 copy-requires : tie.Need-copy-requires
-copy-requires c κs = (omega (arith, c .before .before .before .set-bit .kept .0, zeros-length 512), omega (arith, c .before .before .before .before .before .before .before .before .before .pre .1))
+copy-requires c κs = (omega (arith, c .before .before .before .set-bit .kept .0, length-replicate {A = ℕ} 512 0), omega (arith, c .before .before .before .before .before .before .before .before .before .pre .1))
 
 refuse-requires-2 : tie.Need-refuse-requires-2
 refuse-requires-2 c κs = search needs
@@ -45,7 +46,7 @@ returns-2 c =
     inr (
       sym (c .before .before .before .before .before .before .before .before .before .before .header-ok .ensures) ∙ not-false _ (c .before .before .before .before .before .before .before .before .before .if1 .left),
       c .refuse2 .ensures,
-      map-is _ (now (c .before .before .before .before .before .before .before .before .before .before .before .before .before .args .read-map)) _ _ (c .before .before .before .before .before .before .before .set-bit .kept .0 ∙ zeros-length 512) (c .before .before .before .before .before .before .before .before .before .before .before .before .before .pre .1) (c .before .before .before .before .before .before .before .set-bit .ensures ∙ map-none) (c .before .before .before .copy .ensures),
+      map-is _ (now (c .before .before .before .before .before .before .before .before .before .before .before .before .before .args .read-map)) _ _ (c .before .before .before .before .before .before .before .set-bit .kept .0 ∙ length-replicate {A = ℕ} 512 0) (c .before .before .before .before .before .before .before .before .before .before .before .before .before .pre .1) (c .before .before .before .before .before .before .before .set-bit .ensures ∙ map-none) (c .before .before .before .copy .ensures),
     )
 
 pub top-none-spec : {M : Type 1} → statement M

@@ -5,7 +5,7 @@ use native.Mathlib.Omega.{arith}
 use lib.Seq.{length-take-le}
 use denote.Ref.{now}
 use borrow.Author.Needs.{needs}
-use Rattle.text.specs.Reading.{alike}
+use Rattle.octets.specs.Lists.{sameList}
 use Rattle.text.proofs.Written.{text-of}
 use Rattle.text.proofs.prints.Statement.{statement}
 use Rattle.text.proofs.prints.Tie as tie
@@ -30,7 +30,7 @@ same-requires c κs = search needs
 returns : tie.Need-returns
 returns c =
     let l = now (c .before .before .before .before .before .before .args .line) in
-    c .same .ensures ∙ ap (alike l) (text-of _ _ _ 37 (c .before .before .before .write-command .result) (c .before .before .before .write-command .ensures))
+    c .same .ensures ∙ ap (sameList l) (text-of _ _ _ 37 (c .before .before .before .write-command .result) (c .before .before .before .write-command .ensures))
 
 pub prints-spec : {M : Type 1} → statement M
 prints-spec =

@@ -1,23 +1,23 @@
--- `text::same` meets its contract. The invariant: what is left of the two is alike exactly if the whole is.
+-- `text::same` meets its contract. The invariant: what is left of the two is the same exactly if the whole is.
 -- Assumes nothing.
 use mathlib.Core.Path.{_≡_, refl, sym, _∙_}
 use Prim.Native.Nat.{_-_, _≤_}
 use native.Mathlib.Omega.{arith}
 use lib.ListN.{length, drop}
 use denote.Ref.{now}
-use Rattle.text.specs.Reading.{alike}
-use Rattle.text.proofs.Scans.{alike-lengths, alike-next, alike-differ, alike-end}
+use Rattle.octets.specs.Lists.{sameList}
+use Rattle.text.proofs.Scans.{same-lengths, same-next, same-differ, same-end}
 use Rattle.text.proofs.same.Statement.{statement}
 use Rattle.text.proofs.same.Tie as tie
 
 abbrev Inv-loop : tie.InvT-loop
-Inv-loop a b i₀ i = (i ≤ length a) × (alike (drop i a) (drop i b) ≡ alike a b)
+Inv-loop a b i₀ i = (i ≤ length a) × (sameList (drop i a) (drop i b) ≡ sameList a b)
 
 abbrev μ-loop : tie.MeasureT-loop
 μ-loop a b i₀ i = length a - i
 
 returns : tie.Need-returns Inv-loop μ-loop
-returns c = sym (alike-lengths (now (c .before .args .a)) (now (c .before .args .b)) (c .if1 .taken))
+returns c = sym (same-lengths (now (c .before .args .a)) (now (c .before .args .b)) (c .if1 .taken))
 
 loop-holds : tie.Need-loop-holds Inv-loop μ-loop
 loop-holds c = (omega arith, refl)
@@ -32,7 +32,7 @@ returns-2 : tie.Need-returns-2 Inv-loop μ-loop
 returns-2 c =
     let a = c .before .before .before .before .before .before .args in
     let l = c .before .before .before .before .loop in
-    sym (alike-differ (now (a .a)) (now (a .b)) (l .i) (c .before .before .before .loop-test .taken) (omega arith) (c .if2 .taken)) ∙ l .inv .1
+    sym (same-differ (now (a .a)) (now (a .b)) (l .i) (c .before .before .before .loop-test .taken) (omega arith) (c .if2 .taken)) ∙ l .inv .1
 
 add-i : tie.Need-add-i Inv-loop μ-loop
 add-i c = omega arith
@@ -44,13 +44,13 @@ loop-again : tie.Need-loop-again Inv-loop μ-loop
 loop-again c =
     let a = c .before .before .before .before .before .before .args in
     let l = c .before .before .before .before .loop in
-    (omega arith, alike-next (now (a .a)) (now (a .b)) (l .i) (c .before .before .before .loop-test .taken) (omega arith) (c .if2 .left) ∙ l .inv .1)
+    (omega arith, same-next (now (a .a)) (now (a .b)) (l .i) (c .before .before .before .loop-test .taken) (omega arith) (c .if2 .left) ∙ l .inv .1)
 
 returns-3 : tie.Need-returns-3 Inv-loop μ-loop
 returns-3 c =
     let a = c .before .before .before .args in
     let l = c .before .loop in
-    sym (alike-end (now (a .a)) (now (a .b)) (l .i) (c .loop-test .left) (omega arith)) ∙ l .inv .1
+    sym (same-end (now (a .a)) (now (a .b)) (l .i) (c .loop-test .left) (omega arith)) ∙ l .inv .1
 
 pub same-spec : {M : Type 1} → statement M
 same-spec =

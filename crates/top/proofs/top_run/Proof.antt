@@ -1,9 +1,9 @@
 -- `top::top_run` meets its contract: few slots are enough, or all are taken.
 -- Assumes nothing.
 use mathlib.Core.Path.{refl, ap, _∙_}
-use lib.ListN.{length}
+use Prim.Native.Nat.{ℕ}
+use lib.ListN.{length, length-replicate}
 use borrow.Author.Tests.{not-true}
-use Rattle.tree.proofs.MapBits.{zeros-length}
 use Rattle.top.proofs.Sweeps.{run-some, run-again, zeroed}
 use Rattle.top.proofs.Cleared.{look-ready}
 use borrow.Author.Needs.{needs}
@@ -42,7 +42,7 @@ returns : tie.Need-returns
 returns c = run-some (not-true _ (c .if1 .taken)) (c .before .before .before .before .before .before .before .before .before .before .before .before .look .ensures)
 
 zero-requires : tie.Need-zero-requires
-zero-requires c κs = omega (arith, c .before .before .before .before .before .before .before .before .before .before .before .before .before .look .kept .1 .0, ap length (c .before .before .before .before .before .before .before .before .before .before .before .before .before .before .before .before .before .before .before .before .before .before .before .before .before .pre .clear) ∙ zeros-length 512)
+zero-requires c κs = omega (arith, c .before .before .before .before .before .before .before .before .before .before .before .before .before .look .kept .1 .0, ap length (c .before .before .before .before .before .before .before .before .before .before .before .before .before .before .before .before .before .before .before .before .before .before .before .before .before .pre .clear) ∙ length-replicate {A = ℕ} 512 0)
 
 wide-run-requires : tie.Need-wide-run-requires
 wide-run-requires c κs =
@@ -52,7 +52,7 @@ wide-run-requires c κs =
       x2 = p .x2;
       asks = p .asks;
       sized = p .sized;
-      clear = zeroed (c .before .before .before .before .before .before .before .before .before .before .before .before .before .before .before .before .before .before .look .last .1 .0) (c .before .before .before .before .before .before .before .before .before .before .before .before .before .before .before .before .before .before .look .kept .1 .0 ∙ ap length (p .clear) ∙ zeros-length 512) (c .before .before .before .before .zero .ensures);
+      clear = zeroed (c .before .before .before .before .before .before .before .before .before .before .before .before .before .before .before .before .before .before .look .last .1 .0) (c .before .before .before .before .before .before .before .before .before .before .before .before .before .before .before .before .before .before .look .kept .1 .0 ∙ ap length (p .clear) ∙ length-replicate {A = ℕ} 512 0) (c .before .before .before .before .zero .ensures);
       some = p .some;
       fits = omega (arith, c .before .before .before .before .before .before .before .before .before .before .before .before .before .before .before .before .before .before .look .kept .1 .1 .1 .1 .0, p .fits);
     }
