@@ -1,15 +1,33 @@
-/* The spot table: calls over lent memory. A slice is a pointer and a length in bytes.
+/* The spot table: up to 65,520 spots (a place, a rank, a track number) in lent memory.
  *
- * Every call ends on any bytes and arguments and touches nothing but the memory lent to it. The answer is number * 2^32 + detail:
- *   0  accepted; detail is the number of spots (report, top, count), 1 or 0 (check), else 0
- *   1  the table is not 9 to 4,096 whole blocks of 2,048 bytes
- *   2  the read map isn't 512 bytes, or the work area is shorter than the table
- *   3  block 0, or a block that was read, breaks a rule of the layout
- *   4  add only: the table holds 16 spots for each block after block 0, and none of this identity
- *   5  more spots than output length div 12; detail is their number
- * After a refusal every lent byte is as it was, but for a work area after 3: its first table-length bytes are zero then, as after an accepted call.
+ * Every call ends on any bytes and arguments, touches nothing but the memory lent to it, allocates nothing and keeps nothing between calls.
  *
- * Nothing is allocated. Stack, as measured on tables of 4,096 blocks: 1.25 MB for spot_top, 0.5 MB for spot_add and spot_withdraw, 32 KB for the others.
+ * Lent memory. A slice is a pointer and a length in bytes.
+ *   - The slices of one call must not overlap. A work area that is the table destroys the table.
+ *   - During a call nothing else may write the table, the output, the read map or the work area; during spot_format, spot_add, spot_withdraw and spot_rebuild
+ *     nothing else may read the table either. Any number of calls may read one table at the same time.
+ *   - A pointer may be NULL only with length 0. The bytes need no alignment.
+ *
+ * The answer is number * 2^32 + detail (spot_number, spot_detail). Number 0 is an accepted call; detail is the number of spots for spot_report, spot_top and spot_count,
+ * 1 or 0 for spot_check's yes or no, else 0. The other numbers are refusals (enum spot_error), asked in their order. After a refusal every lent byte is as it was, but for
+ * a work area after 3: its first table-length bytes are zero then, as after an accepted call.
+ *
+ * The archive is for x86-64 Linux. Of the C library it needs memcpy, memmove, memset and memcmp at most.
+ *
+ * The format of a table is version 1 (byte 4 of block 0). Tables of version 1 stay readable and writable by all later versions of this library; another layout would
+ * have another version number, which this library refuses with 3.
+ *
+ * What a call costs, in blocks of 2,048 bytes; h is the number of levels, 1 to 7:
+ *   spot_format     writes every block.
+ *   spot_count      reads block 0 and every node block that has spots.
+ *   spot_check      reads block 0 and every node block.
+ *   spot_report     reads at most 1 + 36h + 9 * (spots div 16) blocks on a sound table, and marks exactly those; each twice, to count and to write.
+ *   spot_top        reads the blocks of the report from the lowest rank that it gives; once up to 1,024 spots, twice above.
+ *   spot_add        reads block 0 and the h blocks on the way down, and writes block 0 and the root where the root has room. Where it has none, changes go down in batches:
+ *   spot_withdraw   some more blocks a level. Rarely, where no block is spare, all is laid out anew as by spot_rebuild. Both zero as much of the work area as the table is
+ *                   long, which is most of their time on a large table. A withdrawal that finds nothing writes nothing to the table.
+ *   spot_rebuild    reads every node block that has spots and writes as many as the spots need.
+ * Memory: the output takes 12 bytes for each spot, the read map 512, the work area as many as the table has. Stack: SPOT_STACK_... below.
  */
 #ifndef SPOT_TABLE_H
 #define SPOT_TABLE_H
@@ -21,12 +39,89 @@
 extern "C" {
 #endif
 
+#define SPOT_VERSION "0.1.0"
+#define SPOT_FORMAT_VERSION 1
+
 #define SPOT_BLOCK_BYTES 2048
+#define SPOT_FEWEST_BLOCKS 9
+#define SPOT_MOST_BLOCKS 4096
 #define SPOT_BYTES 12
 #define SPOT_MAP_BYTES 512
 
+/* Bytes of stack that suffice for a call on any table, return address included. measure/stack computes them from the built archive and fails where one is too low. */
+#define SPOT_STACK_FORMAT 8192
+#define SPOT_STACK_COUNT 8192
+#define SPOT_STACK_CHECK 8192
+#define SPOT_STACK_REPORT 8192
+#define SPOT_STACK_TOP 1236992
+#define SPOT_STACK_ADD 409600
+#define SPOT_STACK_WITHDRAW 409600
+#define SPOT_STACK_REBUILD 32768
+
+enum spot_error {
+    SPOT_OK = 0,
+    /* the table is not a whole number of blocks, or has under 9 or over 4,096 */
+    SPOT_TABLE_LENGTH = 1,
+    /* the read map isn't 512 bytes, or the work area is shorter than the table */
+    SPOT_LENT_LENGTH = 2,
+    /* block 0, or a node block that is read, breaks a rule that it and the entry leading to it can show; never on a sound table. A call reads only some blocks, so an
+     * answer of 0 doesn't say that the table is sound: spot_check does */
+    SPOT_BROKEN = 3,
+    /* spot_add only: 16 live spots for each block after the first, and the new place and rank not among them */
+    SPOT_FULL = 4,
+    /* spot_report and spot_top only: more spots than output length div 12; detail is their number */
+    SPOT_OUTPUT = 5
+};
+
+struct spot {
+    int32_t place;
+    int32_t rank;
+    uint32_t track;
+};
+
 static inline uint32_t spot_number(uint64_t answer) { return (uint32_t)(answer >> 32); }
-static inline uint32_t spot_detail(uint64_t answer) { return (uint32_t)answer; }
+static inline uint32_t spot_detail(uint64_t answer) { return (uint32_t)(answer & 0xffffffffu); }
+
+/* What a number says, in words. */
+static inline const char *spot_error_text(uint32_t number) {
+    switch (number) {
+    case SPOT_OK: return "accepted";
+    case SPOT_TABLE_LENGTH: return "the table is not 9 to 4,096 whole blocks of 2,048 bytes";
+    case SPOT_LENT_LENGTH: return "the read map isn't 512 bytes, or the work area is shorter than the table";
+    case SPOT_BROKEN: return "block 0, or a block that was read, breaks a rule of the layout";
+    case SPOT_FULL: return "the table is full, and has no spot of this place and rank";
+    case SPOT_OUTPUT: return "there are more spots than the output has room for";
+    default: return "no number of the spot table";
+    }
+}
+
+/* The most live spots of a table of this many bytes. */
+static inline size_t spot_capacity(size_t table_len) {
+    return table_len < SPOT_BLOCK_BYTES ? 0 : 16 * (table_len / SPOT_BLOCK_BYTES - 1);
+}
+
+static inline uint32_t spot_read_u32(const uint8_t *bytes) {
+    return (uint32_t)bytes[0] << 24 | (uint32_t)bytes[1] << 16 | (uint32_t)bytes[2] << 8 | (uint32_t)bytes[3];
+}
+
+static inline int32_t spot_read_i32(const uint8_t *bytes) {
+    uint32_t v = spot_read_u32(bytes);
+    return v < 0x80000000u ? (int32_t)v : (int32_t)(v - 0x80000000u) - 2147483647 - 1;
+}
+
+/* The spot in 12 bytes of an output. */
+static inline struct spot spot_read(const uint8_t *bytes) {
+    struct spot s;
+    s.place = spot_read_i32(bytes);
+    s.rank = spot_read_i32(bytes + 4);
+    s.track = spot_read_u32(bytes + 8);
+    return s;
+}
+
+/* Whether a read map of 512 bytes marks the block: the bit of value 2^(block mod 8) in byte block div 8. No block from 4,096 on is marked. */
+static inline int spot_marked(const uint8_t *map, size_t block) {
+    return block < SPOT_MOST_BLOCKS && (map[block / 8] >> (block % 8) & 1) != 0;
+}
 
 /* Makes the empty table. */
 uint64_t spot_format(uint8_t *table, size_t table_len);
@@ -37,19 +132,19 @@ uint64_t spot_count(const uint8_t *table, size_t table_len);
 /* Detail 1 if the table is sound, else 0. */
 uint64_t spot_check(const uint8_t *table, size_t table_len);
 
-/* All live spots with x1 <= place <= x2 and rank >= y, rising in place order, 12 bytes each: place, rank, track, big-endian.
- * The read map marks the blocks read: block n is the bit of value 2^(n mod 8) in byte n div 8. */
+/* All live spots with x1 <= place <= x2 and rank >= y, rising in place order (by place, then by rank), 12 bytes each: place, rank, track, big-endian.
+ * The read map marks the blocks read. The rest of the output stays as it was. */
 uint64_t spot_report(const uint8_t *table, size_t table_len, int32_t x1, int32_t x2, int32_t y,
                      uint8_t *output, size_t output_len, uint8_t *read_map, size_t read_map_len);
 
-/* Of the live spots with x1 <= place <= x2 the k highest in rank order (by rank, then by place), highest first; output and read map as for spot_report. */
+/* Of the live spots with x1 <= place <= x2 the k highest in rank order (by rank, then by place), highest first; all, if fewer. Output and read map as for spot_report. */
 uint64_t spot_top(const uint8_t *table, size_t table_len, int32_t x1, int32_t x2, uint32_t k,
                   uint8_t *output, size_t output_len, uint8_t *read_map, size_t read_map_len);
 
 /* Puts the spot in; one of the same place and rank is replaced. */
 uint64_t spot_add(uint8_t *table, size_t table_len, uint8_t *work, size_t work_len, int32_t place, int32_t rank, uint32_t track);
 
-/* Takes out the spot of this place and rank; where there is none the spots stay as they are. */
+/* Takes out the spot of this place and rank; where there is none the spots stay as they are, and the call is accepted. */
 uint64_t spot_withdraw(uint8_t *table, size_t table_len, uint8_t *work, size_t work_len, int32_t place, int32_t rank);
 
 /* Lays the live spots out anew: no change waits in the table then. */

@@ -1,10 +1,10 @@
 //! Report, Count, Check and Format against the plain implementation, on sound tables in many arrangements and on damaged ones.
 
-use spot_table::reference::{make, read_by_report, some_spots, Random};
+use spot_reference::{make, read_by_report, some_spots, Random};
 use spot_table::*;
 
 fn marks(map: &[u8]) -> Vec<usize> {
-    (0..4096).filter(|b| map[b / 8] >> (b % 8) & 1 == 1).collect()
+    marked(map).collect()
 }
 
 fn ask(table: &[u8], x1: i32, x2: i32, y: i32, room: usize) -> (Answer, Vec<u8>, Vec<u8>) {
@@ -37,7 +37,7 @@ fn lengths() {
 #[test]
 fn wrong_maps() {
     let mut table = vec![0u8; 2048 * 9];
-    format(&mut table);
+    assert_eq!(format(&mut table), Answer::new(0, 0));
     for n in [0, 511, 513] {
         let mut map = vec![9u8; n];
         let mut out = vec![8u8; 12];
@@ -78,13 +78,13 @@ fn reports() {
             let room = 12 * due.len() + random.below(24);
             let (a, out, map) = ask(&made.table, x1, x2, y, room);
             assert_eq!(a, Answer::new(0, due.len() as u32), "round {round}: {x1} {x2} {y}");
-            assert_eq!(spot_table::spots(&out, due.len()), due);
+            assert_eq!(spot_table::spots(&out, due.len()).collect::<Vec<_>>(), due);
             assert!(out[12 * due.len()..].iter().all(|x| *x == 0xEE));
             let read: Vec<usize> = read_by_report(&made.table, x1, x2, y).into_iter().collect();
             assert_eq!(marks(&map), read);
             assert!(read.len() <= 1 + 36 * made.levels + 9 * (due.len() / 16));
             // a second table, equal in the marked blocks alone
-            let mut second: Vec<u8> = (0..made.table.len()).map(|_| random.next() as u8).collect();
+            let mut second: Vec<u8> = (0..made.table.len()).map(|_| random.draw() as u8).collect();
             for b in &read {
                 second[2048 * b..2048 * (b + 1)].copy_from_slice(&made.table[2048 * b..2048 * (b + 1)]);
             }
@@ -126,7 +126,7 @@ fn damaged() {
     }
     assert!(refused > 500);
     for _ in 0..200 {
-        let noise: Vec<u8> = (0..2048 * 12).map(|_| random.next() as u8).collect();
+        let noise: Vec<u8> = (0..2048 * 12).map(|_| random.draw() as u8).collect();
         assert_eq!(check(&noise), Answer::new(0, 0));
         assert_eq!(count(&noise), Answer::new(3, 0));
     }

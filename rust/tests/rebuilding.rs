@@ -1,6 +1,6 @@
 //! Rebuild against the plain implementation of soundness and of the live spots.
 
-use spot_table::reference::{make, some_spots, sound, Random};
+use spot_reference::{make, some_spots, sound, Random};
 use spot_table::*;
 
 #[test]
@@ -18,7 +18,7 @@ fn rebuilds() {
         assert_eq!(sound(&made.table).as_ref(), Ok(&made.live), "round {round}");
         assert_eq!(check(&made.table), Answer::new(0, 1));
         let extra = random.below(40);
-        let mut work: Vec<u8> = (0..made.table.len() + extra).map(|_| random.next() as u8).collect();
+        let mut work: Vec<u8> = (0..made.table.len() + extra).map(|_| random.draw() as u8).collect();
         let before = work.clone();
         assert_eq!(rebuild(&mut made.table, &mut work), Answer::new(0, 0));
         assert_eq!(sound(&made.table).as_ref(), Ok(&made.live), "round {round}, rebuilt");

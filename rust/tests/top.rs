@@ -1,10 +1,10 @@
 //! Top against the plain list and against the blocks that a Report at the last rank reads, on sound tables with and without waiting changes, and on damaged ones.
 
-use spot_table::reference::{make, read_by_report, some_spots, Made, Random};
+use spot_reference::{make, read_by_report, some_spots, Made, Random};
 use spot_table::*;
 
 fn marks(map: &[u8]) -> Vec<usize> {
-    (0..4096).filter(|b| map[b / 8] >> (b % 8) & 1 == 1).collect()
+    marked(map).collect()
 }
 
 fn ask(table: &[u8], x1: i32, x2: i32, k: u32, room: usize) -> (Answer, Vec<u8>, Vec<u8>) {
@@ -15,8 +15,12 @@ fn ask(table: &[u8], x1: i32, x2: i32, k: u32, room: usize) -> (Answer, Vec<u8>,
 
 /// The k highest of the range, highest first, by a plain sort.
 fn due(made: &Made, x1: i32, x2: i32, k: usize) -> Vec<Spot> {
-    let mut all: Vec<Spot> =
-        made.live.iter().filter(|(key, _)| x1 <= key.0 && key.0 <= x2).map(|(key, t)| Spot { place: key.0, rank: key.1, track: *t }).collect();
+    let mut all: Vec<Spot> = made
+        .live
+        .iter()
+        .filter(|(key, _)| x1 <= key.0 && key.0 <= x2)
+        .map(|(key, t)| Spot { place: key.0, rank: key.1, track: *t })
+        .collect();
     all.sort_by_key(|s| std::cmp::Reverse((s.rank, s.place)));
     all.truncate(k);
     all
@@ -34,7 +38,7 @@ fn places(random: &mut Random) -> (i32, i32) {
 #[test]
 fn lengths() {
     let mut table = vec![0u8; 2048 * 9];
-    format(&mut table);
+    assert_eq!(format(&mut table), Answer::new(0, 0));
     for n in [0, 511, 513] {
         let (mut out, mut map) = (vec![8u8; 12], vec![9u8; n]);
         assert_eq!(top(&table, 0, 1, 1, &mut out, &mut map), Answer::new(2, 0));
@@ -71,7 +75,7 @@ fn highest_first() {
             let room = 12 * want.len() + random.below(24);
             let (a, out, map) = ask(&made.table, x1, x2, k, room);
             assert_eq!(a, Answer::new(0, want.len() as u32), "round {round}: {x1} {x2} {k}");
-            assert_eq!(spot_table::spots(&out, want.len()), want, "round {round}: {x1} {x2} {k}");
+            assert_eq!(spot_table::spots(&out, want.len()).collect::<Vec<_>>(), want, "round {round}: {x1} {x2} {k}");
             assert!(out[12 * want.len()..].iter().all(|x| *x == 0xEE));
             let y = if want.len() == k as usize { want.last().map_or(i32::MIN, |s| s.rank) } else { i32::MIN };
             let mut read: Vec<usize> = if k == 0 { vec![] } else { read_by_report(&made.table, x1, x2, y).into_iter().collect() };
@@ -98,7 +102,7 @@ fn damaged() {
             // mostly in the front of a block, where the numbers stand
             let b = random.below(blocks);
             let at = if random.below(3) == 0 { random.below(2048) } else { random.below(300) };
-            made.table[2048 * b + at] = random.next() as u8;
+            made.table[2048 * b + at] = random.draw() as u8;
         }
         for _ in 0..10 {
             let (x1, x2) = places(&mut random);

@@ -1,8 +1,12 @@
 //! Add and Withdraw against a sorted map, the plain implementation of soundness, and the rule on what a roomy root lets change.
 
-use spot_table::histories::{next, spot, Change, Kind, Live, KINDS};
-use spot_table::reference::{make, some_spots, sound, Node, Random};
+use spot_reference::histories::{next, Change, Kind, Live, KINDS};
+use spot_reference::{make, some_spots, sound, Key, Node, Random};
 use spot_table::*;
+
+fn spot(k: Key, track: u32) -> Spot {
+    Spot { place: k.0, rank: k.1, track }
+}
 
 fn call(c: Change, table: &mut [u8], work: &mut [u8]) -> Answer {
     match c {
@@ -23,29 +27,37 @@ fn roomy(table: &[u8]) -> bool {
 /// One history; every so many calls the table is read as a whole.
 fn history(kind: Kind, blocks: usize, fill: usize, calls: usize, look: usize, random: &mut Random) {
     let capacity = 16 * (blocks - 1);
-    let mut table = vec![random.next() as u8; BLOCK * blocks];
-    let mut work = vec![random.next() as u8; BLOCK * blocks + 7];
+    let mut table = vec![random.draw() as u8; BLOCK * blocks];
+    let mut work = vec![random.draw() as u8; BLOCK * blocks + 7];
     assert_eq!(format(&mut table), Answer::new(0, 0));
     let mut live = Live::new();
+    let (mut before, mut spare, zeros) = (table.clone(), work.clone(), vec![0; table.len()]);
     for step in 0..calls {
         let c = next(kind, step, &live, capacity, fill, random);
-        let before = table.clone();
-        let spare = work.clone();
+        before.copy_from_slice(&table);
+        spare.copy_from_slice(&work);
         let light = roomy(&table);
         let nothing = matches!(c, Change::Withdraw(k) if !live.spots.contains_key(&k));
         let a = call(c, &mut table, &mut work);
         if live.apply(c, capacity) {
             assert_eq!(a, Answer::new(0, 0), "{kind:?}, {blocks} blocks, call {step}: {c:?}");
-            assert!(work[..table.len()].iter().all(|x| *x == 0) && work[table.len()..] == spare[table.len()..]);
+            assert!(work[..table.len()] == zeros && work[table.len()..] == spare[table.len()..]);
         } else {
             assert_eq!(a, Answer::new(4, 0), "{kind:?}, {blocks} blocks, call {step}: {c:?}");
             assert!(table == before && work == spare);
         }
-        assert_eq!(u32::from_be_bytes(table[8..12].try_into().unwrap()), live.spots.len() as u32, "the figure in block 0, call {step}: {c:?}");
+        assert_eq!(
+            u32::from_be_bytes(table[8..12].try_into().unwrap()),
+            live.spots.len() as u32,
+            "the figure in block 0, call {step}: {c:?}"
+        );
         assert!(!nothing || table == before, "call {step}: {c:?} wrote, though nothing was there");
         if light {
             let r = root(&before);
-            assert!((1..blocks).all(|b| b == r || table[BLOCK * b..][..BLOCK] == before[BLOCK * b..][..BLOCK]), "call {step}: a block beside the root changed");
+            assert!(
+                (1..blocks).all(|b| b == r || table[BLOCK * b..][..BLOCK] == before[BLOCK * b..][..BLOCK]),
+                "call {step}: a block beside the root changed"
+            );
         }
         if step % look == 0 || step + 1 == calls {
             assert_eq!(sound(&table).as_ref(), Ok(&live.spots), "{kind:?}, {blocks} blocks, call {step}: {c:?}");
@@ -137,6 +149,6 @@ fn refusals() {
             assert!(sound(&table).is_ok());
         }
     }
-    let mut noise: Vec<u8> = (0..BLOCK * 9).map(|_| random.next() as u8).collect();
+    let mut noise: Vec<u8> = (0..BLOCK * 9).map(|_| random.draw() as u8).collect();
     assert_eq!(add(&mut noise, &mut work, spot((1, 2), 3)), Answer::new(3, 0));
 }

@@ -1,0 +1,64 @@
+/* A card with four spots: made, filled, asked, printed. Compiles as C99 and as C++:
+ *   cc -std=c99 card.c $(pkg-config --cflags --libs spot_table)
+ */
+#include <inttypes.h>
+#include <stdio.h>
+#include <stdlib.h>
+
+#include "spot_table.h"
+
+#define BLOCKS 9
+#define ROOM 128 /* 16 spots for each block after the first */
+
+static uint8_t table[BLOCKS * SPOT_BLOCK_BYTES];
+static uint8_t work[BLOCKS * SPOT_BLOCK_BYTES];
+static uint8_t output[ROOM * SPOT_BYTES];
+static uint8_t read_map[SPOT_MAP_BYTES];
+
+/* The detail of an accepted call; a refusal ends the program. */
+static uint32_t accepted(const char *call, uint64_t answer) {
+    if (spot_number(answer) != SPOT_OK) {
+        fprintf(stderr, "%s: %s\n", call, spot_error_text(spot_number(answer)));
+        exit(1);
+    }
+    return spot_detail(answer);
+}
+
+static void print(uint32_t n) {
+    uint32_t i;
+    for (i = 0; i < n; i++) {
+        struct spot s = spot_read(output + SPOT_BYTES * i);
+        printf("  place %" PRId32 " cm, rank %" PRId32 ", track %" PRIu32 "\n", s.place, s.rank, s.track);
+    }
+}
+
+int main(void) {
+    static const struct spot spots[] = {{0, 5, 1}, {240, 7, 2}, {-120, 7, 3}, {600, -3, 4}};
+    uint64_t answer;
+    uint32_t n;
+    size_t i;
+
+    accepted("format", spot_format(table, sizeof table));
+    for (i = 0; i < sizeof spots / sizeof spots[0]; i++)
+        accepted("add", spot_add(table, sizeof table, work, sizeof work, spots[i].place, spots[i].rank, spots[i].track));
+    accepted("withdraw", spot_withdraw(table, sizeof table, work, sizeof work, 0, 5));
+
+    n = accepted("report", spot_report(table, sizeof table, -200, 700, 0, output, sizeof output, read_map, sizeof read_map));
+    printf("%" PRIu32 " spots from -200 to 700 cm with rank 0 or more:\n", n);
+    print(n);
+    printf("blocks read:");
+    for (i = 0; i < SPOT_MOST_BLOCKS; i++)
+        if (spot_marked(read_map, i)) printf(" %u", (unsigned)i);
+    printf("\n");
+
+    n = accepted("top", spot_top(table, sizeof table, INT32_MIN, INT32_MAX, 1, output, sizeof output, read_map, sizeof read_map));
+    printf("the best of all:\n");
+    print(n);
+
+    answer = spot_report(table, sizeof table, -200, 700, 0, output, SPOT_BYTES, read_map, sizeof read_map);
+    printf("with room for one: %" PRIu32 ", %s (%" PRIu32 ")\n", spot_number(answer), spot_error_text(spot_number(answer)), spot_detail(answer));
+
+    n = accepted("check", spot_check(table, sizeof table));
+    printf("%" PRIu32 " live spots, %s\n", accepted("count", spot_count(table, sizeof table)), n ? "sound" : "not sound");
+    return n ? 0 : 1;
+}

@@ -1,0 +1,62 @@
+//! The library beside the flat file that guides read today, SQLite in memory and plain Rust, in one run. Prints the rows of docs/PERFORMANCE.md; tests nothing but that
+//! all give the same spots.
+//!
+//! Usage: spot_measure [--quick] [--blocks N] [--runs FILE], or spot_measure histories. `measure/run` builds it and adds what the figures were taken on.
+
+mod cases;
+mod clock;
+mod flat;
+mod histories;
+mod row;
+#[cfg_attr(not(sqlite), path = "no_sqlite.rs")]
+mod sqlite;
+
+use cases::{Setting, STATES};
+use spot_reference::Random;
+use std::fs::File;
+use std::io::Write;
+
+fn sqlite_version() -> String {
+    #[cfg(sqlite)]
+    return sqlite::version();
+    #[cfg(not(sqlite))]
+    return "not installed, left out (Debian: libsqlite3-dev)".into();
+}
+
+fn main() -> std::io::Result<()> {
+    let words: Vec<String> = std::env::args().skip(1).collect();
+    let given = |word: &str| words.iter().position(|w| w == word);
+    if given("histories").is_some() {
+        histories::main();
+        return Ok(());
+    }
+    if given("sqlite").is_some() {
+        println!("{}", sqlite_version());
+        return Ok(());
+    }
+    let quick = given("--quick").is_some();
+    let mut file = given("--runs").and_then(|i| words.get(i + 1)).map(File::create).transpose()?;
+    if let Some(f) = &mut file {
+        writeln!(f, "blocks\ttable\tcall\tspots\tcontender\trun\tns")?;
+    }
+    let mut random = Random(42);
+    let mut rows = vec![];
+    println!("{}", row::HEAD);
+    let one: Option<usize> = given("--blocks").and_then(|i| words.get(i + 1)).and_then(|n| n.parse().ok());
+    let sizes = one.map_or(if quick { vec![32, 300] } else { vec![32, 300, 4096] }, |n| vec![n]);
+    for blocks in sizes {
+        for state in STATES {
+            eprintln!("{blocks} blocks, {state}");
+            let setting = Setting::new(blocks, state, &mut random);
+            for row in setting.rows(if quick { 3 } else { 9 }, quick, &mut random) {
+                println!("{}", row.markdown());
+                if let Some(f) = &mut file {
+                    f.write_all(row.all_runs().as_bytes())?;
+                }
+                rows.push(row);
+            }
+        }
+    }
+    println!("\nRatios of the library's own calls:\n\n{}", row::within(&rows));
+    Ok(())
+}

@@ -1,0 +1,15 @@
+//! The spot table's rules read plainly, apart from the proved library and without it: tables in many arrangements, soundness with its reasons ([`sound`], [`faults`]),
+//! what a Report reads, histories of changes, and a walk in plain Rust as a yardstick. For tests, benchmarks and explanations; nothing here is proved.
+
+mod explain;
+pub mod histories;
+mod layout;
+pub mod plain;
+mod tables;
+mod tree;
+pub mod words;
+
+pub use explain::{faults, sound, Fault, Way, MOST_FAULTS, RULES};
+pub use layout::Key;
+pub use tables::{make, read_by_report, some_spots, Entry, Made, Node, Random};
+pub use tree::{nodes, Placed};

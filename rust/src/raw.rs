@@ -1,0 +1,124 @@
+//! The calls as the library has them: lent slices, and an answer of two numbers.
+use crate::{Refusal, Spot};
+
+extern "C" {
+    fn spot_format(table: *mut u8, len: usize) -> u64;
+    fn spot_count(table: *const u8, len: usize) -> u64;
+    fn spot_check(table: *const u8, len: usize) -> u64;
+    fn spot_report(
+        table: *const u8,
+        len: usize,
+        x1: i32,
+        x2: i32,
+        y: i32,
+        output: *mut u8,
+        output_len: usize,
+        read_map: *mut u8,
+        read_map_len: usize,
+    ) -> u64;
+    fn spot_top(
+        table: *const u8,
+        len: usize,
+        x1: i32,
+        x2: i32,
+        k: u32,
+        output: *mut u8,
+        output_len: usize,
+        read_map: *mut u8,
+        read_map_len: usize,
+    ) -> u64;
+    fn spot_add(table: *mut u8, len: usize, work: *mut u8, work_len: usize, place: i32, rank: i32, track: u32) -> u64;
+    fn spot_withdraw(table: *mut u8, len: usize, work: *mut u8, work_len: usize, place: i32, rank: i32) -> u64;
+    fn spot_rebuild(table: *mut u8, len: usize, work: *mut u8, work_len: usize) -> u64;
+}
+
+/// What a call answers: 0 with its detail, or one of the five numbers of refusal.
+#[must_use = "the answer may be a refusal"]
+#[derive(Clone, Copy, Debug, PartialEq, Eq, Hash)]
+pub struct Answer {
+    /// 0, or the number of the refusal.
+    pub number: u32,
+    /// The number of spots for Report, Top and Count, 1 or 0 for Check, how many spots there are after refusal 5, else 0.
+    pub detail: u32,
+}
+
+impl Answer {
+    /// The answer of these two numbers.
+    pub const fn new(number: u32, detail: u32) -> Answer {
+        Answer { number, detail }
+    }
+
+    /// The detail of an accepted call, or the refusal.
+    ///
+    /// ```
+    /// use spot_table::{count, format, Answer, Refusal};
+    /// let mut table = [7; 9 * 2048];
+    /// assert_eq!(count(&table), Answer::new(3, 0));
+    /// assert_eq!(count(&table).result(), Err(Refusal::Broken));
+    /// assert_eq!(format(&mut table).result(), Ok(0));
+    /// ```
+    ///
+    /// # Panics
+    ///
+    /// Where the number is over 5, which no call answers.
+    pub fn result(self) -> Result<u32, Refusal> {
+        match self.number {
+            0 => Ok(self.detail),
+            number => Err(Refusal::new(number, self.detail).expect("a call answers 0 to 5")),
+        }
+    }
+
+    fn unpack(packed: u64) -> Answer {
+        Answer { number: (packed >> 32) as u32, detail: packed as u32 }
+    }
+}
+
+impl From<Answer> for Result<u32, Refusal> {
+    fn from(answer: Answer) -> Self {
+        answer.result()
+    }
+}
+
+/// Makes the empty table.
+pub fn format(table: &mut [u8]) -> Answer {
+    // SAFETY: here and below the pointers and lengths are those of slices, which the borrows keep apart and alive; the library touches nothing else.
+    Answer::unpack(unsafe { spot_format(table.as_mut_ptr(), table.len()) })
+}
+
+/// The number of live spots.
+pub fn count(table: &[u8]) -> Answer {
+    Answer::unpack(unsafe { spot_count(table.as_ptr(), table.len()) })
+}
+
+/// Detail 1 where the table is sound, else 0.
+pub fn check(table: &[u8]) -> Answer {
+    Answer::unpack(unsafe { spot_check(table.as_ptr(), table.len()) })
+}
+
+/// All live spots with x1 ≤ place ≤ x2 and rank ≥ y, rising in place order; the read map marks the blocks read.
+pub fn report(table: &[u8], x1: i32, x2: i32, y: i32, output: &mut [u8], read_map: &mut [u8]) -> Answer {
+    let (t, n) = (table.as_ptr(), table.len());
+    Answer::unpack(unsafe { spot_report(t, n, x1, x2, y, output.as_mut_ptr(), output.len(), read_map.as_mut_ptr(), read_map.len()) })
+}
+
+/// Of the live spots with x1 ≤ place ≤ x2 the k highest in rank order, highest first; the read map marks the blocks read.
+pub fn top(table: &[u8], x1: i32, x2: i32, k: u32, output: &mut [u8], read_map: &mut [u8]) -> Answer {
+    let (t, n) = (table.as_ptr(), table.len());
+    Answer::unpack(unsafe { spot_top(t, n, x1, x2, k, output.as_mut_ptr(), output.len(), read_map.as_mut_ptr(), read_map.len()) })
+}
+
+/// Puts the spot in, in the place of one of the same place and rank, with a work area of at least the table's length.
+pub fn add(table: &mut [u8], work: &mut [u8], spot: Spot) -> Answer {
+    let (t, n) = (table.as_mut_ptr(), table.len());
+    Answer::unpack(unsafe { spot_add(t, n, work.as_mut_ptr(), work.len(), spot.place, spot.rank, spot.track) })
+}
+
+/// Takes out the spot of this place and rank, if there is one, with a work area of at least the table's length.
+pub fn withdraw(table: &mut [u8], work: &mut [u8], place: i32, rank: i32) -> Answer {
+    Answer::unpack(unsafe { spot_withdraw(table.as_mut_ptr(), table.len(), work.as_mut_ptr(), work.len(), place, rank) })
+}
+
+/// Lays the live spots out anew, with a work area of at least the table's length.
+pub fn rebuild(table: &mut [u8], work: &mut [u8]) -> Answer {
+    Answer::unpack(unsafe { spot_rebuild(table.as_mut_ptr(), table.len(), work.as_mut_ptr(), work.len()) })
+}

@@ -1,0 +1,118 @@
+use crate::{capacity, raw, spots, ReadMap, Refusal, Spot, Spots};
+
+/// A table in bytes that are owned or borrowed: `Vec<u8>`, `&mut [u8]`, or `&[u8]` for reading alone.
+///
+/// Nothing is kept beside the bytes, so a table may be wrapped anew for each call.
+///
+/// ```
+/// use spot_table::{Refusal, Spot, Table};
+///
+/// let (mut card, mut work) = ([0; 9 * 2048], [0; 9 * 2048]);
+/// let mut table = Table::format(&mut card[..])?;
+/// for place in 0..128 {
+///     table.add(Spot { place, rank: 1, track: 7 }, &mut work)?;
+/// }
+/// let one_more = Spot { place: 128, rank: 1, track: 7 };
+/// assert_eq!(table.add(one_more, &mut work), Err(Refusal::Full));
+///
+/// let reading = Table::new(&card);
+/// assert_eq!((reading.count(), reading.check()), (Ok(128), Ok(true)));
+/// # Ok::<(), Refusal>(())
+/// ```
+#[derive(Clone, Debug)]
+pub struct Table<B> {
+    bytes: B,
+}
+
+impl<B> Table<B> {
+    /// The table in these bytes, whatever they hold.
+    pub const fn new(bytes: B) -> Table<B> {
+        Table { bytes }
+    }
+
+    /// The bytes again.
+    pub fn into_bytes(self) -> B {
+        self.bytes
+    }
+}
+
+impl<B: AsRef<[u8]>> Table<B> {
+    /// The bytes.
+    pub fn bytes(&self) -> &[u8] {
+        self.bytes.as_ref()
+    }
+
+    /// The most live spots that it can have.
+    pub fn capacity(&self) -> usize {
+        capacity(self.bytes().len())
+    }
+
+    /// The number of live spots.
+    pub fn count(&self) -> Result<u32, Refusal> {
+        raw::count(self.bytes()).result()
+    }
+
+    /// Whether the table is sound.
+    pub fn check(&self) -> Result<bool, Refusal> {
+        raw::check(self.bytes()).result().map(|yes| yes == 1)
+    }
+
+    /// All live spots with x1 ≤ place ≤ x2 and rank ≥ y, rising in place order. The output takes 12 bytes each; the map marks the blocks read.
+    ///
+    /// ```
+    /// use spot_table::{ReadMap, Refusal, Spot, Table};
+    /// let mut work = vec![0; 9 * 2048];
+    /// let mut table = Table::format(vec![0; 9 * 2048])?;
+    /// table.add(Spot { place: 0, rank: 7, track: 1 }, &mut work)?;
+    /// table.add(Spot { place: 240, rank: 7, track: 2 }, &mut work)?;
+    /// let mut map = ReadMap::new();
+    /// let refused = table.report(0, 240, 7, &mut [0; 12], &mut map).unwrap_err();
+    /// assert_eq!(refused, Refusal::Output { spots: 2 });
+    /// # Ok::<(), Refusal>(())
+    /// ```
+    pub fn report<'o>(&self, x1: i32, x2: i32, y: i32, output: &'o mut [u8], map: &mut ReadMap) -> Result<Spots<'o>, Refusal> {
+        let n = raw::report(self.bytes(), x1, x2, y, output, map.bytes_mut()).result()?;
+        Ok(spots(output, n as usize))
+    }
+
+    /// Of the live spots with x1 ≤ place ≤ x2 the k highest in rank order, highest first; all, if there are fewer. Output and map as for `report`.
+    ///
+    /// ```
+    /// use spot_table::{ReadMap, Spot, Table};
+    /// let mut work = vec![0; 9 * 2048];
+    /// let mut table = Table::format(vec![0; 9 * 2048])?;
+    /// table.add(Spot { place: 0, rank: 7, track: 1 }, &mut work)?;
+    /// table.add(Spot { place: 240, rank: 7, track: 2 }, &mut work)?;
+    /// let mut output = [0; 12];
+    /// let best = table.top(0, 240, 1, &mut output, &mut ReadMap::new())?.next();
+    /// assert_eq!(best.map(|s| s.place), Some(240));
+    /// # Ok::<(), spot_table::Refusal>(())
+    /// ```
+    pub fn top<'o>(&self, x1: i32, x2: i32, k: u32, output: &'o mut [u8], map: &mut ReadMap) -> Result<Spots<'o>, Refusal> {
+        let n = raw::top(self.bytes(), x1, x2, k, output, map.bytes_mut()).result()?;
+        Ok(spots(output, n as usize))
+    }
+}
+
+impl<B: AsMut<[u8]>> Table<B> {
+    /// The empty table in these bytes. Where they are refused they are dropped; borrowed ones stay as they were.
+    pub fn format(mut bytes: B) -> Result<Table<B>, Refusal> {
+        raw::format(bytes.as_mut()).result()?;
+        Ok(Table { bytes })
+    }
+
+    /// Puts the spot in; one of the same place and rank is replaced. The work area is at least as long as the table.
+    pub fn add(&mut self, spot: Spot, work: &mut [u8]) -> Result<(), Refusal> {
+        raw::add(self.bytes.as_mut(), work, spot).result().map(drop)
+    }
+
+    /// Takes out the spot of this place and rank, if there is one. The work area is at least as long as the table.
+    pub fn withdraw(&mut self, place: i32, rank: i32, work: &mut [u8]) -> Result<(), Refusal> {
+        raw::withdraw(self.bytes.as_mut(), work, place, rank).result().map(drop)
+    }
+
+    /// Lays the live spots out anew: no change waits then. The work area is at least as long as the table.
+    pub fn rebuild(&mut self, work: &mut [u8]) -> Result<(), Refusal> {
+        raw::rebuild(self.bytes.as_mut(), work).result().map(drop)
+    }
+}

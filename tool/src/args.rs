@@ -1,0 +1,293 @@
+//! The command line.
+
+use crate::store::{LEAST_BLOCKS, MOST_BLOCKS};
+use clap::error::ErrorKind;
+use clap::{Args, CommandFactory, Parser, Subcommand};
+use std::fmt::Display;
+use std::path::PathBuf;
+
+const ABOUT: &str = "Makes, changes, shows and checks cards of spots for audio guides";
+
+const LONG_ABOUT: &str = "\
+Makes, changes, shows and checks cards of spots for audio guides.
+
+A spot is a commentary: a place along the route in centimetres, a rank and a track number. Place and rank together say which spot it is; \
+there is never a second one of the same place and rank on a card.
+
+The spots usually stand in a spreadsheet with columns named place, rank and track. Save it as CSV, then:
+
+  spotcard new show.card                   an empty card
+  spotcard import sheet.csv show.card      all rows of the sheet, or none
+  spotcard report show.card 0 2400 5       what is heard from 0 to 2400 cm with rank 5 or more
+  spotcard picture show.card -o show.svg   a picture to look at
+  spotcard check show.card                 whether the card is sound
+
+A card is changed as one: whatever happens in between, the file is the old card or the new one. Beside it stand show.card.sha256, by which \
+`check` finds changes that spotcard did not make, and show.card.lock, which keeps two people from changing it at once.";
+
+const EXIT_CODES: &str = "\
+Exit codes: 0 done; 1 refused, not sound, or not the same; 2 the command line is wrong; 3 a file or a lock is in the way.
+`spotcard help COMMAND` says more of a command.";
+
+const IMPORT_EXAMPLES: &str = "\
+Examples:
+  spotcard import sheet.csv show.card             add all rows
+  spotcard import sheet.csv show.card --replace   exactly the rows of the sheet";
+
+#[derive(Parser)]
+#[command(name = "spotcard", version, about = ABOUT, long_about = LONG_ABOUT, after_help = EXIT_CODES)]
+pub struct Cli {
+    #[command(subcommand)]
+    pub command: Command,
+}
+
+#[derive(Subcommand)]
+pub enum Command {
+    /// Make an empty card
+    ///
+    /// A card of N blocks of 2,048 bytes has room for 16 spots for each block after the first: the default, 4,096 blocks, for 65,520 spots.
+    #[command(after_help = "Example: spotcard new show.card --blocks 64      room for 1,008 spots")]
+    New {
+        /// The card file to make
+        card: PathBuf,
+        /// Number of blocks, 9 to 4096
+        #[arg(long, value_name = "N", default_value = "4096", value_parser = blocks)]
+        blocks: usize,
+        /// Replace an existing file; all that is on it goes
+        #[arg(long)]
+        force: bool,
+        #[command(flatten)]
+        wait: Wait,
+    },
+    /// Put the rows of a sheet on a card: all of them or none
+    ///
+    /// The sheet is a CSV file. Its first line names the columns; place, rank and track are used, in any order, and all others are ignored. Every row is
+    /// judged before the card is touched: if one is wrong, all that is wrong is listed with line numbers, and the card stays as it is.
+    ///
+    /// Without --replace the rows join the spots on the card. A row that gives another track to a spot on the card is an error then.
+    #[command(after_help = IMPORT_EXAMPLES)]
+    Import {
+        /// The sheet, a CSV file
+        #[arg(value_name = "SHEET.csv")]
+        sheet: PathBuf,
+        /// The card
+        card: PathBuf,
+        /// Let the card hold exactly the rows of the sheet afterwards: spots that the sheet does not have go
+        #[arg(long)]
+        replace: bool,
+        #[command(flatten)]
+        wait: Wait,
+    },
+    /// Write all spots of a card as CSV, in place order
+    #[command(after_help = "Example: spotcard export show.card -o sheet.csv")]
+    Export {
+        /// The card
+        card: PathBuf,
+        /// Write to this file instead of the screen
+        #[arg(short, long, value_name = "F")]
+        output: Option<PathBuf>,
+        /// Replace the file if it exists
+        #[arg(long, requires = "output")]
+        force: bool,
+    },
+    /// Show the rows that only the card or only the sheet has
+    ///
+    /// Exit code 0 where both have the same spots, 1 where they differ.
+    #[command(after_help = "Example: spotcard diff show.card sheet.csv")]
+    Diff {
+        /// The card
+        card: PathBuf,
+        /// The sheet, a CSV file
+        #[arg(value_name = "SHEET.csv")]
+        sheet: PathBuf,
+        /// As CSV: only_in, place, rank, track, line
+        #[arg(long)]
+        csv: bool,
+    },
+    /// Put one spot on a card; one of the same place and rank is replaced
+    #[command(after_help = "Example: spotcard add show.card 2400 7 51         at 24 metres, rank 7, track 51")]
+    Add {
+        /// The card
+        card: PathBuf,
+        #[command(flatten)]
+        spot: PlaceAndRank,
+        /// Track number
+        #[arg(value_parser = unsigned)]
+        track: u32,
+        #[command(flatten)]
+        wait: Wait,
+    },
+    /// Take one spot off a card
+    ///
+    /// Where the card has no spot of this place and rank it stays as it is, and that is no error.
+    #[command(after_help = "Example: spotcard withdraw show.card 2400 7")]
+    Withdraw {
+        /// The card
+        card: PathBuf,
+        #[command(flatten)]
+        spot: PlaceAndRank,
+        /// Take it off only if this is its track
+        #[arg(value_parser = unsigned)]
+        track: Option<u32>,
+        #[command(flatten)]
+        wait: Wait,
+    },
+    /// Show the spots between two places with at least a given rank, in place order
+    #[command(after_help = "Example: spotcard report show.card 0 2400 5       the first 24 metres, rank 5 or more")]
+    Report {
+        /// The card
+        card: PathBuf,
+        #[command(flatten)]
+        range: Range,
+        /// Lowest rank
+        #[arg(allow_negative_numbers = true, value_parser = signed)]
+        y: i32,
+        #[command(flatten)]
+        shape: Shape,
+    },
+    /// Show the spots of highest rank between two places, best first
+    #[command(after_help = "Example: spotcard top show.card 0 2400 3          the three best of the first 24 metres")]
+    Top {
+        /// The card
+        card: PathBuf,
+        #[command(flatten)]
+        range: Range,
+        /// How many
+        #[arg(value_parser = unsigned)]
+        k: u32,
+        #[command(flatten)]
+        shape: Shape,
+    },
+    /// Show how large and how full a card is
+    #[command(after_help = "Example: spotcard info show.card")]
+    Info {
+        /// The card
+        card: PathBuf,
+    },
+    /// Say whether a card is sound, and if not, why
+    ///
+    /// Exit code 0 where it is sound and as spotcard left it, else 1. Each fault is named with the block, the bytes in it, the rule of the paper that is
+    /// broken, and the entry by which a reader comes to the block.
+    #[command(after_help = "Example: spotcard check show.card")]
+    Check {
+        /// The card
+        card: PathBuf,
+    },
+    /// Lay the spots of a card out anew: the spots stay the same, and no change waits
+    #[command(after_help = "Example: spotcard rebuild show.card")]
+    Rebuild {
+        /// The card
+        card: PathBuf,
+        #[command(flatten)]
+        wait: Wait,
+    },
+    /// Draw a card: places to the right, ranks upwards
+    ///
+    /// A dot is a spot, its colour the level of the node that holds it. Below, each node of the tree is a bar over its range of places. With --report or
+    /// --top the query is outlined and the nodes that it reads are filled. The picture is an SVG file: every browser shows it.
+    #[command(
+        after_help = "Examples:\n  spotcard picture show.card -o show.svg\n  spotcard picture show.card --report 0 2400 5 -o report.svg"
+    )]
+    Picture {
+        /// The card
+        card: PathBuf,
+        /// Show this report: X1 X2 Y
+        #[arg(long, num_args = 3, value_names = ["X1", "X2", "Y"], allow_negative_numbers = true, value_parser = signed, conflicts_with = "top")]
+        report: Option<Vec<i32>>,
+        /// Show this top: X1 X2 K
+        #[arg(long, num_args = 3, value_names = ["X1", "X2", "K"], allow_negative_numbers = true, value_parser = wide)]
+        top: Option<Vec<i64>>,
+        /// The file to write
+        #[arg(short, long, value_name = "F.svg")]
+        output: PathBuf,
+        /// Replace the file even if it is no picture of spotcard's
+        #[arg(long)]
+        force: bool,
+    },
+}
+
+#[derive(Args)]
+pub struct PlaceAndRank {
+    /// Place in centimetres
+    #[arg(allow_negative_numbers = true, value_parser = signed)]
+    pub place: i32,
+    /// Rank
+    #[arg(allow_negative_numbers = true, value_parser = signed)]
+    pub rank: i32,
+}
+
+#[derive(Args)]
+pub struct Range {
+    /// First place in centimetres
+    #[arg(allow_negative_numbers = true, value_parser = signed)]
+    pub x1: i32,
+    /// Last place in centimetres
+    #[arg(allow_negative_numbers = true, value_parser = signed)]
+    pub x2: i32,
+}
+
+#[derive(Args)]
+pub struct Shape {
+    /// As CSV: place, rank, track
+    #[arg(long)]
+    pub csv: bool,
+    /// Name the blocks of the card that were read
+    #[arg(long)]
+    pub blocks: bool,
+}
+
+#[derive(Args)]
+pub struct Wait {
+    /// How long to wait while another spotcard changes the card
+    #[arg(long, value_name = "SECONDS", default_value = "30")]
+    pub wait: u32,
+}
+
+impl Wait {
+    pub fn time(&self) -> std::time::Duration {
+        std::time::Duration::from_secs(self.wait.into())
+    }
+}
+
+impl Cli {
+    /// The command line, or the end of the program with what is wrong in it.
+    pub fn read() -> Cli {
+        let cli = Cli::parse();
+        if let Command::Picture { top: Some(top), .. } = &cli.command {
+            if let Err(what) = top_query(top) {
+                let words = format!("--top X1 X2 K: {what}");
+                Cli::command().error(ErrorKind::ValueValidation, words).exit();
+            }
+        }
+        cli
+    }
+}
+
+/// The two places and the number of a `--top`.
+pub fn top_query(top: &[i64]) -> Result<(i32, i32, u32), String> {
+    let text = |i: usize| top[i].to_string();
+    Ok((signed(&text(0))?, signed(&text(1))?, unsigned(&text(2))?))
+}
+
+fn blocks(text: &str) -> Result<usize, String> {
+    let (least, most) = (LEAST_BLOCKS, MOST_BLOCKS);
+    let n = text.parse().ok().filter(|n| (least..=most).contains(n));
+    n.ok_or_else(|| format!("a card has {least} to {most} blocks"))
+}
+
+fn whole<T: std::str::FromStr>(text: &str, least: impl Display, most: impl Display) -> Result<T, String> {
+    text.parse().map_err(|_| format!("not a whole number from {least} to {most}"))
+}
+
+fn signed(text: &str) -> Result<i32, String> {
+    whole(text, i32::MIN, i32::MAX)
+}
+
+fn unsigned(text: &str) -> Result<u32, String> {
+    whole(text, u32::MIN, u32::MAX)
+}
+
+/// A place or a number of spots.
+fn wide(text: &str) -> Result<i64, String> {
+    whole(text, i32::MIN, u32::MAX)
+}

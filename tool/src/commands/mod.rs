@@ -1,0 +1,50 @@
+//! What each command does.
+
+mod ask;
+mod change;
+mod info;
+mod look;
+
+use crate::args::Command;
+use crate::card::Card;
+use crate::digest::Digest;
+use crate::problem;
+use anyhow::Result;
+use std::io::Write;
+
+pub fn run(command: Command) -> Result<()> {
+    match command {
+        Command::New { card, blocks, force, wait } => change::new(&card, blocks, force, wait.time()),
+        Command::Import { sheet, card, replace, wait } => change::import(&sheet, &card, replace, wait.time()),
+        Command::Add { card, spot, track, wait } => change::add(&card, &spot, track, wait.time()),
+        Command::Withdraw { card, spot, track, wait } => change::withdraw(&card, &spot, track, wait.time()),
+        Command::Rebuild { card, wait } => change::rebuild(&card, wait.time()),
+        Command::Export { card, output, force } => ask::export(&card, output.as_deref(), force),
+        Command::Diff { card, sheet, csv } => ask::diff(&card, &sheet, csv),
+        Command::Report { card, range, y, shape } => ask::report(&card, &range, y, &shape),
+        Command::Top { card, range, k, shape } => ask::top(&card, &range, k, &shape),
+        Command::Info { card } => info::info(&card),
+        Command::Check { card } => look::check(&card),
+        Command::Picture { card, report, top, output, force } => look::picture(&card, report.as_deref(), top.as_deref(), &output, force),
+    }
+}
+
+/// Prints to standard output.
+fn say(text: impl AsRef<str>) -> Result<()> {
+    let mut out = std::io::stdout().lock();
+    out.write_all(text.as_ref().as_bytes())?;
+    out.write_all(b"\n")?;
+    Ok(out.flush()?)
+}
+
+/// A sound card for a question. One whose digest differs is answered for, with a warning.
+fn read_for_question(path: &std::path::Path) -> Result<Card> {
+    let card = crate::card::read_sound(path)?;
+    if card.digest == Digest::Differs {
+        problem::print(&format!(
+            "warning: {0} is not as spotcard left it: its digest is not the one in {0}.sha256. Track numbers may be wrong.",
+            card.name
+        ));
+    }
+    Ok(card)
+}

@@ -1,0 +1,158 @@
+//! The proved calls, over a table in memory. No other module knows the library.
+
+use crate::spot::{Key, Spot};
+pub use spot_table::BLOCK;
+use spot_table::{Answer, MAP, SPOT};
+
+pub const LEAST_BLOCKS: usize = 9;
+pub const MOST_BLOCKS: usize = 4096;
+/// Capacity: spots for each block after block 0.
+pub const SPOTS_A_BLOCK: usize = 16;
+
+/// Top uses 1.3 MB of stack on the largest tables.
+const STACK: usize = 8 << 20;
+
+/// The library's numbers of refusal.
+#[derive(Debug, thiserror::Error, PartialEq, Eq)]
+pub enum Refusal {
+    #[error("a card is 9 to 4,096 whole blocks of 2,048 bytes")]
+    Length,
+    #[error("the library was lent too little memory; this is a mistake in spotcard, please report it")]
+    Lent,
+    #[error("the card breaks a rule of its layout; `spotcard check` says which")]
+    Unsound,
+    #[error("the card is full")]
+    Full,
+    #[error("more spots than were made room for; this is a mistake in spotcard, please report it")]
+    Room,
+}
+
+fn accepted(answer: Answer) -> Result<usize, Refusal> {
+    match answer.number {
+        0 => Ok(answer.detail as usize),
+        1 => Err(Refusal::Length),
+        2 => Err(Refusal::Lent),
+        3 => Err(Refusal::Unsound),
+        4 => Err(Refusal::Full),
+        _ => Err(Refusal::Room),
+    }
+}
+
+/// What a Report or a Top gives: the spots in its order, and the blocks that it read.
+pub struct Found {
+    pub spots: Vec<Spot>,
+    pub blocks: Vec<usize>,
+}
+
+/// A table in memory, and the work area that changes need.
+pub struct Table {
+    bytes: Vec<u8>,
+    work: Vec<u8>,
+}
+
+/// Whether a file of this length can be a table.
+pub fn is_length(bytes: u64) -> bool {
+    let blocks = bytes / BLOCK as u64;
+    bytes.is_multiple_of(BLOCK as u64) && (LEAST_BLOCKS as u64..=MOST_BLOCKS as u64).contains(&blocks)
+}
+
+impl Table {
+    /// An empty table.
+    pub fn empty(blocks: usize) -> Result<Table, Refusal> {
+        let mut table = Table::of(vec![0; blocks * BLOCK])?;
+        accepted(spot_table::format(&mut table.bytes))?;
+        Ok(table)
+    }
+
+    /// A table of these bytes, whatever they hold.
+    pub fn of(bytes: Vec<u8>) -> Result<Table, Refusal> {
+        if !is_length(bytes.len() as u64) {
+            return Err(Refusal::Length);
+        }
+        let work = vec![0; bytes.len()];
+        Ok(Table { bytes, work })
+    }
+
+    pub fn bytes(&self) -> &[u8] {
+        &self.bytes
+    }
+
+    pub fn blocks(&self) -> usize {
+        self.bytes.len() / BLOCK
+    }
+
+    pub fn capacity(&self) -> usize {
+        SPOTS_A_BLOCK * (self.blocks() - 1)
+    }
+
+    pub fn is_sound(&self) -> Result<bool, Refusal> {
+        Ok(accepted(spot_table::check(&self.bytes))? == 1)
+    }
+
+    pub fn count(&self) -> Result<usize, Refusal> {
+        accepted(spot_table::count(&self.bytes))
+    }
+
+    pub fn add(&mut self, spot: Spot) -> Result<(), Refusal> {
+        let Spot { place, rank, track } = spot;
+        let spot = spot_table::Spot { place, rank, track };
+        accepted(spot_table::add(&mut self.bytes, &mut self.work, spot)).map(|_| ())
+    }
+
+    pub fn withdraw(&mut self, key: Key) -> Result<(), Refusal> {
+        let (bytes, work) = (&mut self.bytes, &mut self.work);
+        accepted(spot_table::withdraw(bytes, work, key.place, key.rank)).map(|_| ())
+    }
+
+    pub fn rebuild(&mut self) -> Result<(), Refusal> {
+        accepted(spot_table::rebuild(&mut self.bytes, &mut self.work)).map(|_| ())
+    }
+
+    /// The live spots from place x1 to x2 with rank y or more, rising in place order.
+    pub fn report(&self, x1: i32, x2: i32, y: i32) -> Result<Found, Refusal> {
+        self.ask(|table, out, map| spot_table::report(table, x1, x2, y, out, map))
+    }
+
+    /// The k highest in rank order of the live spots from place x1 to x2, highest first.
+    pub fn top(&self, x1: i32, x2: i32, k: u32) -> Result<Found, Refusal> {
+        self.ask(|table, out, map| spot_table::top(table, x1, x2, k, out, map))
+    }
+
+    /// All live spots, rising in place order.
+    pub fn all(&self) -> Result<Vec<Spot>, Refusal> {
+        Ok(self.report(i32::MIN, i32::MAX, i32::MIN)?.spots)
+    }
+
+    /// The live spot of this place and rank.
+    pub fn spot(&self, key: Key) -> Result<Option<Spot>, Refusal> {
+        let found = self.report(key.place, key.place, key.rank)?;
+        Ok(found.spots.into_iter().find(|s| s.key() == key))
+    }
+
+    fn ask(&self, call: impl FnOnce(&[u8], &mut [u8], &mut [u8]) -> Answer) -> Result<Found, Refusal> {
+        let mut out = vec![0; SPOT * self.capacity()];
+        let mut map = vec![0; MAP];
+        let n = accepted(call(&self.bytes, &mut out, &mut map))?;
+        let spots = out.chunks_exact(SPOT).take(n).map(read_spot).collect();
+        let is_marked = |b: &usize| map[b / 8] >> (b % 8) & 1 == 1;
+        let blocks = (0..self.blocks()).filter(is_marked).collect();
+        Ok(Found { spots, blocks })
+    }
+}
+
+fn read_spot(bytes: &[u8]) -> Spot {
+    let spot_table::Spot { place, rank, track } = spot_table::Spot::read(bytes);
+    Spot { place, rank, track }
+}
+
+/// Runs the work on a thread whose stack is enough for every call.
+pub fn on_deep_stack<T: Send>(work: impl FnOnce() -> T + Send) -> std::io::Result<T> {
+    std::thread::scope(|scope| {
+        let builder = std::thread::Builder::new().stack_size(STACK);
+        let thread = builder.spawn_scoped(scope, work)?;
+        match thread.join() {
+            Ok(result) => Ok(result),
+            Err(panic) => std::panic::resume_unwind(panic),
+        }
+    })
+}

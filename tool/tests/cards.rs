@@ -1,0 +1,316 @@
+//! Each command on real files.
+
+mod common;
+use common::{sheet, spots, Folder, BLOCK};
+use std::os::unix::fs::PermissionsExt;
+use std::{fs, process};
+
+#[test]
+fn a_sheet_goes_onto_a_card_and_comes_back() {
+    let f = Folder::new();
+    f.write(
+        "sheet.csv",
+        "Title,track,Place,rank,room\n\"Vase, blue\",51,2400,7,1\nMask,60,-5,7,2\nLamp,4294967295,2147483647,-2147483648,\n",
+    );
+    f.run(&["new", "show.card", "--blocks", "9"]).exit(0).says("room for 128 spots");
+    f.run(&["import", "sheet.csv", "show.card"]).exit(0).says("3 rows of sheet.csv: 3 new, 0 on the card already; it holds 3 of 128 spots");
+    let rows = "place,rank,track\n-5,7,60\n2400,7,51\n2147483647,-2147483648,4294967295\n";
+    assert_eq!(f.run(&["export", "show.card"]).exit(0).out, rows);
+    f.run(&["export", "show.card", "-o", "back.csv"]).exit(0).says("3 spots");
+    assert_eq!(f.text("back.csv"), rows);
+    f.run(&["diff", "show.card", "sheet.csv"]).exit(0).says("have the same 3 spots");
+    f.run(&["import", "back.csv", "show.card"]).exit(0).says("0 new, 3 on the card already");
+    f.run(&["new", "other.card", "--blocks", "9"]).exit(0);
+    f.run(&["import", "back.csv", "other.card"]).exit(0);
+    assert_eq!(f.run(&["export", "other.card"]).out, rows);
+    f.run(&["check", "other.card"]).exit(0).says("other.card is sound.");
+}
+
+#[test]
+fn import_joins_and_replace_makes_equal() {
+    let f = Folder::new();
+    f.card("show.card", 9, &[(0, 5, 1), (240, 7, 2)]);
+    let before = f.read("show.card");
+    f.write("more.csv", sheet(&[(10, 1, 9), (0, 5, 3)]));
+    f.run(&["import", "more.csv", "show.card"])
+        .exit(1)
+        .complains("more.csv line 3: place 0 rank 5 is on show.card already (track 1, here 3)")
+        .complains("Nothing was changed");
+    assert_eq!(f.read("show.card"), before);
+    f.run(&["import", "more.csv", "show.card", "--replace"]).exit(0).says("2 new, 0 on the card already, 2 withdrawn");
+    assert_eq!(f.run(&["export", "show.card"]).out, sheet(&[(0, 5, 3), (10, 1, 9)]));
+    f.write("third.csv", sheet(&[(10, 1, 9), (11, 1, 9)]));
+    f.run(&["import", "third.csv", "show.card"]).exit(0).says("1 new, 1 on the card already; it holds 3 of 128");
+}
+
+#[test]
+fn an_existing_file_is_kept_unless_forced() {
+    let f = Folder::new();
+    f.card("show.card", 9, &[(0, 5, 1)]);
+    let before = f.read("show.card");
+    f.run(&["new", "show.card"]).exit(1).complains("exists already");
+    assert_eq!(f.read("show.card"), before);
+    f.run(&["new", "show.card", "--force", "--blocks", "12"]).exit(0);
+    assert_eq!(f.read("show.card").len(), 12 * BLOCK);
+    f.run(&["check", "show.card"]).exit(0);
+    assert_eq!(f.run(&["export", "show.card"]).out, "place,rank,track\n");
+    f.write("mine.csv", "place,rank,track,title\n");
+    f.run(&["export", "show.card", "-o", "mine.csv"]).exit(1).complains("--force");
+    assert_eq!(f.text("mine.csv"), "place,rank,track,title\n");
+    f.run(&["export", "show.card", "-o", "mine.csv", "--force"]).exit(0);
+    assert_eq!(f.text("mine.csv"), "place,rank,track\n");
+    for command in [&["export", "show.card", "-o", "show.card", "--force"][..], &["picture", "show.card", "-o", "show.card", "--force"]] {
+        f.run(command).exit(1).complains("the card itself");
+    }
+}
+
+#[test]
+fn spots_are_added_replaced_and_withdrawn() {
+    let f = Folder::new();
+    f.run(&["new", "a.card", "--blocks", "9"]).exit(0);
+    f.run(&["add", "a.card", "-240", "-7", "2"]).exit(0).says("added place -240 rank -7 track 2; it holds 1 of 128");
+    f.run(&["add", "a.card", "-240", "-7", "3"]).exit(0).says("track 2 is now 3; it holds 1 of 128");
+    f.run(&["add", "a.card", "-240", "-7", "3"]).exit(0).says("nothing changes");
+    f.run(&["withdraw", "a.card", "-240", "-7", "9"]).exit(1).complains("with track 3, not 9");
+    f.run(&["withdraw", "a.card", "0", "0"]).exit(0).says("no spot of place 0 rank 0; nothing changes");
+    f.run(&["withdraw", "a.card", "-240", "-7", "3"]).exit(0).says("withdrew place -240 rank -7 track 3; it holds 0");
+    f.run(&["check", "a.card"]).exit(0);
+}
+
+#[test]
+fn a_full_card_names_the_row_that_has_no_room() {
+    let f = Folder::new();
+    let all = spots(135, 3);
+    f.write("all.csv", sheet(&all));
+    f.run(&["new", "a.card", "--blocks", "9"]).exit(0);
+    let before = f.read("a.card");
+    let (place, rank, _) = all[128];
+    f.run(&["import", "all.csv", "a.card"])
+        .exit(1)
+        .complains(&format!("all.csv line 130: no room for place {place} rank {rank}. a.card is full with 128 spots, and 7 more"))
+        .complains("--blocks 10");
+    assert_eq!(f.read("a.card"), before);
+    f.run(&["import", "all.csv", "a.card", "--replace"]).exit(1).complains("all.csv line 130: no room for");
+    f.card("b.card", 9, &all[..128]);
+    f.run(&["import", "all.csv", "b.card"]).exit(1).complains("all.csv line 130: no room for").complains("7 more");
+    let place = place.to_string();
+    f.run(&["add", "b.card", &place, &rank.to_string(), "1"]).exit(1).complains("b.card is full with 128 spots, and 1 more");
+    let (place, rank, _) = all[0];
+    f.run(&["add", "b.card", &place.to_string(), &rank.to_string(), "77"]).exit(0).says("it holds 128 of 128");
+}
+
+#[test]
+fn reports_and_tops_are_shown_in_their_order() {
+    let f = Folder::new();
+    f.card("a.card", 32, &[(0, 5, 1), (240, 7, 2), (0, 7, 3), (300, 1, 4)]);
+    assert_eq!(f.run(&["report", "a.card", "0", "240", "6", "--csv"]).exit(0).out, "place,rank,track\n0,7,3\n240,7,2\n");
+    assert_eq!(f.run(&["top", "a.card", "0", "300", "3", "--csv"]).exit(0).out, "place,rank,track\n240,7,2\n0,7,3\n0,5,1\n");
+    f.run(&["report", "a.card", "0", "300", "-9", "--blocks"])
+        .exit(0)
+        .says("4 spots from 0 to 300 cm with rank -9 or more")
+        .says("2 blocks read of 32: 0 1");
+    f.run(&["top", "a.card", "0", "300", "0", "--csv", "--blocks"]).exit(0).complains("1 block read of 32: 0");
+    f.run(&["report", "a.card", "5", "-5", "0"]).exit(0).says("0 spots").complains("no spot is between them");
+}
+
+#[test]
+fn many_reports_and_tops_agree_with_a_plain_list() {
+    let f = Folder::new();
+    let mut all = spots(900, 9);
+    f.card("a.card", 80, &all);
+    all.sort();
+    let mut random = common::Random(77);
+    for _ in 0..25 {
+        let (x1, x2) = (random.below(100_000) as i32, random.below(100_000) as i32);
+        let (x1, x2) = (x1.min(x2), x1.max(x2));
+        let (y, k) = (random.below(1000) as i32, random.below(60) as usize);
+        let inside = || all.iter().copied().filter(|s| x1 <= s.0 && s.0 <= x2);
+        let report: Vec<_> = inside().filter(|s| s.1 >= y).collect();
+        let mut top: Vec<_> = inside().collect();
+        top.sort_by_key(|s| std::cmp::Reverse((s.1, s.0)));
+        top.truncate(k);
+        let [x1, x2, y, k] = [x1.to_string(), x2.to_string(), y.to_string(), k.to_string()];
+        assert_eq!(f.run(&["report", "a.card", &x1, &x2, &y, "--csv"]).exit(0).out, sheet(&report));
+        assert_eq!(f.run(&["top", "a.card", &x1, &x2, &k, "--csv"]).exit(0).out, sheet(&top));
+    }
+}
+
+#[test]
+fn info_and_rebuild_tell_what_waits() {
+    let f = Folder::new();
+    f.card("a.card", 128, &spots(1500, 5));
+    let info = f.run(&["info", "a.card"]).exit(0).says("1,500 of 2,032").says("additions and").says("levels").out;
+    assert!(info.contains("128 of 2,048 bytes (262,144 bytes)"), "{info}");
+    let before = f.run(&["export", "a.card"]).out;
+    f.run(&["rebuild", "a.card"]).exit(0).says("it holds 1,500 of 2,032 spots");
+    f.run(&["info", "a.card"]).exit(0).says("waiting changes  none");
+    assert_eq!(f.run(&["export", "a.card"]).out, before);
+    f.run(&["check", "a.card"]).exit(0);
+}
+
+#[test]
+fn differences_are_named_on_both_sides() {
+    let f = Folder::new();
+    f.card("a.card", 9, &[(0, 5, 1), (240, 7, 2), (300, 1, 4)]);
+    f.write("b.csv", sheet(&[(300, 1, 4), (240, 7, 60), (7, 7, 7)]));
+    let out = f.run(&["diff", "a.card", "b.csv"]).exit(1).out;
+    let lines = [
+        "only on the card:   place 0 rank 5 track 1",
+        "only in the sheet:  place 7 rank 7 track 7 (line 4)",
+        "only on the card:   place 240 rank 7 track 2",
+        "only in the sheet:  place 240 rank 7 track 60 (line 3)\n",
+    ];
+    assert_eq!(out, lines.join("\n"));
+    let csv = f.run(&["diff", "a.card", "b.csv", "--csv"]).exit(1).out;
+    assert_eq!(csv, "only_in,place,rank,track,line\ncard,0,5,1,\nsheet,7,7,7,4\ncard,240,7,2,\nsheet,240,7,60,3\n");
+}
+
+#[test]
+fn a_changed_track_byte_is_found_by_the_digest() {
+    let f = Folder::new();
+    f.card("a.card", 9, &[(0, 5, 1), (240, 7, 2)]);
+    f.run(&["check", "a.card"]).exit(0).says("those that spotcard wrote");
+    let mut bytes = f.read("a.card");
+    bytes[BLOCK + 8 + 11] ^= 64;
+    f.write("a.card", &bytes);
+    f.run(&["check", "a.card"]).exit(1).says("a.card is sound.").says("NOT those that spotcard wrote");
+    f.run(&["report", "a.card", "0", "9", "0"]).exit(0).complains("warning: a.card is not as spotcard left it");
+    f.run(&["add", "a.card", "1", "1", "1"]).exit(1).complains("delete a.card.sha256");
+    assert_eq!(f.read("a.card"), bytes);
+    fs::remove_file(f.path("a.card.sha256")).unwrap();
+    f.run(&["check", "a.card"]).exit(0).says("There is no a.card.sha256");
+    f.run(&["add", "a.card", "1", "1", "1"]).exit(0);
+    f.run(&["check", "a.card"]).exit(0).says("those that spotcard wrote");
+}
+
+#[test]
+fn the_digest_is_the_one_that_sha256sum_knows() {
+    let f = Folder::new();
+    f.card("a.card", 9, &[(0, 5, 1)]);
+    let run = process::Command::new("sha256sum").args(["-c", "a.card.sha256"]).current_dir(f.dir.path()).output();
+    if let Ok(run) = run {
+        assert!(run.status.success(), "{run:?}");
+    }
+}
+
+#[test]
+fn wrong_command_lines_end_with_2() {
+    let f = Folder::new();
+    let rows: [&[&str]; 9] = [
+        &[],
+        &["make", "a.card"],
+        &["new"],
+        &["new", "a.card", "--blocks", "8"],
+        &["new", "a.card", "--blocks", "4097"],
+        &["add", "a.card", "1", "2"],
+        &["add", "a.card", "1", "2147483648", "3"],
+        &["top", "a.card", "0", "9", "-1"],
+        &["picture", "a.card", "--top", "0", "9", "-1", "-o", "a.svg"],
+    ];
+    for args in rows {
+        let ran = f.run(args).exit(2);
+        assert!(!ran.err.is_empty());
+    }
+    f.run(&["add", "a.card", "1", "x", "3"]).exit(2).complains("not a whole number from -2147483648 to 2147483647");
+    assert_eq!(fs::read_dir(f.dir.path()).unwrap().count(), 0);
+    f.run(&["--help"]).exit(0).says("spotcard new show.card");
+    for command in ["new", "import", "export", "diff", "add", "withdraw", "report", "top", "info", "check", "rebuild", "picture"] {
+        f.run(&[command, "--help"]).exit(0).says("Usage: spotcard");
+    }
+}
+
+#[test]
+fn files_in_the_way_end_with_3_and_files_that_are_no_cards_with_1() {
+    let f = Folder::new();
+    f.write("sheet.csv", "place,rank,track\n");
+    f.run(&["check", "no.card"]).exit(3).complains("there is no card no.card. `spotcard new no.card` makes an empty one");
+    f.run(&["import", "sheet.csv", "no.card"]).exit(3).complains("there is no card");
+    f.run(&["new", "no/such/folder.card"]).exit(3).complains("there is no such file or folder");
+    fs::create_dir(f.path("folder")).unwrap();
+    f.run(&["check", "folder"]).exit(3).complains("is not a file");
+    f.run(&["new", "folder", "--force"]).exit(3).complains("is a folder");
+    f.run(&["new", "a.card", "--blocks", "9"]).exit(0);
+    f.run(&["import", "none.csv", "a.card"]).exit(3).complains("none.csv can't be read: there is no such file");
+    f.run(&["export", "a.card", "-o", "/dev/full"]).exit(3).complains("the disk is full");
+    for length in [0, 100, 8 * BLOCK, 9 * BLOCK + 1, 4097 * BLOCK] {
+        f.write("odd.card", vec![0; length]);
+        f.run(&["check", "odd.card"]).exit(1).complains("is not a card");
+        f.run(&["add", "odd.card", "1", "1", "1"]).exit(1).complains("is not a card");
+        assert_eq!(f.read("odd.card").len(), length);
+    }
+}
+
+#[test]
+fn a_broken_pipe_is_quiet() {
+    let f = Folder::new();
+    f.card("a.card", 300, &spots(4000, 8));
+    let program = env!("CARGO_BIN_EXE_spotcard");
+    let script = format!("{program} export a.card | head -n 1");
+    let run = process::Command::new("sh").args(["-c", &script]).current_dir(f.dir.path()).output().unwrap();
+    assert_eq!(String::from_utf8_lossy(&run.stdout), "place,rank,track\n");
+    assert_eq!(String::from_utf8_lossy(&run.stderr), "");
+}
+
+#[test]
+fn links_and_permissions_stay() {
+    let f = Folder::new();
+    f.card("real.card", 9, &[(0, 5, 1)]);
+    fs::set_permissions(f.path("real.card"), fs::Permissions::from_mode(0o640)).unwrap();
+    std::os::unix::fs::symlink("real.card", f.path("link.card")).unwrap();
+    f.run(&["add", "link.card", "1", "1", "1"]).exit(0);
+    assert!(fs::symlink_metadata(f.path("link.card")).unwrap().is_symlink());
+    assert!(!f.path("link.card.sha256").exists());
+    let about = fs::metadata(f.path("real.card")).unwrap();
+    assert_eq!(about.permissions().mode() & 0o777, 0o640);
+    f.run(&["check", "real.card"]).exit(0).says("those that spotcard wrote");
+    let program = env!("CARGO_BIN_EXE_spotcard");
+    let script = format!("umask 027; {program} new new.card --blocks 9 && {program} export new.card -o new.csv");
+    let run = process::Command::new("sh").args(["-c", &script]).current_dir(f.dir.path()).output().unwrap();
+    assert!(run.status.success());
+    for name in ["new.card", "new.card.sha256", "new.csv"] {
+        assert_eq!(fs::metadata(f.path(name)).unwrap().permissions().mode() & 0o777, 0o640, "{name}");
+    }
+}
+
+#[test]
+fn pictures_are_drawn_for_few_and_for_many() {
+    let f = Folder::new();
+    f.card("few.card", 9, &spots(50, 4));
+    f.run(&["picture", "few.card", "-o", "few.svg"]).exit(0);
+    let few = f.text("few.svg");
+    assert_eq!(few.matches("settled in block").count(), 50);
+    assert!(few.starts_with("<svg") && few.ends_with("</svg>\n"));
+    f.card("many.card", 400, &spots(6000, 4));
+    f.run(&["picture", "many.card", "--report", "0", "50000", "900", "-o", "many.svg"]).exit(0);
+    let many = f.text("many.svg");
+    assert!(many.contains("class=\"query\"") && many.len() < 2_000_000);
+    f.run(&["picture", "many.card", "--top", "-5", "50000", "9", "-o", "many.svg"]).exit(0);
+    f.write("mine.svg", "<svg>mine</svg>");
+    f.run(&["picture", "few.card", "-o", "mine.svg"]).exit(1).complains("exists already");
+    assert_eq!(f.text("mine.svg"), "<svg>mine</svg>");
+    f.run(&["new", "none.card", "--blocks", "9"]).exit(0);
+    f.run(&["picture", "none.card", "-o", "none.svg"]).exit(0);
+    assert!(f.text("none.svg").contains("no spots on this card"));
+}
+
+#[test]
+fn a_write_protected_card_is_left_as_it_is() {
+    let f = Folder::new();
+    f.card("a.card", 9, &[(0, 5, 1)]);
+    let before = f.read("a.card");
+    fs::set_permissions(f.path("a.card"), fs::Permissions::from_mode(0o444)).unwrap();
+    f.run(&["add", "a.card", "1", "1", "1"]).exit(3).complains("a.card is write-protected");
+    f.run(&["new", "a.card", "--force"]).exit(3);
+    f.run(&["report", "a.card", "0", "9", "0"]).exit(0);
+    assert_eq!(f.read("a.card"), before);
+}
+
+#[test]
+fn card_and_sheet_in_the_wrong_order_are_noticed() {
+    let f = Folder::new();
+    f.card("a.card", 9, &[(0, 5, 1)]);
+    f.write("sheet.csv", sheet(&[(0, 5, 1)]));
+    for args in [["import", "a.card", "sheet.csv"], ["diff", "sheet.csv", "a.card"]] {
+        f.run(&args).exit(1).complains("a.card is a card, not a sheet");
+    }
+}
