@@ -1,9 +1,7 @@
 // The bench program: a table of 32 blocks, a command a line on standard input, and its answer on standard output.
 ghost use mathlib.Core.Path.{_≡_};
-ghost use Prim.Native.Nat.{_+_, _*_, _≤_, _<_};
+ghost use Prim.Native.Nat.{_≤_, _<_};
 ghost use lib.ListN.{length};
-ghost use Rattle.text.specs.Written.{Wrote};
-ghost use Rattle.bench.specs.Printed.{linesOf, printed};
 
 // What is kept of the input: the length of the line begun, and whether there is more to read.
 struct Fed {
@@ -11,103 +9,22 @@ struct Fed {
     more: bool,
 }
 
-// The first bytes of out.
-fn print(out: &[u8], end: usize)
-    requires { ⌜ end ≤ length (now out) ⌝ }
-{
-    io::write_all(1, &out[0..end]);
-}
-
-// The number of a refusal, or 0 for a line of no such form.
-fn refuse(number: u32) {
-    let mut out = [0u8; 16];
-    let end = text::write_refusal_line(&mut out, 0, number);
-    print(&out, end);
-}
-
-// A line for each of the first n spots.
-fn write_lines(out: &mut [u8], at: usize, output: &[u8], n: usize) -> usize
-    requires { ⌜ (n ≤ 496) × (12 * n ≤ length (now output)) × (at + 35 * n ≤ length (now out)) ⌝ }
-    ensures { λ r. ⌜ Wrote (now (out .entry)) (now (out .exit)) at (35 * n) (linesOf (now (output .entry)) n) r ⌝ }
-{
-    let mut end = at;
-    let mut i = 0;
-    while i < n {
-        let place = spot::read_i32(output, 12 * i);
-        let rank = spot::read_i32(output, 12 * i + 4);
-        let track = octets::read32(output, 12 * i + 8) as u32;
-        end = text::write_spot_line(out, end, place, rank, track);
-        i += 1;
-    }
-    end
-}
-
-// The number of spots, and a line each.
-fn write_spots(out: &mut [u8], output: &[u8], n: usize) -> usize
-    requires { ⌜ (n ≤ 496) × (12 * n ≤ length (now output)) × (17408 ≤ length (now out)) ⌝ }
-    ensures { λ r. ⌜ Wrote (now (out .entry)) (now (out .exit)) 0 17408 (printed (now (output .entry)) n) r ⌝ }
-{
-    let at = text::write_count_line(out, 0, n as u32);
-    write_lines(out, at, output, n)
-}
-
-// The answer to `?` or `^`. An output of 5,952 bytes holds the 496 spots that the table can have.
-fn show(a: block::Answer, output: &[u8]) {
-    if a.number != 0 {
-        refuse(a.number);
-        return;
-    }
-    let n = a.detail as usize;
-    if 496 < n {
-        return;
-    }
-    if output.len() < 12 * n {
-        return;
-    }
-    let mut out = [0u8; 17408];
-    let end = write_spots(&mut out, output, n);
-    print(&out, end);
-}
-
-// The answer to `+` or `-`.
-fn tell(a: block::Answer) {
-    if a.number != 0 {
-        refuse(a.number);
-    }
-}
-
-fn report(table: &[u8], x1: i32, x2: i32, y: i32) {
-    let mut output = [0u8; 5952];
-    let mut read_map = [0u8; 512];
-    let a = table::report(table, x1, x2, y, &mut output, &mut read_map);
-    show(a, &output);
-}
-
-fn top(table: &[u8], x1: i32, x2: i32, k: u32) {
-    let mut output = [0u8; 5952];
-    let mut read_map = [0u8; 512];
-    let a = table::top(table, x1, x2, k, &mut output, &mut read_map);
-    show(a, &output);
-}
-
-// Carries out the line in the first bytes of `line`.
+// Carries out the line in the first bytes of `line` and writes its text. An output of 5,952 bytes and a text of 17,408 hold the 496 spots that the table can have.
 fn obey(table: &mut [u8], scratch: &mut [u8], line: &[u8], used: usize)
     requires { ⌜ used ≤ length (now line) ⌝ }
 {
-    let c = text::parse(&line[0..used]);
-    match c {
-        text::Command::Add(place, rank, track) => tell(table::add(
-            table,
-            scratch,
-            place,
-            rank,
-            track,
-        )),
-        text::Command::Withdraw(place, rank) => tell(table::withdraw(table, scratch, place, rank)),
-        text::Command::Report(x1, x2, y) => report(table, x1, x2, y),
-        text::Command::Top(x1, x2, k) => top(table, x1, x2, k),
-        text::Command::Bad => refuse(0),
-    }
+    let mut output = [0u8; 5952];
+    let mut read_map = [0u8; 512];
+    let mut out = [0u8; 17408];
+    let end = commands::obey(
+        table,
+        scratch,
+        &mut output,
+        &mut read_map,
+        &line[0..used],
+        &mut out,
+    );
+    io::write_all(1, &out[0..end]);
 }
 
 // One more byte of input. No command has over 64 bytes, so that of a longer line the first 64 tell as much.

@@ -89,7 +89,7 @@ module _ (blocks : ℕ) (s : List ℕ) (c i d : ℕ) where
       → agrees a (nodeFrom version1 blocks s c p i d)
       ≡ agreesFine a p (minimum lastKey (map rankKey (keysAt s 12 p (8 + 28 * c)))) (maximum (map rankKey (keysAt s 12 p (8 + 28 * c))))
   unfolding agrees agreesFine nodeFrom keyed
-  agrees-is Root kd p = refl
+  agrees-is (Root b) kd p = refl
   agrees-is (Child e) kd zero = all3 (eqb (e .size) 0)
   agrees-is (Child e) kd (suc p) =
       let at : ℕ = 8 + 28 * c in

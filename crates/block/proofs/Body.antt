@@ -5,13 +5,13 @@ use mathlib.Core.Bool.{Bool, true, _&&_}
 use mathlib.Core.List.{List}
 use Prim.Native.Nat.{ℕ}
 use native.Mathlib.Omega.{arith}
-use lib.Dec.{leb}
 use lib.ListN.{drop}
-use Rattle.octets.specs.Lists.{all, every, records, risingFrom, rising}
+use Rattle.octets.specs.Lists.{every, risingFrom, rising}
 use Rattle.block.specs.declared.Points.{Points}
 use Rattle.block.specs.declared.Front.{Front}
 use Rattle.block.specs.declared.Asked.{Asked}
-use Rattle.block.specs.Checks.{_and_, keysP, keysI, keysD, lowOf, floorOf, under, risesUnder, PointsAre, listsFine, restFine, apart, isZero, entryFine, firstFine, agreesFine}
+use Rattle.block.specs.NodeRules.{floorOf, standsIn}
+use Rattle.block.specs.Checks.{_and_, keysP, keysI, keysD, lowOf, under, risesUnder, PointsAre, listsFine, restFine, apart, isZero, aboveTops, entriesFine, blocksFine, agreesFine}
 use Rattle.octets.proofs.Tests.{and-left}
 use Rattle.octets.proofs.Rising.{rising-lower}
 use Rattle.block.proofs.Shut.{fst, snd}
@@ -37,15 +37,17 @@ module _ (s : List ℕ) (blocks : ℕ) (a : Asked) (h : Front) where
   unfolding listsFine
   deletes-rise p = both-rise (lowOf s h) (keysD s h) (snd _ _ p)
 
-  pub rest-is : {floor : ℕ} {q : Points} {r0 r1 r2 r3 r4 : Bool} → PointsAre floor (keysP s h) q
+  pub rest-is : {q : Points} {floor own low : ℕ} {r0 r1 r2 r3 r4 : Bool} → PointsAre floor (keysP s h) q → floor ≡ floorOf a → own ≡ standsIn a
+      → low ≡ aboveTops (h .p) (q .low)
       → r0 ≡ apart (keysI s h) (keysD s h) → r1 ≡ every isZero (drop (h .used) s)
-      → r2 ≡ all (records (entryFine blocks (leb 32 (h .p)) (q .low) s) 28 (h .c) 8)
-      → r3 ≡ firstFine s (h .c) → r4 ≡ agreesFine a (h .p) (q .low) (q .high) → r0 && r1 && r2 && r3 && r4 ≡ restFine s blocks a h
+      → r2 ≡ entriesFine s (h .c) blocks own low floor
+      → r3 ≡ blocksFine s (h .c) → r4 ≡ agreesFine a (h .p) (q .low) (q .high) → r0 && r1 && r2 && r3 && r4 ≡ restFine s blocks a h
   unfolding restFine _and_
-  rest-is p e0 e1 e2 e3 e4 =
+  rest-is {floor = floor} {low = low} p ef eo el e0 e1 e2 e3 e4 =
       ap₂ (λ (x y : Bool). x && y)
       (ap₂ (λ (x y : Bool). x && y)
       (ap₂ (λ (x y : Bool). x && y) (ap₂ (λ (x y : Bool). x && y) e0 e1)
-      (e2 ∙ ap (λ (l : ℕ). all (records (entryFine blocks (leb 32 (h .p)) l s) 28 (h .c) 8)) (p .least)))
+      (e2 ∙ ap (λ (o : ℕ). entriesFine s (h .c) blocks o low floor) eo
+      ∙ ap₂ (λ (l f : ℕ). entriesFine s (h .c) blocks (standsIn a) l f) (el ∙ ap (aboveTops (h .p)) (p .least)) ef))
       e3)
       (e4 ∙ ap₂ (λ (l m : ℕ). agreesFine a (h .p) l m) (p .least) (p .most))

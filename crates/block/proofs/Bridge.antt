@@ -6,9 +6,9 @@ use mathlib.Core.Logic.{_⊎_, inl, inr, ⊎-elim}
 use mathlib.Core.List.{List, [], _∷_, _++_, map}
 use Prim.Native.Nat.{ℕ, _+_, _-_, _*_, _≤_, _<_}
 use native.Mathlib.Omega.{arith}
-use lib.Dec.{leb, ltb, eqb}
+use lib.Dec.{leb, ltb, eqb, leb·suc-zero}
 use lib.ListN.{drop}
-use borrow.Author.Tests.{eqb-true, leb-true, lt-leb, ltb-true}
+use borrow.Author.Tests.{eqb-true, leb-true, lt-leb, ltb-true, le-ltb}
 use Rattle.octets.specs.Lists.{all, every, records, rising, risingFrom, distinct, minimum}
 use Rattle.octets.specs.Bytes.{be}
 use Rattle.spot.specs.Keys.{rankKey}
@@ -20,21 +20,22 @@ use Rattle.block.specs.declared.Front.{Front}
 use Rattle.block.specs.declared.Asked.{Asked}
 use Rattle.block.specs.Table.{blockOk, version1}
 use Rattle.block.specs.Node.{Node, nodeOf, nodeFrom, laidOut, usedBytes, entryAt, entryBlank, firstBlank, firstOpen}
-use Rattle.block.specs.NodeRules.{nodeOk, fewest, buffersRise, namedOnce, pointsAbove, tops, filled, lowest}
+use Rattle.block.specs.NodeRules.{floorOf, standsIn, nodeOk, fewest, buffersRise, namedOnce, pointsAbove, tops, filled, lowest}
 use Rattle.block.specs.Access.{frontOf}
-use Rattle.block.specs.Checks.{_and_, keyed, isZero, under, apart, keysAt, lastKey, risesUnder, floorOf, sizesFine, entryFine, firstFine, frontFine, listsFine, restFine, bodyFine}
-use Rattle.octets.proofs.Tests.{and-left, and-right, and-both, or-either, bool-ext, all-at, all-cons, all-nil, every-left, every-right, every-join}
+use Rattle.block.specs.Checks.{_and_, keyed, isZero, under, apart, keysAt, lastKey, risesUnder, sizesFine, otherBlock, entryShows, firstFine, entriesFine, blocksFine, aboveTops, countFine, frontFine, listsFine, restFine, bodyFine}
+use Rattle.octets.proofs.Tests.{and-left, and-right, and-both, or-either, or-right, bool-ext, all-at, all-cons, all-nil, every-left, every-right, every-join}
 use Rattle.octets.proofs.Sets.{distinct-split, distinct-join}
-use Rattle.octets.proofs.Rising.{rising-lower, rising-distinct}
-use Rattle.octets.proofs.Records.{left, left-first, none-left, records-cong}
+use Rattle.octets.proofs.Rising.{rising-lower, rising-from, rising-distinct}
+use Rattle.octets.proofs.Records.{left, left-first, none-left, records-cong, tests-at, tests-make}
 use Rattle.block.proofs.Shut.{fst, snd, pair, and-stop, and-go, in-left, in-right}
 use Rattle.block.proofs.Apart.{apart-test, apart-fact}
 use Rattle.block.proofs.Above.{above, above-under, least-above, above-apart}
 use Rattle.block.proofs.Agree.{agrees-is}
 use Rattle.spot.proofs.Buffers.{keys-records}
 use Rattle.block.proofs.Views.{every-entry, every-top, tests-mono, tests-both}
-use Rattle.block.proofs.Marks.{fine-full, fine-thin, fine-blank, fine-block, fine-top, fine-empty}
-use Rattle.block.proofs.Rules.{floor-forward, floor-back, names-are, count-is, filled-is, lowest-is, leaf-is, lows-is, blocks-is}
+use Rattle.block.proofs.Marks.{credibleAt, fine-make, fine-blank, fine-block, fine-other, fine-top, fine-credible}
+use Rattle.block.proofs.Rules.{rising-floor, floor-forward, floor-back, names-are, count-is, count-most, filled-is, lowest-is, leaf-is, lows-is, blocks-is}
+use Rattle.block.proofs.Children.{once-is, lows-above-is, apart-is, credible-is}
 
 module _ (s : List ℕ) (blocks level : ℕ) (a : Asked) (keys64 : keyed a ≡ true) (c p i d : ℕ) where
   abbrev node : Node
@@ -94,8 +95,33 @@ module _ (s : List ℕ) (blocks level : ℕ) (a : Asked) (keys64 : keyed a ≡ t
   full-p : full ≡ true → leb 32 p ≡ true
   full-p h = and-left (leb 32 p) (leb p 64) (and-left (leb 32 p && leb p 64) (leb i 64) (and-left (leb 32 p && leb p 64 && leb i 64) (leb d 16) h))
 
-  thin-p : thin ≡ true → leb 32 p ≡ false
-  thin-p h = lt-leb 32 p (ltb-true p 32 (and-left (ltb p 32) (eqb i 0) (and-left (ltb p 32 && eqb i 0) (eqb d 0) h)))
+  -- what the tops lie below
+  abbrev over : ℕ
+  over = aboveTops p low
+
+  full-over : full ≡ true → over ≡ low
+  unfolding aboveTops
+  full-over h = rw (le-ltb p 32 (leb-true 32 p (full-p h)))
+
+  thin-over : thin ≡ true → over ≡ 0
+  unfolding aboveTops
+  thin-over h = rw (and-left (ltb p 32) (eqb i 0) (and-left (ltb p 32 && eqb i 0) (eqb d 0) h))
+
+  -- the lows from the second entry on
+  abbrev ls : List ℕ
+  ls = keysAt s 28 (c - 1) 40
+
+  abbrev shows : ℕ → Bool
+  shows e = entryShows blocks (standsIn a) over (floorOf a) (8 + 28 * c) s e
+
+  abbrev others : ℕ → Bool
+  others e = otherBlock (standsIn a) s e
+
+  abbrev covered : ℕ → Bool
+  covered e = empties e || under over (keyAt s (e + 12))
+
+  abbrev agreeable : ℕ → Bool
+  agreeable e = credibleAt (floorOf a) (8 + 28 * c) s e
 
   thin-i : thin ≡ true → is ≡ []
   thin-i h = none-left (keyAt s) 12 i (8 + 28 * c + 12 * p) (eqb-true i 0 (and-right (ltb p 32) (eqb i 0) (and-left (ltb p 32 && eqb i 0) (eqb d 0) h)))
@@ -182,37 +208,59 @@ module _ (s : List ℕ) (blocks level : ℕ) (a : Asked) (keys64 : keyed a ≡ t
     unfolding laidOut
     to-zeros = ap (λ (k : ℕ). every isZero (drop k s)) used ∙ all-at _ laid 3
 
-    shown : all (records (λ e. entryBlank s e && blockOk blocks (be 2 s e)) 28 c 8) ≡ true
-    unfolding laidOut nodeOk
-    shown = tests-both (entryBlank s) 28 (λ e. blockOk blocks (be 2 s e)) c 8 (all-at _ laid 4) (sym (blocks-is blocks s c p i d) ∙ all-at _ ok 11)
+    count : c ≤ 8
+    unfolding nodeOk
+    count = count-most blocks s c p i d (fewest a) (sym (count-is blocks s c p i d a) ∙ all-at _ ok 2)
 
-    abbrev both : ℕ → Bool
-    both e = entryBlank s e && blockOk blocks (be 2 s e)
+    lows-above : every (leb (floorOf a)) ls ≡ true
+    unfolding nodeOk
+    lows-above = sym (lows-above-is blocks s c p i d a) ∙ all-at _ ok 12
 
-    to-entries : all (records (entryFine blocks (leb 32 p) low s) 28 c 8) ≡ true
-    to-entries =
+    children : all (records others 28 c 8) && distinct (records (be 2 s) 28 c 8) ≡ true
+    unfolding nodeOk
+    children = sym (apart-is blocks s c p i d a) ∙ all-at _ ok 13
+
+    blank : all (records (entryBlank s) 28 c 8) ≡ true
+    unfolding laidOut
+    blank = all-at _ laid 4
+
+    in-table : all (records (λ e. blockOk blocks (be 2 s e)) 28 c 8) ≡ true
+    unfolding nodeOk
+    in-table = sym (blocks-is blocks s c p i d) ∙ all-at _ ok 11
+
+    agreeing : all (records agreeable 28 c 8) ≡ true
+    unfolding nodeOk
+    agreeing = sym (credible-is blocks s c p i d a lows-above) ∙ all-at _ ok 14
+
+    covers : all (records covered 28 c 8) ≡ true
+    covers =
         ⊎-elim
-        (λ h.
-        subst (λ (f : Bool). all (records (entryFine blocks f low s) 28 c 8) ≡ true) (sym (full-p h))
-        (tests-mono (λ e. both e && topped e) 28 (entryFine blocks true low s)
-        (λ e q. fine-full blocks low s e (and-left (entryBlank s e) (blockOk blocks (be 2 s e)) (and-left (both e) (topped e) q)) (and-right (entryBlank s e) (blockOk blocks (be 2 s e)) (and-left (both e) (topped e) q)) (and-right (both e) (topped e) q))
-        c 8 (tests-both both 28 topped c 8 shown (sym tops-are ∙ every-right (under low) (is ++ ds) (tops es) (under-full h)))))
-        (λ h.
-        tests-mono (λ e. both e && empties e) 28 (entryFine blocks (leb 32 p) low s)
-        (λ e q. fine-thin blocks low s e (leb 32 p) (and-left (entryBlank s e) (blockOk blocks (be 2 s e)) (and-left (both e) (empties e) q)) (and-right (entryBlank s e) (blockOk blocks (be 2 s e)) (and-left (both e) (empties e) q)) (and-right (both e) (empties e) q))
-        c 8 (tests-both both 28 empties c 8 shown (h .1)))
+        (λ h. subst (λ (l : ℕ). all (records (λ e. empties e || under l (keyAt s (e + 12))) 28 c 8) ≡ true) (sym (full-over h))
+        (sym tops-are ∙ every-right (under low) (is ++ ds) (tops es) (under-full h)))
+        (λ h. tests-mono empties 28 covered (λ e q. in-left (under over (keyAt s (e + 12))) q) c 8 (h .1))
         kind
 
-    to-first : firstFine s c ≡ true
+    to-entries : all (records shows 28 c 8) ≡ true
+    to-entries =
+        tests-make shows 28 c 8
+        (λ j l.
+        fine-make blocks (standsIn a) over (floorOf a) (8 + 28 * c) s (8 + 28 * j) (tests-at (entryBlank s) 28 c 8 j blank l) (tests-at (λ e. blockOk blocks (be 2 s e)) 28 c 8 j in-table l)
+        (tests-at others 28 c 8 j (and-left (all (records others 28 c 8)) (distinct (records (be 2 s) 28 c 8)) children) l) (tests-at covered 28 c 8 j covers l)
+        (tests-at agreeable 28 c 8 j agreeing l))
+
+    to-first : firstFine (floorOf a) s c ≡ true
     unfolding firstFine laidOut firstBlank nodeOk
     to-first =
-        ⊎-elim (λ h. in-left (eqb (be 8 s 12) 0 && rising (keysAt s 28 (c - 1) 40)) h)
-        (λ h. in-right (eqb c 0) (and-both _ _ h (sym (lows-is blocks s c p i d) ∙ all-at _ ok 5)))
+        ⊎-elim (λ h. in-left (eqb (be 8 s 12) 0 && risingFrom (floorOf a) ls) h)
+        (λ h. in-right (eqb c 0) (and-both _ _ h (rising-floor (floorOf a) ls (sym (lows-is blocks s c p i d) ∙ all-at _ ok 5) lows-above)))
         (or-either (eqb c 0) (eqb (be 8 s 12) 0) (all-at _ laid 5))
 
+    to-blocks : blocksFine s c ≡ true
+    to-blocks = sym (once-is s c count) ∙ and-right (all (records others 28 c 8)) (distinct (records (be 2 s) 28 c 8)) children
+
     to-body : bodyFine s blocks a head ≡ true
-    unfolding bodyFine restFine nodeOk
-    to-body = pair to-lists (pair (pair (pair (pair to-apart to-zeros) to-entries) to-first) (sym (agrees-is blocks s c i d a keys64 p) ∙ all-at _ ok 9))
+    unfolding bodyFine restFine entriesFine nodeOk
+    to-body = pair to-lists (pair (pair (pair (pair to-apart to-zeros) (pair to-entries to-first)) to-blocks) (sym (agrees-is blocks s c i d a keys64 p) ∙ all-at _ ok 9))
 
   -- ---- and back
   module _ (hd : frontFine level (fewest a) head ≡ true) (bd : bodyFine s blocks a head ≡ true) where
@@ -251,9 +299,17 @@ module _ (s : List ℕ) (blocks level : ℕ) (a : Asked) (keys64 : keyed a ≡ t
         every-join (under low) is ds (and-right (risingFrom (floorOf a) is) (every (under low) is) both-i)
         (and-right (risingFrom (floorOf a) ds) (every (under low) ds) both-d)
 
-    entries : all (records (entryFine blocks (leb 32 p) low s) 28 c 8) ≡ true
-    unfolding restFine
-    entries = snd _ _ (fst _ _ (fst _ _ more))
+    entries : all (records shows 28 c 8) ≡ true
+    unfolding restFine entriesFine
+    entries = fst _ _ (snd _ _ (fst _ _ (fst _ _ more)))
+
+    first : firstFine (floorOf a) s c ≡ true
+    unfolding restFine entriesFine
+    first = snd _ _ (snd _ _ (fst _ _ (fst _ _ more)))
+
+    counted : countFine (be 1 s 3) (fewest a) c ≡ true
+    unfolding frontFine
+    counted = snd _ _ (fst _ _ (fst _ _ hd))
 
     sizes : sizesFine p i d ≡ true
     unfolding frontFine
@@ -266,11 +322,11 @@ module _ (s : List ℕ) (blocks level : ℕ) (a : Asked) (keys64 : keyed a ≡ t
         (all-cons _ _ (snd _ _ (fst _ _ (fst _ _ (fst _ _ (fst _ _ (fst _ _ hd))))))
         (all-cons _ _ (snd _ _ (fst _ _ (fst _ _ (fst _ _ (fst _ _ hd)))))
         (all-cons _ _ (ap (λ (k : ℕ). every isZero (drop k s)) (sym (eqb-true (be 2 s 0) (usedBytes version1 c p i d) used-back)) ∙ snd _ _ (fst _ _ (fst _ _ (fst _ _ more))))
-        (all-cons _ _ (tests-mono (entryFine blocks (leb 32 p) low s) 28 (entryBlank s) (λ e q. fine-blank blocks low s e (leb 32 p) q) c 8 entries)
+        (all-cons _ _ (tests-mono shows 28 (entryBlank s) (λ e q. fine-blank blocks (standsIn a) over (floorOf a) (8 + 28 * c) s e q) c 8 entries)
         (all-cons _ _
         (⊎-elim (λ h. in-left (eqb (be 8 s 12) 0) h)
-        (λ h. in-right (eqb c 0) (and-left (eqb (be 8 s 12) 0) (rising (keysAt s 28 (c - 1) 40)) h))
-        (or-either (eqb c 0) (eqb (be 8 s 12) 0 && rising (keysAt s 28 (c - 1) 40)) (snd _ _ (fst _ _ more))))
+        (λ h. in-right (eqb c 0) (and-left (eqb (be 8 s 12) 0) (risingFrom (floorOf a) ls) h))
+        (or-either (eqb c 0) (eqb (be 8 s 12) 0 && risingFrom (floorOf a) ls) first))
         all-nil)))))
 
     from-rise : buffersRise node ≡ true
@@ -288,19 +344,28 @@ module _ (s : List ℕ) (blocks level : ℕ) (a : Asked) (keys64 : keyed a ≡ t
         (distinct-join is ds (rising-distinct (floorOf a) is rise-i) (rising-distinct (floorOf a) ds rise-d) (apart-fact is ds (fst _ _ (fst _ _ (fst _ _ (fst _ _ more))))))
         (above-apart rankKey (is ++ ds) ps (least-above rankKey lastKey (is ++ ds) ps under-id))
 
-    from-lows : rising (keysAt s 28 (c - 1) 40) ≡ true
-    unfolding restFine firstFine
+    from-lows : risingFrom (floorOf a) ls ≡ true
+    unfolding firstFine
     from-lows =
-        ⊎-elim (λ h. let e : c - 1 ≡ 0 = omega (arith, eqb-true c 0 h) in ap (λ (k : ℕ). rising (keysAt s 28 k 40)) e)
-        (λ h. and-right (eqb (be 8 s 12) 0) (rising (keysAt s 28 (c - 1) 40)) h)
-        (or-either (eqb c 0) (eqb (be 8 s 12) 0 && rising (keysAt s 28 (c - 1) 40)) (snd _ _ (fst _ _ more)))
+        ⊎-elim (λ h. let e : c - 1 ≡ 0 = omega (arith, eqb-true c 0 h) in ap (λ (k : ℕ). risingFrom (floorOf a) (keysAt s 28 k 40)) e)
+        (λ h. and-right (eqb (be 8 s 12) 0) (risingFrom (floorOf a) ls) h)
+        (or-either (eqb c 0) (eqb (be 8 s 12) 0 && risingFrom (floorOf a) ls) first)
+
+    from-below : every (leb (floorOf a)) ls ≡ true
+    from-below = rising-from (floorOf a) ls from-lows
+
+    -- an entry's top is below P's lowest, or there is none
+    from-topped : all (records topped 28 c 8) ≡ true
+    unfolding aboveTops
+    from-topped = tests-mono shows 28 topped (λ e q. pick (ltb p 32) (empties e) (rankKey (keyAt s (e + 12))) (fine-top blocks (standsIn a) over (floorOf a) (8 + 28 * c) s e q)) c 8 entries
+      where
+        pick : (t b : Bool) (r : ℕ) → b || ltb r (cond t 0 low) ≡ true → b || ltb r low ≡ true
+        pick true b r q = in-left (ltb r low) (or-right b (ltb r 0) q (leb·suc-zero r))
+        pick false b r q = q
 
     from-above : pointsAbove node ≡ true
     from-above =
-        above-are
-        ∙ least-above rankKey lastKey ks ps
-        (every-join (under low) (is ++ ds) (tops es) under-id
-        (tops-are ∙ tests-mono (entryFine blocks (leb 32 p) low s) 28 topped (λ e q. fine-top blocks low s e (leb 32 p) q) c 8 entries))
+        above-are ∙ least-above rankKey lastKey ks ps (every-join (under low) (is ++ ds) (tops es) under-id (tops-are ∙ from-topped))
 
     from-kind : filled node || lowest node ≡ true
     unfolding sizesFine
@@ -309,9 +374,16 @@ module _ (s : List ℕ) (blocks level : ℕ) (a : Asked) (keys64 : keyed a ≡ t
         (λ h. in-right (filled node)
         (lowest-is blocks s c p i d
         ∙ and-both _ _ h
-        (tests-mono (entryFine blocks false low s) 28 empties (λ e q. fine-empty blocks low s e q) c 8
-        (subst (λ (f : Bool). all (records (entryFine blocks f low s) 28 c 8) ≡ true) (thin-p h) entries))))
+        (tests-mono shows 28 empties
+        (λ e q. or-right (empties e) (under 0 (keyAt s (e + 12))) (subst (λ (l : ℕ). empties e || under l (keyAt s (e + 12)) ≡ true) (thin-over h) (fine-top blocks (standsIn a) over (floorOf a) (8 + 28 * c) s e q)) (leb·suc-zero (rankKey (keyAt s (e + 12)))))
+        c 8 entries)))
         (or-either full thin sizes)
+
+    from-others : all (records others 28 c 8) ≡ true
+    from-others = tests-mono shows 28 others (λ e q. fine-other blocks (standsIn a) over (floorOf a) (8 + 28 * c) s e q) c 8 entries
+
+    from-credible : all (records agreeable 28 c 8) ≡ true
+    from-credible = tests-mono shows 28 agreeable (λ e q. fine-credible blocks (standsIn a) over (floorOf a) (8 + 28 * c) s e q) c 8 entries
 
     from-all : nodeOk level a node ≡ true
     unfolding nodeOk frontFine restFine nodeFrom
@@ -321,14 +393,17 @@ module _ (s : List ℕ) (blocks level : ℕ) (a : Asked) (keys64 : keyed a ≡ t
         (all-cons _ _ (count-is blocks s c p i d a ∙ snd _ _ (fst _ _ (fst _ _ hd)))
         (all-cons _ _ from-rise
         (all-cons _ _ from-named
-        (all-cons _ _ (lows-is blocks s c p i d ∙ from-lows)
+        (all-cons _ _ (lows-is blocks s c p i d ∙ rising-lower 0 (floorOf a) ls (omega arith) from-lows)
         (all-cons _ _ from-above
         (all-cons _ _ from-kind
         (all-cons _ _ (leaf-is blocks s c p i d ∙ snd _ _ hd)
         (all-cons _ _ (agrees-is blocks s c i d a keys64 p ∙ snd _ _ more)
         (all-cons _ _ (floor-back a node ps is ds (names-are blocks s c p i d) rise-p rise-i rise-d)
-        (all-cons _ _ (blocks-is blocks s c p i d ∙ tests-mono (entryFine blocks (leb 32 p) low s) 28 (λ e. blockOk blocks (be 2 s e)) (λ e q. fine-block blocks low s e (leb 32 p) q) c 8 entries)
-        all-nil)))))))))))
+        (all-cons _ _ (blocks-is blocks s c p i d ∙ tests-mono shows 28 (λ e. blockOk blocks (be 2 s e)) (λ e q. fine-block blocks (standsIn a) over (floorOf a) (8 + 28 * c) s e q) c 8 entries)
+        (all-cons _ _ (lows-above-is blocks s c p i d a ∙ from-below)
+        (all-cons _ _ (apart-is blocks s c p i d a ∙ and-both _ _ from-others (once-is s c (count-most blocks s c p i d (fewest a) counted) ∙ snd _ _ (fst _ _ more)))
+        (all-cons _ _ (credible-is blocks s c p i d a from-below ∙ from-credible)
+        all-nil))))))))))))))
 
   same : (frontFine level (fewest a) head and bodyFine s blocks a head) ≡ nodeOk level a node
   same =

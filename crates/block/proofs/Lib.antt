@@ -7,6 +7,7 @@ pub mod Views
 pub mod Marks
 pub mod Agree
 pub mod Rules
+pub mod Children
 pub mod Bridge
 pub mod Heads
 pub mod Clear

@@ -1,22 +1,26 @@
 -- Passes over the records of a block: what is done so far and what is left make up the whole.
 -- Assumes nothing.
-use mathlib.Core.Path.{_≡_, sym, ap, _∙_}
-use mathlib.Core.Bool.{Bool, true, _&&_, and-assoc, and-true}
+use mathlib.Core.Path.{_≡_, refl, sym, ap, ap₂, subst, _∙_}
+use mathlib.Core.Logic.{⊎-elim}
+use mathlib.Core.Bool.{Bool, true, false, _&&_, _||_, and-assoc, and-true, and-false, true≢false}
 use mathlib.Core.List.{List, [], _∷_, map}
-use Prim.Native.Nat.{ℕ, suc, _+_, _*_, _≤_, _<_, min, max}
+use Prim.Native.Nat.{ℕ, suc, _+_, _-_, _*_, _≤_, _<_, min, max}
 use native.Mathlib.Nat.{le-antisymm}
 use native.Mathlib.Omega.{arith}
-use lib.Dec.{leb, ltb}
+use lib.Dec.{leb, ltb, eqb, leb·zero}
 use lib.ListN.{length, getD, drop}
 use lib.Seq.{drop-cons, drop-length}
 use native.Mathlib.Numerals.{add-one}
-use Rattle.octets.specs.Lists.{every, records, risingFrom, all, maximum, minimum}
+use borrow.Author.Tests.{le-leb, lt-leb, ne-eqb}
+use Rattle.octets.specs.Lists.{every, records, risingFrom, rising, all, maximum, minimum}
+use Rattle.octets.specs.Bytes.{be}
+use Rattle.octets.proofs.Order.{less-or-not, leb-same}
 use Rattle.spot.specs.Keys.{rankKey}
 use Rattle.spot.specs.Spots.{keyAt}
 use Rattle.spot.proofs.Card.{keyAt-lt}
 use Rattle.spot.proofs.Halves.{rank-small}
 use Rattle.block.specs.declared.Points.{Points}
-use Rattle.block.specs.Checks.{keysAt, isZero, under, risesUnder, lastKey, PointsAre}
+use Rattle.block.specs.Checks.{_and_, keysAt, isZero, under, risesUnder, lastKey, PointsAre, inFine, credibleFine, entryFine, fromAt, entryShows, firstFine, entriesFine}
 use Rattle.octets.proofs.Records.{left, left-all, left-cons, left-none, left-first, none-left}
 use Rattle.block.proofs.Shut.{shuffle}
 
@@ -177,3 +181,124 @@ module _ (f : ℕ → Bool) (w n at : ℕ) where
   pub tests-end : (ok : Bool) (i : ℕ) → TestsInv ok i → n ≤ i → ok ≡ all (records f w n at)
   unfolding all
   tests-end ok i p h = sym (p ∙ ap (λ (l : List Bool). ok && all l) (left-none f w n at i h) ∙ and-true ok)
+
+-- ---- the entries, from the last to the first
+
+rise-cons : (b k : ℕ) (ks : List ℕ) → risingFrom b (k ∷ ks) ≡ leb b k && rising (k ∷ ks)
+rise-cons b k ks = ap (λ (t : Bool). leb b k && (t && risingFrom (suc k) ks)) (sym (leb·zero k))
+
+-- the tests of an entry, and then of those after it, as the loop finds them
+order : (r a x k : Bool) → (r && a) && (x && k) ≡ ((a && k) && x) && r
+order false a x k = sym (and-false ((a && k) && x))
+order true false x k = refl
+order true true x true = refl
+order true true true false = refl
+order true true false false = refl
+
+order-first : (r a z x k : Bool) → (r && a) && (z && (x && k)) ≡ (((a && k) && z) && x) && r
+order-first r a true x k = order r a x k ∙ ap (λ (b : Bool). (b && x) && r) (sym (and-true (a && k)))
+order-first r a false x k = and-false (r && a) ∙ ap (λ (b : Bool). (b && x) && r) (sym (and-false (a && k)))
+
+module _ (s : List ℕ) (c blocks own low floor : ℕ) where
+  abbrev shows : ℕ → Bool
+  shows a = entryShows blocks own low floor (8 + 28 * c) s a
+
+  abbrev lowsFrom : ℕ → List ℕ
+  lowsFrom i = left (keyAt s) 28 (c - 1) 40 i
+
+  -- after the tests of the entries past the i-th, the first of which begins at next
+  pub record EntriesInv (ok last : Bool) (next i : ℕ) : Type 0 where
+    pub done : ok ≡ all (left shows 28 c 8 (i + 1)) && rising (lowsFrom i)
+    pub ends : last ≡ leb c (i + 1)
+    pub after : last ≡ false → next ≡ keyAt s (40 + 28 * i)
+
+  pub entries-none : c ≡ 0 → true ≡ entriesFine s c blocks own low floor
+  unfolding entriesFine firstFine _and_ all
+  entries-none e = ap (λ (n : ℕ). all (records (λ a. entryShows blocks own low floor (8 + 28 * n) s a) 28 n 8) && firstFine floor s n) (sym e)
+
+  pub entries-start : 0 < c → EntriesInv true true 0 (c - 1)
+  unfolding all
+  entries-start h =
+      let n : left shows 28 c 8 (c - 1 + 1) ≡ [] = left-none shows 28 c 8 (c - 1 + 1) (omega arith) in
+      let m : lowsFrom (c - 1) ≡ [] = left-none (keyAt s) 28 (c - 1) 40 (c - 1) (omega arith) in
+      record {
+        done = sym (ap₂ (λ (l : List Bool) (k : List ℕ). all l && rising k) n m);
+        ends = sym (le-leb c (c - 1 + 1) (omega arith));
+        after = λ q. absurd (true≢false q);
+      }
+
+  module _ (ok last : Bool) (next i : ℕ) (v : EntriesInv ok last next i) where
+    -- the lows of the entries done rise from b on if the first of them is at least b
+    rise-from : (b : ℕ) → risingFrom b (lowsFrom i) ≡ (last || leb b next) && rising (lowsFrom i)
+    rise-from b =
+        ⊎-elim
+        (λ h. let l : last ≡ true = v .ends ∙ le-leb c (i + 1) h in
+        let n : lowsFrom i ≡ [] = left-none (keyAt s) 28 (c - 1) 40 i (omega arith) in
+        ap (risingFrom b) n ∙ sym (ap₂ (λ (t : Bool) (k : List ℕ). (t || leb b next) && rising k) l n))
+        (λ h. let l : last ≡ false = v .ends ∙ lt-leb c (i + 1) h in
+        let n : lowsFrom i ≡ keyAt s (40 + 28 * i) ∷ lowsFrom (i + 1) = left-cons (keyAt s) 28 (c - 1) 40 i (omega arith) in
+        ap (risingFrom b) n ∙ rise-cons b (keyAt s (40 + 28 * i)) (lowsFrom (i + 1))
+        ∙ ap₂ (λ (x : ℕ) (k : List ℕ). leb b x && rising k) (sym (v .after l)) (sym n)
+        ∙ ap (λ (t : Bool). (t || leb b next) && rising (lowsFrom i)) (sym l))
+        (less-or-not c (i + 1))
+
+    -- what stands past the last entry is no low
+    next-any : (a from : ℕ) (t : Bool) (x y : ℕ) → (t ≡ false → x ≡ y) → entryFine blocks own low from t x s a ≡ entryFine blocks own low from t y s a
+    unfolding entryFine credibleFine inFine
+    next-any a from true x y h = refl
+    next-any a from false x y h = ap (λ (k : ℕ). entryFine blocks own low from false k s a) (h refl)
+
+    shows-is : {from : ℕ} {r : Bool} → from ≡ fromAt floor s (8 + 28 * i) → r ≡ entryFine blocks own low from last next s (8 + 28 * i) → r ≡ shows (8 + 28 * i)
+    unfolding entryShows
+    shows-is {from} f e =
+        let a : ℕ = 8 + 28 * i in
+        let n : 40 + 28 * i ≡ a + 32 = omega arith in
+        let t : last ≡ leb (8 + 28 * c) (a + 28) = v .ends ∙ leb-same c (i + 1) (8 + 28 * c) (a + 28) (λ h. omega arith) (λ h. omega arith) in
+        e ∙ ap (λ (x : ℕ). entryFine blocks own low x last next s a) f
+        ∙ next-any a (fromAt floor s a) last next (keyAt s (a + 32)) (λ q. v .after q ∙ ap (keyAt s) n)
+        ∙ ap (λ (b : Bool). entryFine blocks own low (fromAt floor s a) b (keyAt s (a + 32)) s a) t
+
+    pub entries-next : {from : ℕ} {r : Bool} → 0 < i → i < c → from ≡ keyAt s (12 + 28 * i) → r ≡ entryFine blocks own low from last next s (8 + 28 * i)
+        → EntriesInv ((ok && (last || ltb from next)) && r) false from (i - 1)
+    unfolding all
+    entries-next {from} {r} h l e g =
+        let k : i - 1 + 1 ≡ i = omega arith in
+        let p : 12 + 28 * i ≡ 40 + 28 * (i - 1) = omega arith in
+        let q : 12 + 28 * i ≡ 8 + 28 * i + 4 = omega arith in
+        let start : from ≡ fromAt floor s (8 + 28 * i) = e ∙ ap (keyAt s) q ∙ sym (rw (ne-eqb (8 + 28 * i) 8 (λ z. omega arith))) in
+        let first : left shows 28 c 8 (i - 1 + 1) ≡ r ∷ left shows 28 c 8 (i + 1) =
+        ap (left shows 28 c 8) k ∙ left-cons shows 28 c 8 i l ∙ ap (λ (b : Bool). b ∷ left shows 28 c 8 (i + 1)) (sym (shows-is start g))
+        in
+        let lower : lowsFrom (i - 1) ≡ from ∷ lowsFrom i =
+        left-cons (keyAt s) 28 (c - 1) 40 (i - 1) (omega arith) ∙ ap₂ (λ (x j : ℕ). x ∷ lowsFrom j) (sym (e ∙ ap (keyAt s) p)) k
+        in
+        let rises : rising (from ∷ lowsFrom i) ≡ (last || ltb from next) && rising (lowsFrom i) =
+        ap (λ (t : Bool). t && risingFrom (suc from) (lowsFrom i)) (leb·zero from) ∙ rise-from (suc from)
+        in
+        record {
+          done =
+              sym
+              (ap₂ (λ (x : List Bool) (y : List ℕ). all x && rising y) first lower
+              ∙ ap (λ (b : Bool). (r && all (left shows 28 c 8 (i + 1))) && b) rises
+              ∙ order r (all (left shows 28 c 8 (i + 1))) (last || ltb from next) (rising (lowsFrom i))
+              ∙ ap (λ (b : Bool). (b && (last || ltb from next)) && r) (sym (v .done)));
+          ends = sym (lt-leb c (i - 1 + 1) (omega arith));
+          after = λ z. e ∙ ap (keyAt s) p;
+        }
+
+  pub entries-end : (ok last : Bool) (next i : ℕ) {z : ℕ} {r : Bool} → EntriesInv ok last next i → 0 < c → i ≡ 0 → z ≡ be 8 s 12
+      → r ≡ entryFine blocks own low floor last next s 8 → ((ok && eqb z 0) && (last || leb floor next)) && r ≡ entriesFine s c blocks own low floor
+  unfolding entriesFine firstFine _and_ all
+  entries-end ok last next i {z} {r} w h o e g =
+      let v : EntriesInv ok last next 0 = subst (λ (k : ℕ). EntriesInv ok last next k) o w in
+      let first : records shows 28 c 8 ≡ r ∷ left shows 28 c 8 1 =
+      left-first shows 28 c 8 h ∙ ap (λ (b : Bool). b ∷ left shows 28 c 8 1) (sym (shows-is ok last next 0 v refl g))
+      in
+      let rises : risingFrom floor (keysAt s 28 (c - 1) 40) ≡ (last || leb floor next) && rising (lowsFrom 0) =
+      ap (risingFrom floor) (left-all (keyAt s) 28 (c - 1) 40) ∙ rise-from ok last next 0 v floor
+      in
+      sym
+      (ap₂ (λ (x : List Bool) (b : Bool). all x && (b || (eqb (be 8 s 12) 0 && risingFrom floor (keysAt s 28 (c - 1) 40)))) first (ne-eqb c 0 (λ q. omega arith))
+      ∙ ap₂ (λ (x : ℕ) (b : Bool). (r && all (left shows 28 c 8 1)) && (eqb x 0 && b)) (sym e) rises
+      ∙ order-first r (all (left shows 28 c 8 1)) (eqb z 0) (last || leb floor next) (rising (lowsFrom 0))
+      ∙ ap (λ (b : Bool). ((b && eqb z 0) && (last || leb floor next)) && r) (sym (v .done)))

@@ -3,9 +3,12 @@
 use mathlib.Core.Path.{_≡_, refl, sym, ap, ap₂, _∙_}
 use mathlib.Core.Bool.{Bool, true, false, not, cond, _&&_, _||_}
 use mathlib.Core.List.{List, [], _∷_, _++_, append-assoc}
-use Prim.Native.Nat.{ℕ, _+_, _-_, _*_}
+use mathlib.Core.Logic.{⊎-elim}
+use Prim.Native.Nat.{ℕ, _+_, _-_, _*_, _≤_}
+use native.Mathlib.Omega.{arith}
 use lib.Dec.{leb, ltb, eqb}
 use lib.ListN.{length}
+use borrow.Author.Tests.{eqb-true, leb-true}
 use Rattle.octets.specs.Lists.{all, every, records, isEmpty, rest, rising, risingFrom}
 use Rattle.octets.specs.Bytes.{be}
 use Rattle.spot.specs.Spots.{keyAt, spotAt}
@@ -14,9 +17,9 @@ use Rattle.block.specs.declared.Asked.{Asked}
 use Rattle.block.specs.declared.Asked.the-variants.{Root, Child}
 use Rattle.block.specs.Table.{blockOk, version1}
 use Rattle.block.specs.Node.{Node, nodeFrom, entryAt, firstOpen}
-use Rattle.block.specs.NodeRules.{names, fewest, childCountOk, filled, lowest, leafBuffersEmpty, notBelow, lows, zeroFirst, lowsRise, childBlocksOk}
-use Rattle.block.specs.Checks.{keysAt, countFine, leafFine, floorOf}
-use Rattle.octets.proofs.Tests.{and-left, and-both, every-join}
+use Rattle.block.specs.NodeRules.{floorOf, names, fewest, childCountOk, filled, lowest, leafBuffersEmpty, notBelow, lows, zeroFirst, lowsRise, childBlocksOk}
+use Rattle.block.specs.Checks.{keysAt, countFine, leafFine}
+use Rattle.octets.proofs.Tests.{and-left, and-right, and-both, or-either, every-join}
 use Rattle.octets.proofs.Rising.{rising-rest, rising-from}
 use Rattle.octets.proofs.Records.{length-records, empty-records}
 use Rattle.block.proofs.Shut.{cond-or, all2, all4}
@@ -25,20 +28,20 @@ use Rattle.block.proofs.Views.{length-open, empty-open, open-zero, ever
 
 -- ---- ranges
 
-rising-floor : (a : ℕ) (xs : List ℕ) → rising xs ≡ true → every (leb a) xs ≡ true → risingFrom a xs ≡ true
+pub rising-floor : (a : ℕ) (xs : List ℕ) → rising xs ≡ true → every (leb a) xs ≡ true → risingFrom a xs ≡ true
 rising-floor a [] p q = refl
 rising-floor a (x ∷ xs) p q = and-both _ _ (and-left (leb a x) (every (leb a) xs) q) (rising-rest 0 x xs p)
 
 pub floor-forward : (a : Asked) (n : Node) (ks xs : List ℕ) → names n ≡ ks → ((f : ℕ → Bool) → every f ks ≡ true → every f xs ≡ true)
     → notBelow a n ≡ true → rising xs ≡ true → risingFrom (floorOf a) xs ≡ true
 unfolding notBelow floorOf
-floor-forward Root n ks xs q part h p = p
+floor-forward (Root b) n ks xs q part h p = p
 floor-forward (Child e) n ks xs q part h p = rising-floor (e .low) xs p (part (λ k. leb (e .low) k) (ap (every (λ k. leb (e .low) k)) (sym q) ∙ h))
 
 pub floor-back : (a : Asked) (n : Node) (xs ys zs : List ℕ) → names n ≡ xs ++ (ys ++ zs) → risingFrom (floorOf a) xs ≡ true → risingFrom (floorOf a) ys ≡ true
     → risingFrom (floorOf a) zs ≡ true → notBelow a n ≡ true
 unfolding notBelow floorOf
-floor-back Root n xs ys zs q u v w = refl
+floor-back (Root b) n xs ys zs q u v w = refl
 floor-back (Child e) n xs ys zs q u v w =
     let f : ℕ → Bool = λ k. leb (e .low) k in
     ap (every f) q
@@ -74,6 +77,14 @@ module _ (blocks : ℕ) (s : List ℕ) (c p i d : ℕ) where
       cond-or b (isEmpty es) (all (leb (fewest a) (length es) ∷ leb (length es) 8 ∷ []))
       ∙ ap₂ (λ (x : Bool) (n : ℕ). (b && x) || (not b && all (leb (fewest a) n ∷ leb n 8 ∷ []))) es-empty es-length
       ∙ ap (λ (x : Bool). (b && eqb c 0) || (not b && x)) (all2 (leb (fewest a) c) (leb c 8))
+
+  pub count-most : (few : ℕ) → countFine (be 1 s 3) few c ≡ true → c ≤ 8
+  unfolding countFine
+  count-most few h =
+      let b : Bool = eqb (be 1 s 3) 0 in
+      ⊎-elim (λ q. let z : c ≡ 0 = eqb-true c 0 (and-right b (eqb c 0) q) in omega arith)
+      (λ q. leb-true c 8 (and-right (leb few c) (leb c 8) (and-right (not b) (leb few c && leb c 8) q)))
+      (or-either (b && eqb c 0) (not b && (leb few c && leb c 8)) h)
 
   pub filled-is : filled node ≡ (leb 32 p && leb p 64 && leb i 64 && leb d 16)
   unfolding filled nodeFrom

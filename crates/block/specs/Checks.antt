@@ -2,7 +2,7 @@
 -- Assumes nothing.
 use Prim.Native.Nat.{ℕ, _+_, _-_, _*_, _≤_, _<_}
 use mathlib.Core.Path.{_≡_}
-use mathlib.Core.Bool.{Bool, true, not, _&&_, _||_}
+use mathlib.Core.Bool.{Bool, true, not, cond, _&&_, _||_}
 use mathlib.Core.List.{List, map}
 use lib.Dec.{ltb, leb, eqb}
 use lib.ListN.{drop, set}
@@ -16,6 +16,7 @@ use Rattle.block.specs.declared.Front.{Front}
 use Rattle.block.specs.declared.Asked.{Asked}
 use Rattle.block.specs.declared.Asked.the-variants.{Root, Child}
 use Rattle.block.specs.Table.{blocksOf, capacity, tableSized, mapBlocks}
+use Rattle.block.specs.NodeRules.{floorOf, standsIn}
 use Rattle.block.specs.Access.{usedOf}
 
 -- both tests pass: `&&`, shut, so that a proof's `_` finds a conjunction's parts
@@ -59,17 +60,63 @@ pub record Past (s : List ℕ) (at n from k r : ℕ) : Type 0 where
 abbrev pub apart : List ℕ → List ℕ → Bool
 apart xs ys = every (λ x. not (has x ys)) xs
 
--- what the entry at a shows: its block, its zero bytes, and its top if its child's P isn't empty
-unfoldable pub entryFine : ℕ → Bool → ℕ → List ℕ → ℕ → Bool
-entryFine blocks full low s a =
-    (leb 1 (be 2 s a) && ltb (be 2 s a) blocks)
-    && eqb (be 1 s (a + 3)) 0
-    && ((eqb (be 1 s (a + 2)) 0 && eqb (be 8 s (a + 12)) 0 && eqb (be 8 s (a + 20)) 0)
-    || (not (eqb (be 1 s (a + 2)) 0) && full && ltb (rankKey (keyAt s (a + 12))) low))
+-- k lies in a child's range: from its low on, and before the next child's low unless it is the last
+unfoldable pub inFine : ℕ → Bool → ℕ → ℕ → Bool
+inFine from last next k = leb from k && (last || ltb k next)
 
--- the first entry's range field is zero, the others' rise
-unfoldable pub firstFine : List ℕ → ℕ → Bool
-firstFine s c = eqb c 0 || (eqb (be 8 s 12) 0 && risingFrom 0 (keysAt s 28 (c - 1) 40))
+-- n points can have this highest and this lowest in rank order: they are the same of one, and of more the highest lies above; both lie in the child's range
+unfoldable pub credibleFine : ℕ → ℕ → ℕ → ℕ → Bool → ℕ → Bool
+credibleFine n top bottom from last next =
+    ((eqb n 1 && eqb top bottom) || (not (eqb n 1) && ltb (rankKey bottom) (rankKey top)))
+    && inFine from last next top
+    && inFine from last next bottom
+
+-- the entry at a names another block than b
+abbrev pub otherBlock : ℕ → List ℕ → ℕ → Bool
+otherBlock b s a = not (eqb b (be 2 s a))
+
+-- the size of the child's P, and in the next digit the zero byte that follows it
+abbrev pub sizeAt : List ℕ → ℕ → ℕ
+sizeAt s a = be 1 s (a + 2) + 256 * be 1 s (a + 3)
+
+-- what the entry at a shows, in the node of block own, of a child whose range begins at from: its block, its zero bytes, and where its child's P isn't
+-- empty, that the top is below low in rank order and that some P has this size, top and bottom
+unfoldable pub entryFine : ℕ → ℕ → ℕ → ℕ → Bool → ℕ → List ℕ → ℕ → Bool
+entryFine blocks own low from last next s a =
+    (leb 1 (be 2 s a) && ltb (be 2 s a) blocks && otherBlock own s a)
+    && ((eqb (sizeAt s a) 0 && eqb (be 8 s (a + 12)) 0 && eqb (be 8 s (a + 20)) 0)
+    || (not (eqb (sizeAt s a) 0) && leb (sizeAt s a) 64 && (ltb (rankKey (keyAt s (a + 12))) low && credibleFine (sizeAt s a) (keyAt s (a + 12)) (keyAt s (a + 20)) from last next)))
+
+-- where the range of a child begins whose entry stands at a: the first child's where the node's does
+abbrev pub fromAt : ℕ → List ℕ → ℕ → ℕ
+fromAt floor s a = cond (eqb a 8) floor (keyAt s (a + 4))
+
+-- the same of one of the entries that end at end
+unfoldable pub entryShows : ℕ → ℕ → ℕ → ℕ → ℕ → List ℕ → ℕ → Bool
+entryShows blocks own low floor end s a = entryFine blocks own low (fromAt floor s a) (leb end (a + 28)) (keyAt s (a + 32)) s a
+
+-- the first entry's range field is zero, the others' rise from floor on
+unfoldable pub firstFine : ℕ → List ℕ → ℕ → Bool
+firstFine floor s c = eqb c 0 || (eqb (be 8 s 12) 0 && risingFrom floor (keysAt s 28 (c - 1) 40))
+
+unfoldable pub entriesFine : List ℕ → ℕ → ℕ → ℕ → ℕ → ℕ → Bool
+entriesFine s c blocks own low floor = all (records (entryShows blocks own low floor (8 + 28 * c) s) 28 c 8) and firstFine floor s c
+
+-- no entry before the one with index j names its block
+unfoldable pub freshFine : List ℕ → ℕ → Bool
+freshFine s j = all (records (otherBlock (be 2 s (8 + 28 * j)) s) 28 j 8)
+
+-- of c entries none has the index j, or the block of that one is named by none before it
+abbrev pub placeFine : ℕ → List ℕ → ℕ → Bool
+placeFine c s j = leb c j || freshFine s j
+
+-- no two of at most eight entries name one block
+unfoldable pub blocksFine : List ℕ → ℕ → Bool
+blocksFine s c = all (records (placeFine c s) 1 8 0)
+
+-- what the tops of the children lie below in rank order: the lowest of a P that has 32
+unfoldable pub aboveTops : ℕ → ℕ → ℕ
+aboveTops p low = cond (ltb p 32) 0 low
 
 -- the number of children, of a leaf and of an inner node
 unfoldable pub countFine : ℕ → ℕ → ℕ → Bool
@@ -89,19 +136,14 @@ frontFine level few h =
     and sizesFine (h .p) (h .i) (h .d)
     and leafFine (h .level) (h .i) (h .d)
 
--- where the range begins that leads to a node
-unfoldable pub floorOf : Asked → ℕ
-floorOf Root = 0
-floorOf (Child e) = e .low
-
 -- the entry's keys are of 64 bits
 unfoldable pub keyed : Asked → Bool
-keyed Root = true
+keyed (Root b) = true
 keyed (Child e) = leb (e .top) lastKey && leb (e .bottom) lastKey
 
 -- the entry agrees with P's size, lowest and highest
 unfoldable pub agreesFine : Asked → ℕ → ℕ → ℕ → Bool
-agreesFine Root p low high = true
+agreesFine (Root b) p low high = true
 agreesFine (Child e) p low high = eqb (e .size) p && (eqb p 0 || (eqb (rankKey (e .top)) high && eqb (rankKey (e .bottom)) low))
 
 -- the keys of P, I and D
@@ -128,8 +170,8 @@ listsFine s a h =
 unfoldable pub restFine : List ℕ → ℕ → Asked → Front → Bool
 restFine s blocks a h =
     apart (keysI s h) (keysD s h) and every isZero (drop (h .used) s)
-    and all (records (entryFine blocks (leb 32 (h .p)) (lowOf s h) s) 28 (h .c) 8)
-    and firstFine s (h .c)
+    and entriesFine s (h .c) blocks (standsIn a) (aboveTops (h .p) (lowOf s h)) (floorOf a)
+    and blocksFine s (h .c)
     and agreesFine a (h .p) (lowOf s h) (highOf s h)
 
 unfoldable pub bodyFine : List ℕ → ℕ → Asked → Front → Bool

@@ -2,7 +2,7 @@
 -- Assumes nothing.
 use mathlib.Core.Path.{_≡_}
 use Prim.Native.Nat.{ℕ, _+_, _*_, _≤_}
-use mathlib.Core.Bool.{Bool, true, cond, _||_}
+use mathlib.Core.Bool.{Bool, true, cond, _&&_, _||_}
 use mathlib.Core.List.{List, [], _∷_, _++_, map}
 use lib.ListN.{length}
 use lib.Dec.{ltb, leb, eqb}
@@ -21,7 +21,7 @@ names n = keys (n .points) ++ keys (n .inserts) ++ n .deletes
 
 -- rule 2: "A leaf has no children; an inner node has 4 to 8, the root if inner 2 to 8"
 unfoldable pub fewest : Asked → ℕ
-fewest Root = 2
+fewest (Root b) = 2
 fewest (Child e) = 4
 
 unfoldable pub childCountOk : Asked → Node → Bool
@@ -88,7 +88,7 @@ isLowest t ks = all (has t ks ∷ every (λ k. leb (rankKey t) (rankKey k)) ks �
 
 -- rule 6: "Entries agree with their children": the size of P, and the highest and the lowest of it in rank order
 unfoldable pub agrees : Asked → Node → Bool
-agrees Root n = true
+agrees (Root b) n = true
 agrees (Child e) n =
     all (
     eqb (e .size) (length (n .points)) ∷
@@ -98,8 +98,57 @@ agrees (Child e) n =
 
 -- rule 3, as far as the entry shows: "from its entry's lowest identity"
 unfoldable pub notBelow : Asked → Node → Bool
-notBelow Root n = true
+notBelow (Root b) n = true
 notBelow (Child e) n = every (λ k. leb (e .low) k) (names n)
+
+-- where the range of a node begins, as what leads there shows it
+unfoldable pub floorOf : Asked → ℕ
+floorOf (Root b) = 0
+floorOf (Child e) = e .low
+
+-- rule 3, as far as the entry shows: the lowest identities "lie in the parent's range"
+unfoldable pub lowsNotBelow : Asked → Node → Bool
+lowsNotBelow a n = every (λ k. leb (floorOf a) k) (rest (lows (n .entries)))
+
+-- the block that a node stands in, as what leads there names it
+unfoldable pub standsIn : Asked → ℕ
+standsIn (Root b) = b
+standsIn (Child e) = e .block
+
+abbrev pub childBlocks : List Entry → List ℕ
+childBlocks [] = []
+childBlocks (e ∷ es) = e .block ∷ childBlocks es
+
+-- rule 1, as far as it shows: "each reached once". No two entries name one block, and none names the node's own.
+unfoldable pub childrenApart : Asked → Node → Bool
+childrenApart a n = distinct (standsIn a ∷ childBlocks (n .entries))
+
+-- rule 3: "up to, and without, the next entry's"; where the last child's range ends, the block does not show
+abbrev pub beforeNext : List Entry → ℕ → Bool
+beforeNext [] k = true
+beforeNext (e ∷ es) k = ltb k (e .low)
+
+-- rule 3, as far as it shows: k lies in the range of the child that the entry e leads to; es are the entries after it, and the node's range begins at from
+unfoldable pub inChild : ℕ → Entry → List Entry → ℕ → Bool
+inChild from e es k = all (leb from k ∷ leb (e .low) k ∷ beforeNext es k ∷ [])
+
+-- rules 3, 5 and 6, as far as an entry shows them: there is a P that agrees with it. It has at most 64 spots; the highest and the lowest of one spot are the
+-- same identity, of more the highest lies above the lowest; and both lie in the child's range.
+unfoldable pub entryCredible : ℕ → Entry → List Entry → Bool
+entryCredible from e es =
+    eqb (e .size) 0 || all (
+    leb (e .size) 64 ∷
+    cond (eqb (e .size) 1) (eqb (e .top) (e .bottom)) (ltb (rankKey (e .bottom)) (rankKey (e .top))) ∷
+    inChild from e es (e .top) ∷
+    inChild from e es (e .bottom) ∷
+    [])
+
+abbrev pub allCredible : ℕ → List Entry → Bool
+allCredible from [] = true
+allCredible from (e ∷ es) = entryCredible from e es && allCredible from es
+
+unfoldable pub entriesCredible : Asked → Node → Bool
+entriesCredible a n = allCredible (floorOf a) (n .entries)
 
 -- all that a node block, read at this level (rule 2), and the entry leading to it can show
 unfoldable pub nodeOk : ℕ → Asked → Node → Bool
@@ -117,6 +166,9 @@ nodeOk level a n =
     agrees a n ∷
     notBelow a n ∷
     childBlocksOk n ∷
+    lowsNotBelow a n ∷
+    childrenApart a n ∷
+    entriesCredible a n ∷
     [])
 
 -- a block of a table in which a node stands that keeps the rules of some level

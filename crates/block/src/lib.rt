@@ -11,12 +11,12 @@ ghost use Rattle.spot.specs.Spots.{keyAt, spotAt};
 ghost use Rattle.block.specs.Table.{version1, tableSized, capacity};
 ghost use Rattle.block.specs.Header.{headOf, headerOf};
 ghost use Rattle.block.specs.Node.{nodeOf, storeOf, pointsFrom, insertsFrom, deletesFrom};
-ghost use Rattle.block.specs.NodeRules.{nodeOk, fewest};
+ghost use Rattle.block.specs.NodeRules.{nodeOk, fewest, floorOf, standsIn};
 ghost use Rattle.block.specs.HeaderRules.{headerOk};
 ghost use Rattle.block.specs.Fresh.{formatted};
 ghost use Rattle.block.specs.Answers.{answer};
 ghost use Rattle.block.specs.Access.{frontOf, Small, usedOf, EntryIs};
-ghost use Rattle.block.specs.Checks.{keysAt, isZero, risesUnder, PointsAre, Past, apart, entryFine, firstFine, countFine, sizesFine, leafFine, frontFine, floorOf, keyed, agreesFine, bodyFine, mapFine, numbersFine, freshMarks};
+ghost use Rattle.block.specs.Checks.{keysAt, isZero, risesUnder, PointsAre, Past, apart, inFine, credibleFine, entryFine, entriesFine, freshFine, blocksFine, aboveTops, countFine, sizesFine, leafFine, frontFine, keyed, agreesFine, bodyFine, mapFine, numbersFine, freshMarks};
 
 // What a call answers: one of the paper's numbers, and its detail.
 pub struct Answer {
@@ -33,9 +33,9 @@ pub struct Entry {
     pub bottom: u64,
 }
 
-// What leads to a node: nothing to the root, an entry of its parent to any other.
+// What leads to a node: block 0 to the root, which stands in the block that it names, and an entry of its parent to any other.
 pub enum Asked {
-    Root,
+    Root(usize),
     Child(Entry),
 }
 
@@ -345,43 +345,106 @@ fn apart_ok(s: &[u8], at: usize, n: usize, ad: usize, d: usize) -> bool
     true
 }
 
-// The entry at a place.
-fn entry_ok(s: &[u8], a: usize, blocks: usize, full: bool, low: u64) -> bool
-    requires { ⌜ a + 28 ≤ length (now s) ⌝ }
-    ensures { λ r. ⌜ r ≡ entryFine blocks full low (now (s .entry)) a ⌝ }
+// A key lies in a child's range: from its low on, and before the next child's low unless it is the last.
+fn in_child(k: u64, from: u64, next: u64, last: bool) -> bool
+    ensures { λ r. ⌜ r ≡ inFine from last next k ⌝ }
 {
-    let b = octets::read16(s, a);
-    let n = octets::count_at(s, a + 2);
-    let top = spot::read_key(s, a + 12);
-    ((1 <= b) & (b < blocks))
-        & (octets::count_at(s, a + 3) == 0)
-        & (((n == 0) & (octets::read64(s, a + 12) == 0) & (octets::read64(s, a + 20) == 0))
-            | ((n != 0) & full & (spot::rank_key(top) < low)))
+    (from <= k) & (last | (k < next))
 }
 
-// The entries, by what each shows.
-fn entries_ok(s: &[u8], c: usize, blocks: usize, full: bool, low: u64) -> bool
-    requires { ⌜ 8 + 28 * c ≤ length (now s) ⌝ }
-    ensures { λ r. ⌜ r ≡ all (records (entryFine blocks full low (now (s .entry))) 28 c 8) ⌝ }
+// There are n points with this highest and this lowest in rank order, in a child's range.
+fn credible(n: usize, top: u64, bottom: u64, from: u64, next: u64, last: bool) -> bool
+    ensures { λ r. ⌜ r ≡ credibleFine n top bottom from last next ⌝ }
 {
+    (((n == 1) & (top == bottom)) | ((n != 1) & (spot::rank_key(bottom) < spot::rank_key(top))))
+        & in_child(top, from, next, last)
+        & in_child(bottom, from, next, last)
+}
+
+// The entry at a place, in the node of block own, of a child whose range begins at from. The size is read with the zero byte after it, which makes it no size
+// where it isn't zero.
+fn entry_ok(
+    s: &[u8],
+    a: usize,
+    blocks: usize,
+    own: usize,
+    low: u64,
+    from: u64,
+    next: u64,
+    last: bool,
+) -> bool
+    requires { ⌜ a + 28 ≤ length (now s) ⌝ }
+    ensures { λ r. ⌜ r ≡ entryFine blocks own low from last next (now (s .entry)) a ⌝ }
+{
+    let b = octets::read16(s, a);
+    let n = octets::count_at(s, a + 2) + 256 * octets::count_at(s, a + 3);
+    let top = spot::read_key(s, a + 12);
+    let bottom = spot::read_key(s, a + 20);
+    ((1 <= b) & (b < blocks) & (own != b))
+        & (((n == 0) & (octets::read64(s, a + 12) == 0) & (octets::read64(s, a + 20) == 0))
+            | ((n != 0)
+                & (n <= 64)
+                & ((spot::rank_key(top) < low) & credible(n, top, bottom, from, next, last))))
+}
+
+// The entries, from the last to the first, in the node of block own whose range begins at floor: what each shows, and that their lows rise. The first one's
+// range field is zero, and it begins where the node does.
+fn entries_ok(s: &[u8], c: usize, blocks: usize, own: usize, low: u64, floor: u64) -> bool
+    requires { ⌜ 40 + 28 * c ≤ length (now s) ⌝ }
+    ensures { λ r. ⌜ r ≡ entriesFine (now (s .entry)) c blocks own low floor ⌝ }
+{
+    if c == 0 {
+        return true;
+    }
+    let mut ok = true;
+    let mut last = true;
+    let mut next = 0;
+    let mut i = c - 1;
+    while 0 < i {
+        let from = spot::read_key(s, 12 + 28 * i);
+        ok = ok
+            & (last | (from < next))
+            & entry_ok(s, 8 + 28 * i, blocks, own, low, from, next, last);
+        next = from;
+        last = false;
+        i -= 1;
+    }
+    ok
+        & (octets::read64(s, 12) == 0)
+        & (last | (floor <= next))
+        & entry_ok(s, 8, blocks, own, low, floor, next, last)
+}
+
+// No entry before the one with index j names its block.
+fn fresh_ok(s: &[u8], j: usize) -> bool
+    requires { ⌜ 36 + 28 * j ≤ length (now s) ⌝ }
+    ensures { λ r. ⌜ r ≡ freshFine (now (s .entry)) j ⌝ }
+{
+    let b = octets::read16(s, 8 + 28 * j);
     let mut ok = true;
     let mut i = 0;
-    while i < c {
-        ok = ok & entry_ok(s, 8 + 28 * i, blocks, full, low);
+    while i < j {
+        ok = ok & (b != octets::read16(s, 8 + 28 * i));
         i += 1;
     }
     ok
 }
 
-// The first entry's range field is zero, the others' rise.
-fn first_ok(s: &[u8], c: usize) -> bool
-    requires { ⌜ 40 + 28 * c ≤ length (now s) ⌝ }
-    ensures { λ r. ⌜ r ≡ firstFine (now (s .entry)) c ⌝ }
+// No two of c entries, at most eight, name one block. Every place of eight is looked at, so that the number of turns is known.
+fn blocks_ok(s: &[u8], c: usize) -> bool
+    requires { ⌜ 232 ≤ length (now s) ⌝ }
+    ensures { λ r. ⌜ r ≡ blocksFine (now (s .entry)) c ⌝ }
 {
     if c == 0 {
         return true;
     }
-    (octets::read64(s, 12) == 0) & rises(s, 40, 28, c - 1, 0)
+    let mut ok = true;
+    let mut j = 0;
+    while j < 8 {
+        ok = ok & ((c <= j) | fresh_ok(s, j));
+        j += 1;
+    }
+    ok
 }
 
 // The number of children, of a leaf and of an inner node.
@@ -425,9 +488,29 @@ fn floor_of(a: Asked) -> u64
     ensures { λ r. ⌜ r ≡ floorOf a ⌝ }
 {
     match a {
-        Asked::Root => 0,
+        Asked::Root(_) => 0,
         Asked::Child(e) => e.low,
     }
+}
+
+// The block that a node stands in.
+fn own_of(a: Asked) -> usize
+    ensures { λ r. ⌜ r ≡ standsIn a ⌝ }
+{
+    match a {
+        Asked::Root(b) => b,
+        Asked::Child(e) => e.block,
+    }
+}
+
+// What the tops of a node's children lie below in rank order: its lowest point, and where it has under 32, which leaves them empty, nothing does.
+fn above_tops(p: usize, low: u64) -> u64
+    ensures { λ r. ⌜ r ≡ aboveTops p low ⌝ }
+{
+    if p < 32 {
+        return 0;
+    }
+    low
 }
 
 // The fewest children of an inner node. The keys of what leads there are of 64 bits by their type, which the entry as a record does not say.
@@ -435,7 +518,7 @@ fn fewest_of(a: Asked) -> usize
     ensures { λ r. ⌜ (r ≡ fewest a) × (keyed a ≡ true) ⌝ }
 {
     match a {
-        Asked::Root => 2,
+        Asked::Root(_) => 2,
         Asked::Child(e) => 4,
     }
 }
@@ -445,7 +528,7 @@ fn agrees_ok(a: Asked, p: usize, low: u64, high: u64) -> bool
     ensures { λ r. ⌜ r ≡ agreesFine a p low high ⌝ }
 {
     match a {
-        Asked::Root => true,
+        Asked::Root(_) => true,
         Asked::Child(e) => {
             (e.size == p)
                 & ((p == 0) | ((spot::rank_key(e.top) == high) & (spot::rank_key(e.bottom) == low)))
@@ -469,8 +552,8 @@ fn body_ok(s: &[u8], blocks: usize, a: Asked, h: Front) -> bool
     }
     apart_ok(s, ai, h.i, ad, h.d)
         & zeros(s, h.used)
-        & entries_ok(s, h.c, blocks, 32 <= h.p, low)
-        & first_ok(s, h.c)
+        & entries_ok(s, h.c, blocks, own_of(a), above_tops(h.p, low), floor)
+        & blocks_ok(s, h.c)
         & agrees_ok(a, h.p, low, q.high)
 }
 

@@ -20,6 +20,7 @@ use Rattle.block.specs.declared.Asked.the-variants.{Root}
 use Rattle.block.specs.Table.{mapBlocks}
 use Rattle.block.specs.Header.{Header, headOf}
 use Rattle.block.specs.HeaderRules.{headerOk}
+use Rattle.block.specs.NodeRules.{standsIn}
 use Rattle.block.specs.Node.{Store, storeOf}
 use Rattle.block.proofs.Frames.{store-same}
 use Rattle.tree.specs.Part.{Part, whole}
@@ -44,7 +45,8 @@ use Rattle.change.proofs.Trees.{sound-of, of-sound, rooted-frame}
 module _ (t : List ℕ) (s : Shaped t) where
   -- its parts are one, the whole
   pub whole-sound : Sound (headOf t .levels) (storeOf t) (whole (headOf t) ∷ [])
-  whole-sound = sound-of (headOf t .levels) (storeOf t) (whole (headOf t)) (s .tree) (exact-once (headOf t .inUse) _ (s .map))
+  unfolding standsIn
+  whole-sound = sound-of (headOf t .levels) (storeOf t) (whole (headOf t)) refl (s .tree) (exact-once (headOf t .inUse) _ (s .map))
 
   one-reach : reaches (headOf t .levels) (storeOf t) (whole (headOf t) ∷ []) ≡ reach (headOf t .levels) (storeOf t) (whole (headOf t))
   one-reach = append-nil (reach (headOf t .levels) (storeOf t) (whole (headOf t)))
@@ -86,16 +88,16 @@ module _ (t v u : List ℕ) (spare : Spare) (left h root bound : ℕ) (f : ℕ �
       (zero-off t s) (λ i. let z = unused .fits .inside 0 (i .0) .0 in omega arith)
       (λ z d. store-same v u (r .sized) z (r .else z d) ∙ else z d) g
 
-  is-whole : whole (headOf u) ≡ part root Root 0 allKeys
-  is-whole = ap (λ (b : ℕ). part b Root 0 allKeys) (r .rootIs)
+  is-whole : whole (headOf u) ≡ part root (Root root) 0 allKeys
+  is-whole = ap (λ (b : ℕ). part b (Root b) 0 allKeys) (r .rootIs)
 
-  is-reach : reach (headOf u .levels) (storeOf u) (whole (headOf u)) ≡ reach h (storeOf u) (part root Root 0 allKeys)
+  is-reach : reach (headOf u .levels) (storeOf u) (whole (headOf u)) ≡ reach h (storeOf u) (part root (Root root) 0 allKeys)
   is-reach = ap₂ (λ (n : ℕ) (p : Part). reach n (storeOf u) p) (r .levels) is-whole
 
-  map-is : mapExact (headOf u .inUse) (reach h (storeOf u) (part root Root 0 allKeys)) ≡ true
+  map-is : mapExact (headOf u .inUse) (reach h (storeOf u) (part root (Root root) 0 allKeys)) ≡ true
   map-is =
-      map-after (headOf t .inUse) (headOf u .inUse) (reach (headOf t .levels) (storeOf t) (whole (headOf t))) (reach h (storeOf u) (part root Root 0 allKeys))
-      (spareOf spare (spare .n)) (spareOf spare left) (s .map) (of-sound h (storeOf u) (part root Root 0 allKeys) (tree .sound) .1)
+      map-after (headOf t .inUse) (headOf u .inUse) (reach (headOf t .levels) (storeOf t) (whole (headOf t))) (reach h (storeOf u) (part root (Root root) 0 allKeys))
+      (spareOf spare (spare .n)) (spareOf spare left) (s .map) (of-sound h (storeOf u) (part root (Root root) 0 allKeys) (tree .sound) .1)
       (λ z i. ⊎-elim (λ j. inl (reached-in t s z j)) inr (tree .reached z i))
       (λ z i. tree .still z (⊎-elim (λ j. inl (subst⁻¹ (λ (bs : List ℕ). List·Memᴰ z bs) (one-reach t s) j)) inr i))
       (λ z i n. r .marked z (taken-is spare left less (unused .fits .once) z (n .0) (n .1)))
@@ -106,7 +108,7 @@ module _ (t v u : List ℕ) (spare : Spare) (left h root bound : ℕ) (f : ℕ �
   after-shaped =
       record {
         header = subst⁻¹ (λ (n : ℕ). headerOk n (headOf u) ≡ true) (r .sized) (r .ok);
-        tree = ap₂ (λ (n : ℕ) (p : Part). soundAt n (storeOf u) p) (r .levels) is-whole ∙ of-sound h (storeOf u) (part root Root 0 allKeys) (tree .sound) .0;
+        tree = ap₂ (λ (n : ℕ) (p : Part). soundAt n (storeOf u) p) (r .levels) is-whole ∙ of-sound h (storeOf u) (part root (Root root) 0 allKeys) (tree .sound) .0;
         map = ap (mapExact (headOf u .inUse)) is-reach ∙ map-is;
       }
 
@@ -129,27 +131,27 @@ after-says t u ss ks s s′ hi hd h k = go (within 0 allKeys k) refl
 
 module _ (t : List ℕ) (root level : ℕ) (at-root : root ≡ headOf t .root) (at-level : suc level ≡ headOf t .levels) where
   abbrev here : Part
-  here = part root Root 0 allKeys
+  here = part root (Root root) 0 allKeys
 
   whole-is : here ≡ whole (headOf t)
-  whole-is = ap (λ (b : ℕ). part b Root 0 allKeys) at-root
+  whole-is = ap (λ (b : ℕ). part b (Root b) 0 allKeys) at-root
 
   -- its tree is sound
-  pub root-sound : Shaped t → Sound (suc level) (storeOf t) (part root Root 0 allKeys ∷ [])
+  pub root-sound : Shaped t → Sound (suc level) (storeOf t) (part root (Root root) 0 allKeys ∷ [])
   root-sound s =
       subst⁻¹ (λ (h : ℕ). Sound h (storeOf t) (here ∷ [])) at-level
       (subst⁻¹ (λ (p : Part). Sound (headOf t .levels) (storeOf t) (p ∷ [])) whole-is (whole-sound t s))
 
   -- and spare blocks are none of its own
-  pub root-apart : Shaped t → (spare : Spare) → SpareIn t spare → Apart (spareOf spare (spare .n)) (reaches (suc level) (storeOf t) (part root Root 0 allKeys ∷ []))
+  pub root-apart : Shaped t → (spare : Spare) → SpareIn t spare → Apart (spareOf spare (spare .n)) (reaches (suc level) (storeOf t) (part root (Root root) 0 allKeys ∷ []))
   root-apart s spare u =
       subst⁻¹ (λ (h : ℕ). Apart (spareOf spare (spare .n)) (reaches h (storeOf t) (here ∷ []))) at-level
       (subst⁻¹ (λ (p : Part). Apart (spareOf spare (spare .n)) (reaches (headOf t .levels) (storeOf t) (p ∷ []))) whole-is (spare-apart t s spare u))
 
   module _ (v u : List ℕ) (spare : Spare) (left h new bound : ℕ) (y : Store) (ss : List Spot) (ks : List ℕ) (s : Shaped t) (unused : SpareIn t spare) (less : left ≤ spare .n)
       (fitI : (k : ℕ) → List·Memᴰ k (keys ss) → within 0 allKeys k ≡ true) (fitD : (k : ℕ) → List·Memᴰ k ks → within 0 allKeys k ≡ true)
-      (g : Rooted (suc level) (storeOf t) (part root Root 0 allKeys ∷ []) (Taken (spareOf spare (spare .n)) (spareOf spare left)) h y new
-      (λ k. batchSays ss ks k (lookup (suc level) (storeOf t) k (part root Root 0 allKeys))))
+      (g : Rooted (suc level) (storeOf t) (part root (Root root) 0 allKeys ∷ []) (Taken (spareOf spare (spare .n)) (spareOf spare left)) h y new
+      (λ k. batchSays ss ks k (lookup (suc level) (storeOf t) k (part root (Root root) 0 allKeys))))
       (sized : length v ≡ length t) (head : headOf v ≡ headOf t) (else : (z : ℕ) → (z ≡ 0 → ⊥) → storeOf v z ≡ y z)
       (r : Reheaded v u (takenOf spare left) h new bound) where
     named : Rooted (headOf t .levels) (storeOf t) (whole (headOf t) ∷ []) (Taken (spareOf spare (spare .n)) (spareOf spare left)) h y new (λ k. batchSays ss ks k (live t k))

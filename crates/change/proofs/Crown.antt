@@ -18,7 +18,7 @@ use Rattle.block.specs.declared.Entry.{Entry}
 use Rattle.block.specs.declared.Asked.the-variants.{Root}
 use Rattle.block.specs.Table.{blocksOf, blockOk}
 use Rattle.block.specs.Node.{Node, storeOf}
-use Rattle.block.specs.NodeRules.{lows, zeroFirst, lowsRise, childCountOk, fewest, childBlocksOk, leafBuffersEmpty, agrees, filled, lowest}
+use Rattle.block.specs.NodeRules.{lows, zeroFirst, lowsRise, childCountOk, fewest, childBlocksOk, leafBuffersEmpty, agrees, filled, lowest, standsIn}
 use Rattle.block.proofs.Views.{length-lows}
 use Rattle.tree.specs.Part.{parts}
 use Rattle.tree.specs.Lookup.{lookup}
@@ -37,7 +37,7 @@ use Rattle.edit.specs.Edits.{heldIn}
 use Rattle.journal.specs.Journal.{Undoable}
 use Rattle.fill.specs.Filling.{Workable, FillPost, FilledBy}
 use Rattle.fill.specs.declared.Filled.{Filled}
-use Rattle.change.specs.Growing.{Rooted, Over}
+use Rattle.change.specs.Growing.{Rooted, Over, OverSound}
 
 -- one of two
 either : (e first second : Entry) → List·Memᴰ e (first ∷ second ∷ []) → (e ≡ first) ⊎ (e ≡ second)
@@ -86,6 +86,23 @@ module _ {level : ℕ} {first second : Entry} {n : NodeValue} (o : Over level fi
           deletes = omega (arith, p .deletes, o .deletes);
         }
 
+    abbrev above : ℕ
+    above = suc (rankKey (first .top) + rankKey (second .top))
+
+    -- over sound parts it stands open
+    crown-open : OverSound t first second level (λ f. Open level (storeOf t) 0 allKeys above (entriesOf (n .entries)) (heldIn n) f)
+    crown-open f low high kids finds =
+        subst⁻¹ (λ (ds : List Entry). Open level (storeOf t) 0 allKeys above ds (heldIn n) f) (o .entries)
+        (subst⁻¹ (λ (h : Held). Open level (storeOf t) 0 allKeys above (first ∷ second ∷ []) h f) (o .holds)
+        (raise level (storeOf t) 0 allKeys above first (second ∷ []) f kids (omega arith, (omega arith, tt)) finds
+        (λ d i.
+        ⊎-elim (λ (q : d ≡ first). let z : rankKey (d .top) ≡ rankKey (first .top) = ap (λ (x : Entry). rankKey (x .top)) q in omega arith)
+        (λ (q : d ≡ second). let z : rankKey (d .top) ≡ rankKey (second .top) = ap (λ (x : Entry). rankKey (x .top)) q in omega arith)
+        (either d first second i))))
+
+    pub crown-whole : OverSound t first second level (λ f. r .broken ≡ false)
+    crown-whole f low high kids finds = p .whole 0 allKeys above f (omega arith) first-zero (crown-open f low high kids finds)
+
     module _ (ok : r .ok ≡ true) (inner : 1 ≤ level) (t₂ : List ℕ) (b : ℕ) (st : Stored t₁ t₂ b (r .node)) (f : ℕ → Option ℕ) (low : 0 < second .low) (high : second .low < allKeys)
         (kids : Sound level (storeOf t) (parts 0 allKeys (first ∷ second ∷ [])))
         (finds : (k : ℕ) → within 0 allKeys k ≡ true → under level (storeOf t) 0 allKeys (first ∷ second ∷ []) k ≡ f k)
@@ -96,21 +113,8 @@ module _ {level : ℕ} {first second : Entry} {n : NodeValue} (o : Over level fi
       abbrev es : List Entry
       es = entriesOf (r .node .entries)
 
-      abbrev above : ℕ
-      above = suc (rankKey (first .top) + rankKey (second .top))
-
-      opened : Open level (storeOf t) 0 allKeys above (entriesOf (n .entries)) (heldIn n) f
-      opened =
-          subst⁻¹ (λ (ds : List Entry). Open level (storeOf t) 0 allKeys above ds (heldIn n) f) (o .entries)
-          (subst⁻¹ (λ (h : Held). Open level (storeOf t) 0 allKeys above (first ∷ second ∷ []) h f) (o .holds)
-          (raise level (storeOf t) 0 allKeys above first (second ∷ []) f kids (omega arith, (omega arith, tt)) finds
-          (λ d i.
-          ⊎-elim (λ (q : d ≡ first). let z : rankKey (d .top) ≡ rankKey (first .top) = ap (λ (x : Entry). rankKey (x .top)) q in omega arith)
-          (λ (q : d ≡ second). let z : rankKey (d .top) ≡ rankKey (second .top) = ap (λ (x : Entry). rankKey (x .top)) q in omega arith)
-          (either d first second i))))
-
       filled-is : FilledBy (storeOf t) (storeOf t₁) level n (r .node) 0 allKeys f
-      filled-is = p .done ok 0 allKeys above f (omega arith) first-zero opened
+      filled-is = p .done ok 0 allKeys above f (omega arith) first-zero (crown-open f low high kids finds)
 
       lows-then : lows es ≡ first .low ∷ second .low ∷ []
       lows-then = p .sameLows ∙ lows-are
@@ -129,8 +133,8 @@ module _ {level : ℕ} {first second : Entry} {n : NodeValue} (o : Over level fi
           sizes-filled m h (omega (arith, np, p .works .points)) (omega (arith, ni, p .inserts, o .inserts)) (omega (arith, nd, p .deletes, o .deletes))
       sizes (inr h) = sizes-lowest m (h .0) (h .1) (h .2) (h .3)
 
-      shape : Shape level Root 0 allKeys m
-      unfolding childCountOk fewest lowsRise leafBuffersEmpty agrees childBlocksOk blockOk
+      shape : Shape level b (Root b) 0 allKeys m
+      unfolding childCountOk fewest lowsRise leafBuffersEmpty agrees childBlocksOk blockOk standsIn
       shape =
           record {
             laid = refl;
@@ -143,6 +147,8 @@ module _ {level : ℕ} {first second : Entry} {n : NodeValue} (o : Over level fi
             agree = refl;
             low = omega arith;
             blocks = every-make _ es (λ e i. let z = p .works .inside e i in all-cons _ _ (le-leb 1 (e .block) (z .0)) (all-cons _ _ (lt-ltb (e .block) (blocksOf (length t₁)) (z .1)) all-nil));
+            own = refl;
+            full = omega arith;
           }
 
       -- the tree under it
@@ -154,12 +160,12 @@ module _ {level : ℕ} {first second : Entry} {n : NodeValue} (o : Over level fi
           off-n : List·Memᴰ b (reaches level (storeOf t) (parts 0 allKeys (entriesOf (n .entries)))) → ⊥
           off-n = subst⁻¹ (λ (ds : List Entry). List·Memᴰ b (reaches level (storeOf t) (parts 0 allKeys ds)) → ⊥) (o .entries) off
 
-          u : Sound (suc level) (storeOf t₂) (part b Root 0 allKeys ∷ []) × ((k : ℕ) → within 0 allKeys k ≡ true → lookup (suc level) (storeOf t₂) k (part b Root 0 allKeys) ≡ f k)
-              × ((z : ℕ) → List·Memᴰ z (reach (suc level) (storeOf t₂) (part b Root 0 allKeys)) → List·Memᴰ z (reaches level (storeOf t) (parts 0 allKeys (entriesOf (n .entries)))) ⊎ (z ≡ b))
-              × ((z : ℕ) → List·Memᴰ z (reaches level (storeOf t) (parts 0 allKeys (entriesOf (n .entries)))) ⊎ (z ≡ b) → List·Memᴰ z (reach (suc level) (storeOf t₂) (part b Root 0 allKeys)))
+          u : Sound (suc level) (storeOf t₂) (part b (Root b) 0 allKeys ∷ []) × ((k : ℕ) → within 0 allKeys k ≡ true → lookup (suc level) (storeOf t₂) k (part b (Root b) 0 allKeys) ≡ f k)
+              × ((z : ℕ) → List·Memᴰ z (reach (suc level) (storeOf t₂) (part b (Root b) 0 allKeys)) → List·Memᴰ z (reaches level (storeOf t) (parts 0 allKeys (entriesOf (n .entries)))) ⊎ (z ≡ b))
+              × ((z : ℕ) → List·Memᴰ z (reaches level (storeOf t) (parts 0 allKeys (entriesOf (n .entries)))) ⊎ (z ≡ b) → List·Memᴰ z (reach (suc level) (storeOf t₂) (part b (Root b) 0 allKeys)))
               × ((z : ℕ) → (List·Memᴰ z (reaches level (storeOf t) (parts 0 allKeys (entriesOf (n .entries)))) → ⊥) → (z ≡ b → ⊥) → storeOf t₂ z ≡ storeOf t z)
           u =
-              raised level (λ z. z ≡ b) (storeOf t) (parts 0 allKeys (entriesOf (n .entries))) (storeOf t₁) (storeOf t₂) b Root 0 allKeys (filled-is .rank) m f
+              raised level (λ z. z ≡ b) (storeOf t) (parts 0 allKeys (entriesOf (n .entries))) (storeOf t₁) (storeOf t₂) b (Root b) 0 allKeys (filled-is .rank) m f
               (under level (storeOf t₁) 0 allKeys es) (Taken [] [])
               (λ z (e : z ≡ b) i. off-n (subst (λ (k : ℕ). List·Memᴰ k (reaches level (storeOf t) (parts 0 allKeys (entriesOf (n .entries))))) e i))
               (λ z i. absurd (List·Memᴰ·not-nil (i .0))) (λ z e. inr e) refl (λ i. List·Memᴰ·not-nil (i .0))

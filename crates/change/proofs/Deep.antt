@@ -2,7 +2,7 @@
 -- Assumes nothing.
 use mathlib.Core.Path.{_≡_, refl, ap, sym, _∙_, subst, subst⁻¹}
 use mathlib.Core.Logic.{inl, inr, ⊎-elim}
-use mathlib.Core.Bool.{true, false, true≢false, false≢true}
+use mathlib.Core.Bool.{Bool, true, false, true≢false, false≢true}
 use mathlib.Core.List.{List, List·Memᴰ}
 use Prim.Native.Nat.{ℕ, _+_, _*_, _≤_, _<_}
 use native.Mathlib.Omega.{arith}
@@ -27,7 +27,9 @@ use Rattle.spare.specs.Spares.{takenOf, SpareIn, Reheaded}
 use Rattle.spare.proofs.Taking.{taken-spare}
 use Rattle.settle.specs.Settling.{Settleable}
 use Rattle.change.specs.declared.Grown.{Grown}
-use Rattle.change.specs.Changing.{ChangedBy}
+use Rattle.change.specs.declared.Outcome.{Outcome}
+use Rattle.change.specs.declared.Outcome.the-variants.{Done, NoRoom, Broken}
+use Rattle.change.specs.Changing.{refusal, ChangedBy}
 use Rattle.change.specs.Growing.{GrowPost, Finishable, HeavyAt}
 use Rattle.change.proofs.After.{root-sound, root-apart, change-shaped, change-live}
 use Rattle.change.proofs.Settles.{spares-kept}
@@ -42,6 +44,18 @@ module _ (t : List ℕ) (h : headerOk (length t) (headOf t) ≡ true) where
 
   pub nine-blocks : 18432 ≤ length t
   nine-blocks = sized-least (length t) sizes
+
+-- the answers are apart
+pub done-whole : Done ≡ Broken → ⊥
+done-whole e = let z : _≡_ {A = ℕ} 0 1 = cc in omega arith
+
+refusal-not : (broken : Bool) → refusal broken ≡ Done → ⊥
+refusal-not true e = let z : _≡_ {A = ℕ} 0 1 = cc in omega arith
+refusal-not false e = let z : _≡_ {A = ℕ} 0 1 = cc in omega arith
+
+refusal-whole : (broken : Bool) → broken ≡ false → refusal broken ≡ Broken → ⊥
+refusal-whole true h e = true≢false h
+refusal-whole false h e = let z : _≡_ {A = ℕ} 0 1 = cc in omega arith
 
 module _ {t w : List ℕ} {root level ni nd bound : ℕ} (a : HeavyAt t w root level ni nd bound) where
   ok : headerOk (length t) (headOf t) ≡ true
@@ -75,17 +89,20 @@ module _ {t w : List ℕ} {root level ni nd bound : ℕ} (a : HeavyAt t w root l
       both = kept-trans saved kept
 
       -- not as it should be
-      pub heavy-undone : {t₃ : List ℕ} (ss : List Spot) (ks : List ℕ) → Undone t₂ w₂ map₂ t₃ → ChangedBy t t₃ w w₂ ss ks bound false
-      heavy-undone ss ks u =
+      pub heavy-undone : {t₃ : List ℕ} {ss : List Spot} {ks : List ℕ} {g : Grown} {r : Outcome} → GrowPost t t₂ root level ss ks spare g → r ≡ refusal (g .broken) → Undone t₂ w₂ map₂ t₃
+          → ((k : ℕ) → List·Memᴰ k (keys ss) → within 0 allKeys k ≡ true) → ((k : ℕ) → List·Memᴰ k ks → within 0 allKeys k ≡ true) → ChangedBy t t₃ w w₂ ss ks bound r
+      heavy-undone {g = g} p said u fitI fitD =
           record {
             sized = u .sized ∙ both .table;
             lentLength = both .scratch;
             rest = both .rest;
             kept = λ e. undone-is 512 (whole-blocks t ok) both u;
-            header = λ e. absurd (false≢true e);
-            boundIs = λ e. absurd (false≢true e);
-            shaped = λ e. absurd (false≢true e);
-            liveIs = λ e. absurd (false≢true e);
+            header = λ e. absurd (refusal-not (g .broken) (sym said ∙ e));
+            boundIs = λ e. absurd (refusal-not (g .broken) (sym said ∙ e));
+            shaped = λ e. absurd (refusal-not (g .broken) (sym said ∙ e));
+            liveIs = λ e. absurd (refusal-not (g .broken) (sym said ∙ e));
+            whole = λ s e. let v = shaped t s in
+                refusal-whole (g .broken) (p .whole fitI fitD (root-sound t root level (a .rootIs) (a .levelIs) v) (root-apart t root level (a .rootIs) (a .levelIs) v spare unused)) (sym said ∙ e);
             ready = λ s e. absurd (false≢true (sym (a .room) ∙ e));
             light = λ e. absurd (false≢true (sym (a .room) ∙ e));
           }
@@ -143,13 +160,13 @@ module _ {t w : List ℕ} {root level ni nd bound : ℕ} (a : HeavyAt t w root l
         -- and then all is well
         pub heavy-done : {t₃ : List ℕ} → Reheaded (putBlock t₂ 0 (block w₂ 0)) t₃ (takenOf spare (g .left)) (g .levels) (g .root) bound
             → ((k : ℕ) → List·Memᴰ k (keys ss) → within 0 allKeys k ≡ true) → ((k : ℕ) → List·Memᴰ k ks → within 0 allKeys k ≡ true)
-            → ChangedBy t t₃ w w₂ ss ks bound true
+            → ChangedBy t t₃ w w₂ ss ks bound Done
         heavy-done {t₃} r fitI fitD =
             record {
               sized = r .sized ∙ sized-v;
               lentLength = both .scratch;
               rest = both .rest;
-              kept = λ e. absurd (true≢false e);
+              kept = λ off. absurd (off refl);
               header = λ e. subst (λ (l : ℕ). headerOk l (headOf t₃) ≡ true) sized-v (r .ok);
               boundIs = λ e. r .boundIs;
               shaped = λ e s. let u = shaped t s in
@@ -158,6 +175,7 @@ module _ {t w : List ℕ} {root level ni nd bound : ℕ} (a : HeavyAt t w root l
               liveIs = λ e s. let u = shaped t s in
                   change-live t root level (a .rootIs) (a .levelIs) v t₃ spare (g .left) (g .levels) (g .root) bound (storeOf t₂) ss ks u unused (p .fewer good) fitI fitD
                   (p .done good fitI fitD (root-sound t root level (a .rootIs) (a .levelIs) u) (root-apart t root level (a .rootIs) (a .levelIs) u spare unused)) sized-v head-v else-v r;
+              whole = λ s e. done-whole e;
               ready = λ s e. refl;
               light = λ e. absurd (false≢true (sym (a .room) ∙ e));
             }

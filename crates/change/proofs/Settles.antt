@@ -35,10 +35,10 @@ use Rattle.spare.specs.declared.Spare.{Spare}
 use Rattle.spare.specs.Spares.{spareOf, takenOf, SpareFits}
 use Rattle.spare.proofs.Taking.{spare-less, taken-is, last-new, spare-step}
 use Rattle.batch.specs.Batches.{batchSays}
-use Rattle.settle.specs.Settling.{Settleable, SettlePost, SettledTo}
+use Rattle.settle.specs.Settling.{Settleable, OnSound, SettlePost, SettledTo}
 use Rattle.settle.specs.declared.Settled.{Settled}
 use Rattle.change.specs.declared.Grown.{Grown}
-use Rattle.change.specs.Growing.{Rooted, Over, Crownable, CrownPost, GrowPost}
+use Rattle.change.specs.Growing.{Rooted, Over, Crownable, OverSound, CrownPost, OnTree, GrowPost}
 use Rattle.change.proofs.Trees.{rooted-one, rooted-after}
 use Rattle.change.proofs.Crown.{crowned}
 
@@ -64,18 +64,26 @@ room-above left level h = go (eqb left 0) refl (ltb 6 level) refl h
 -- ---- a new root
 
 -- it failed
-pub crown-fails : (t t′ : List ℕ) (first second : Entry) (level : ℕ) (spare : Spare) (left : ℕ) (r : Grown) → r .ok ≡ false → CrownPost t t′ first second level spare left r
-crown-fails t t′ first second level spare left r no-good =
-    record { some = λ e. absurd (off e); fewer = λ e. absurd (off e); levels = λ e. absurd (off e); taken = λ e. absurd (off e); done = λ e. absurd (off e) }
+pub crown-fails : {t t′ : List ℕ} {first second : Entry} {level : ℕ} {spare : Spare} {left : ℕ} {r : Grown} {broken : Bool} → (r .ok ≡ false) × (r .broken ≡ broken)
+    → OverSound t first second level (λ f. broken ≡ false) → CrownPost t t′ first second level spare left r
+crown-fails {r = r} no-good whole =
+    record {
+      some = λ e. absurd (off e);
+      fewer = λ e. absurd (off e);
+      levels = λ e. absurd (off e);
+      taken = λ e. absurd (off e);
+      done = λ e. absurd (off e);
+      whole = λ f low high kids finds. no-good .1 ∙ whole f low high kids finds;
+    }
   where
     off : r .ok ≡ true → ⊥
-    off e = false≢true (sym no-good ∙ e)
+    off e = false≢true (sym (no-good .0) ∙ e)
 
 -- it stands
 pub crown-done : {t t₁ s₁ map₁ : List ℕ} {first second : Entry} {level : ℕ} {n : NodeValue} {r : Filled} (t₂ : List ℕ) (spare : Spare) (left b : ℕ)
     → Over level first second n → FillPost t t₁ s₁ map₁ level n r → r .ok ≡ true → first .low ≡ 0 → 1 ≤ level → level ≤ 6 → 0 < left
     → spareOf spare left ≡ spareOf spare (left - 1) ++ (b ∷ []) → Stored t₁ t₂ b (r .node)
-    → CrownPost t t₂ first second level spare left (record { ok = true; levels = level + 1; root = b; left = left - 1 })
+    → CrownPost t t₂ first second level spare left (record { ok = true; broken = false; levels = level + 1; root = b; left = left - 1 })
 crown-done {level = level} t₂ spare left b o p ok zero inner deep some last st =
     record {
       some = λ e. some;
@@ -83,25 +91,38 @@ crown-done {level = level} t₂ spare left b o p ok zero inner deep some last st
       levels = λ e. (add-one level, deep);
       taken = λ e. last;
       done = λ e f low high kids finds off. crowned o p zero ok inner t₂ b st f low high kids finds off;
+      whole = λ f low high kids finds. refl;
     }
 
 -- ---- the tree
 
--- settling failed, or the new root did
-pub grow-fails : (t t′ : List ℕ) (root level : ℕ) (ss : List Spot) (ks : List ℕ) (spare : Spare) (r : Grown) → r .ok ≡ false → GrowPost t t′ root level ss ks spare r
-grow-fails t t′ root level ss ks spare r no-good =
-    record { fewer = λ e. absurd (off e); levels = λ e. absurd (off e); top = λ e. absurd (off e); done = λ e. absurd (off e) }
+-- what holds of a part that is sound holds of the tree
+at-root : (t : List ℕ) (root level : ℕ) (ss : List Spot) (ks : List ℕ) (spare : Spare) (Then : ℕ → ℕ → Type 0) → OnSound t level root (Root root) ss ks spare (spare .n) Then
+    → OnTree t root level ss ks spare (Then 0 allKeys)
+at-root t root level ss ks spare Then h hi hd sound apart = h 0 allKeys (omega arith) (omega arith) (omega arith) hi hd sound apart
+
+-- settling failed
+pub grow-fails : {t t′ : List ℕ} {root level : ℕ} {ss : List Spot} {ks : List ℕ} {spare : Spare} {s : Settled} {r : Grown} → SettlePost t t′ level root (Root root) ss ks spare (spare .n) s
+    → (r .ok ≡ false) × (r .broken ≡ s .broken) → GrowPost t t′ root level ss ks spare r
+grow-fails {t} {root = root} {level = level} {ss = ss} {ks = ks} {spare = spare} {s = s} {r = r} p no-good =
+    record {
+      fewer = λ e. absurd (off e);
+      levels = λ e. absurd (off e);
+      top = λ e. absurd (off e);
+      done = λ e. absurd (off e);
+      whole = λ hi hd sound apart. no-good .1 ∙ at-root t root level ss ks spare (λ lo hi. s .broken ≡ false) (p .whole) hi hd sound apart;
+    }
   where
     off : r .ok ≡ true → ⊥
-    off e = false≢true (sym no-good ∙ e)
+    off e = false≢true (sym (no-good .0) ∙ e)
 
 module _ {t w map t₁ w₁ map₁ : List ℕ} {root level ni nd : ℕ} {ss : List Spot} {ks : List ℕ} {spare : Spare} {r : Settled} (s : Settleable t w map root level ni nd spare (spare .n))
-    (kept : Kept t w map t₁ w₁ map₁) (p : SettlePost t t₁ level root Root ss ks spare (spare .n) r) (ok : r .ok ≡ true) where
+    (kept : Kept t w map t₁ w₁ map₁) (p : SettlePost t t₁ level root (Root root) ss ks spare (spare .n) r) (ok : r .ok ≡ true) where
   abbrev x : Store
   x = storeOf t
 
   abbrev whole-part : Part
-  whole-part = part root Root 0 allKeys
+  whole-part = part root (Root root) 0 allKeys
 
   abbrev says : ℕ → Option ℕ
   says k = batchSays ss ks k (lookup (suc level) x k whole-part)
@@ -109,20 +130,24 @@ module _ {t w map t₁ w₁ map₁ : List ℕ} {root level ni nd : ℕ} {ss : Li
   all-of : (k : ℕ) → within 0 allKeys k ≡ true → within 0 allKeys k || false ≡ true
   all-of k i = ap (λ (u : Bool). u || false) i
 
+  settled-to : OnTree t root level ss ks spare (SettledTo (storeOf t) (storeOf t₁) level root (Root root) 0 allKeys ss ks spare (spare .n) r)
+  settled-to = at-root t root level ss ks spare (λ lo hi. SettledTo (storeOf t) (storeOf t₁) level root (Root root) lo hi ss ks spare (spare .n) r) (p .done ok)
+
   -- one part
-  pub grow-one : r .two ≡ false → GrowPost t t₁ root level ss ks spare (record { ok = true; levels = level + 1; root = root; left = r .left })
+  pub grow-one : r .two ≡ false → GrowPost t t₁ root level ss ks spare (record { ok = true; broken = false; levels = level + 1; root = root; left = r .left })
   grow-one one =
       record {
         fewer = λ e. p .fewer;
         levels = λ e. (omega arith, omega (arith, s .deep));
         top = λ e. inl refl;
         done = λ e hi hd sound apart.
-            let q = p .done ok 0 allKeys (omega arith) (omega arith) (omega arith) hi hd sound apart in
+            let q = settled-to hi hd sound apart in
             let c : Changed (suc level) (Taken (spareOf spare (spare .n)) (spareOf spare (r .left))) x (whole-part ∷ []) (storeOf t₁) (whole-part ∷ []) says =
             subst (λ (two : Bool). Changed (suc level) (Taken (spareOf spare (spare .n)) (spareOf spare (r .left))) x (whole-part ∷ []) (storeOf t₁) (cond two (part root (Child (r .first)) 0 (r .second .low) ∷ part (r .second .block) (Child (r .second)) (r .second .low) allKeys ∷ []) (whole-part ∷ [])) says) one (q .changed)
             in
             subst⁻¹ (λ (h : ℕ). Rooted (suc level) x (whole-part ∷ []) (Taken (spareOf spare (spare .n)) (spareOf spare (r .left))) h (storeOf t₁) root says) (add-one level)
             (rooted-one (suc level) (Taken (spareOf spare (spare .n)) (spareOf spare (r .left))) x root (storeOf t₁) says c);
+        whole = λ hi hd sound apart. refl;
       }
 
   module _ (two : r .two ≡ true) where
@@ -140,6 +165,18 @@ module _ {t w map t₁ w₁ map₁ : List ℕ} {root level ni nd : ℕ} {ss : Li
           less = p .fewer;
         }
 
+    two-parts : SettledTo x (storeOf t₁) level root (Root root) 0 allKeys ss ks spare (spare .n) r
+        → Changed (suc level) (Taken (spareOf spare (spare .n)) (spareOf spare (r .left))) x (whole-part ∷ []) (storeOf t₁) (parts 0 allKeys (r .first ∷ r .second ∷ [])) says
+    two-parts q =
+        subst⁻¹ (λ (b : ℕ). Changed (suc level) (Taken (spareOf spare (spare .n)) (spareOf spare (r .left))) x (whole-part ∷ []) (storeOf t₁) (part b (Child (r .first)) 0 (r .second .low) ∷ part (r .second .block) (Child (r .second)) (r .second .low) allKeys ∷ []) says) (p .block ok)
+        (subst (λ (u : Bool). Changed (suc level) (Taken (spareOf spare (spare .n)) (spareOf spare (r .left))) x (whole-part ∷ []) (storeOf t₁) (cond u (part root (Child (r .first)) 0 (r .second .low) ∷ part (r .second .block) (Child (r .second)) (r .second .low) allKeys ∷ []) (whole-part ∷ [])) says) two (q .changed))
+
+    -- they are sound, and what holds then of a new root over them holds
+    at-crown : (Then : (ℕ → Option ℕ) → Type 0) → OverSound t₁ (r .first) (r .second) (level + 1) Then → SettledTo x (storeOf t₁) level root (Root root) 0 allKeys ss ks spare (spare .n) r → Then says
+    at-crown Then h q =
+        h says (q .apart two .0) (q .apart two .1) (subst⁻¹ (λ (h : ℕ). Sound h (storeOf t₁) (parts 0 allKeys (r .first ∷ r .second ∷ []))) (add-one level) (two-parts q .sound))
+        (subst⁻¹ (λ (h : ℕ). (k : ℕ) → within 0 allKeys k ≡ true → under h (storeOf t₁) 0 allKeys (r .first ∷ r .second ∷ []) k ≡ says k) (add-one level) (λ k i. two-parts q .found k (all-of k i)))
+
     -- and with it the tree is whole
     pub grow-two : {t₂ : List ℕ} {g : Grown} → CrownPost t₁ t₂ (r .first) (r .second) (level + 1) spare (r .left) g → GrowPost t t₂ root level ss ks spare g
     grow-two {t₂} {g} c =
@@ -147,7 +184,8 @@ module _ {t w map t₁ w₁ map₁ : List ℕ} {root level ni nd : ℕ} {ss : Li
           fewer = λ e. let z = c .fewer e in let y = p .fewer in omega arith;
           levels = λ e. let z = c .levels e in (omega (arith, z .0), omega (arith, z .0, z .1));
           top = λ e. inr (subst⁻¹ (λ (n : ℕ). List·Memᴰ (g .root) (takenOf spare n)) (c .fewer e) (taken-is spare (r .left - 1) (lower e) once (g .root) (all-spare e (new e .0)) (new e .1)));
-          done = λ e hi hd sound apart. grown e (p .done ok 0 allKeys (omega arith) (omega arith) (omega arith) hi hd sound apart) apart;
+          done = λ e hi hd sound apart. grown e (settled-to hi hd sound apart) apart;
+          whole = λ hi hd sound apart. at-crown (λ f. g .broken ≡ false) (c .whole) (settled-to hi hd sound apart);
         }
       where
         once : distinct (spareOf spare (spare .n)) ≡ true
@@ -163,7 +201,7 @@ module _ {t w map t₁ w₁ map₁ : List ℕ} {root level ni nd : ℕ} {ss : Li
         all-spare : g .ok ≡ true → List·Memᴰ (g .root) (spareOf spare (r .left)) → List·Memᴰ (g .root) (spareOf spare (spare .n))
         all-spare e i = spare-less spare (r .left) (spare .n) (p .fewer) (g .root) i
 
-        grown : g .ok ≡ true → SettledTo x (storeOf t₁) level root Root 0 allKeys ss ks spare (spare .n) r → Apart (spareOf spare (spare .n)) (reaches (suc level) x (whole-part ∷ []))
+        grown : g .ok ≡ true → SettledTo x (storeOf t₁) level root (Root root) 0 allKeys ss ks spare (spare .n) r → Apart (spareOf spare (spare .n)) (reaches (suc level) x (whole-part ∷ []))
             → Rooted (suc level) x (whole-part ∷ []) (Taken (spareOf spare (spare .n)) (spareOf spare (g .left))) (g .levels) (storeOf t₂) (g .root) says
         grown e q apart =
             subst⁻¹ (λ (n : ℕ). Rooted (suc level) x (whole-part ∷ []) (Taken (spareOf spare (spare .n)) (spareOf spare n)) (g .levels) (storeOf t₂) (g .root) says) (c .fewer e)
@@ -171,18 +209,13 @@ module _ {t w map t₁ w₁ map₁ : List ℕ} {root level ni nd : ℕ} {ss : Li
             (rooted-after (suc level) A (λ z. z ≡ g .root) (Taken (spareOf spare (spare .n)) (spareOf spare (r .left - 1))) x (whole-part ∷ []) (storeOf t₁) qs (suc (suc level)) (storeOf t₂) (g .root) says says
             (λ z i. (i .0, λ j. i .1 (spare-less spare (r .left - 1) (r .left) (omega arith) z j)))
             (λ z (d : z ≡ g .root). subst⁻¹ (λ (k : ℕ). Taken (spareOf spare (spare .n)) (spareOf spare (r .left - 1)) k) d (all-spare e (new e .0), new e .1))
-            exact changed over))
+            exact (two-parts q) over))
           where
             A : ℕ → Type 0
             A = Taken (spareOf spare (spare .n)) (spareOf spare (r .left))
 
             qs : List Part
             qs = parts 0 allKeys (r .first ∷ r .second ∷ [])
-
-            changed : Changed (suc level) (Taken (spareOf spare (spare .n)) (spareOf spare (r .left))) x (whole-part ∷ []) (storeOf t₁) (parts 0 allKeys (r .first ∷ r .second ∷ [])) says
-            changed =
-                subst⁻¹ (λ (b : ℕ). Changed (suc level) (Taken (spareOf spare (spare .n)) (spareOf spare (r .left))) x (whole-part ∷ []) (storeOf t₁) (part b (Child (r .first)) 0 (r .second .low) ∷ part (r .second .block) (Child (r .second)) (r .second .low) allKeys ∷ []) says) (p .block ok)
-                (subst (λ (u : Bool). Changed (suc level) (Taken (spareOf spare (spare .n)) (spareOf spare (r .left))) x (whole-part ∷ []) (storeOf t₁) (cond u (part root (Child (r .first)) 0 (r .second .low) ∷ part (r .second .block) (Child (r .second)) (r .second .low) allKeys ∷ []) (whole-part ∷ [])) says) two (q .changed))
 
             exact : (z : ℕ) → Taken (spareOf spare (spare .n)) (spareOf spare (r .left - 1)) z → Taken (spareOf spare (spare .n)) (spareOf spare (r .left)) z ⊎ (z ≡ g .root)
             exact z i =
@@ -191,8 +224,9 @@ module _ {t w map t₁ w₁ map₁ : List ℕ} {root level ni nd : ℕ} {ss : Li
             over : Rooted (suc level) (storeOf t₁) (parts 0 allKeys (r .first ∷ r .second ∷ [])) (λ z. z ≡ g .root) (suc (suc level)) (storeOf t₂) (g .root) says
             over =
                 subst (λ (h : ℕ). Rooted h (storeOf t₁) (parts 0 allKeys (r .first ∷ r .second ∷ [])) (λ z. z ≡ g .root) (suc h) (storeOf t₂) (g .root) says) (add-one level)
-                (c .done e says (q .apart two .0) (q .apart two .1)
-                (subst⁻¹ (λ (h : ℕ). Sound h (storeOf t₁) (parts 0 allKeys (r .first ∷ r .second ∷ []))) (add-one level) (changed .sound))
-                (subst⁻¹ (λ (h : ℕ). (k : ℕ) → within 0 allKeys k ≡ true → under h (storeOf t₁) 0 allKeys (r .first ∷ r .second ∷ []) k ≡ says k) (add-one level) (λ k i. changed .found k (all-of k i)))
+                (at-crown
+                (λ f. (List·Memᴰ (g .root) (reaches (level + 1) (storeOf t₁) (parts 0 allKeys (r .first ∷ r .second ∷ []))) → ⊥)
+                → Rooted (level + 1) (storeOf t₁) (parts 0 allKeys (r .first ∷ r .second ∷ [])) (λ z. z ≡ g .root) (suc (level + 1)) (storeOf t₂) (g .root) f)
+                (c .done e) q
                 (subst⁻¹ (λ (h : ℕ). List·Memᴰ (g .root) (reaches h (storeOf t₁) (parts 0 allKeys (r .first ∷ r .second ∷ []))) → ⊥) (add-one level)
-                (λ i. ⊎-elim (λ j. apart (g .root) (all-spare e (new e .0)) j) (λ n. n .1 (new e .0)) (changed .reached (g .root) i))))
+                (λ i. ⊎-elim (λ j. apart (g .root) (all-spare e (new e .0)) j) (λ n. n .1 (new e .0)) (two-parts q .reached (g .root) i))))

@@ -24,7 +24,7 @@ use Rattle.block.specs.Table.{block, blocksOf, blockOk, capacity}
 use Rattle.block.specs.Header.{Header, headOf}
 use Rattle.block.specs.HeaderRules.{headerOk}
 use Rattle.block.specs.Node.{Node, storeOf}
-use Rattle.block.specs.NodeRules.{names, lows, zeroFirst, lowsRise, childCountOk, fewest, childBlocksOk, leafBuffersEmpty, agrees}
+use Rattle.block.specs.NodeRules.{names, lows, zeroFirst, lowsRise, childCountOk, fewest, childBlocksOk, leafBuffersEmpty, agrees, standsIn}
 use Rattle.block.proofs.Facts.{NodeFacts, node-facts, HeadFacts, head-facts}
 use Rattle.tree.specs.Part.{Part}
 use Rattle.tree.specs.Lookup.{lookup}
@@ -62,8 +62,8 @@ none-in : (t blocks : List ℕ) → SpareIn t (none blocks)
 none-in t blocks = record { fits = none-fits t blocks; unused = λ b i. absurd (List·Memᴰ·not-nil i) }
 
 module _ {t : List ℕ} {root level : ℕ} {n : NodeValue} {ni nd bound : ℕ} (a : LightAt t root level n ni nd bound) where
-  facts : NodeFacts level Root (storeOf t root)
-  facts = node-facts level Root (storeOf t root) (a .ok)
+  facts : NodeFacts level (Root root) (storeOf t root)
+  facts = node-facts level (Root root) (storeOf t root) (a .ok)
 
   head : HeadFacts (length t) (headOf t)
   head = head-facts (length t) (headOf t) (a .header)
@@ -131,7 +131,7 @@ module _ {t : List ℕ} {root level : ℕ} {n : NodeValue} {ni nd bound : ℕ} (
       module _ {t₂ : List ℕ} (r : Reheaded t₁ t₂ [] (level + 1) root bound) (long : length (held (m .points)) ≡ m .points .n)
           (fitI : (k : ℕ) → List·Memᴰ k (keys ss) → within 0 allKeys k ≡ true) (fitD : (k : ℕ) → List·Memᴰ k ks → within 0 allKeys k ≡ true) where
         abbrev here : Part
-        here = part root Root 0 allKeys
+        here = part root (Root root) 0 allKeys
 
         abbrev node : Node
         node = nodeIn (blocksOf (length t)) m
@@ -151,8 +151,8 @@ module _ {t : List ℕ} {root level : ℕ} {n : NodeValue} {ni nd bound : ℕ} (
         tall : (storeOf t root .level ≡ 0) → ⊥
         tall e = a .room .inner refl (ap (λ (x : Node). x .level) (a .loaded .is) ∙ e)
 
-        shape : inRange here (storeOf t root) ≡ true → Shape level Root 0 allKeys node
-        unfolding inRange childCountOk fewest lowsRise leafBuffersEmpty agrees childBlocksOk blockOk
+        shape : inRange here (storeOf t root) ≡ true → Shape level root (Root root) 0 allKeys node
+        unfolding inRange childCountOk fewest lowsRise leafBuffersEmpty agrees childBlocksOk blockOk standsIn
         shape inside =
             let size : length (entriesOf (m .entries)) ≡ length (storeOf t root .entries) = ap length same-entries in
             let i = length-take (m .inserts .n) (m .inserts .spots) in
@@ -168,18 +168,20 @@ module _ {t : List ℕ} {root level : ℕ} {n : NodeValue} {ni nd bound : ℕ} (
               agree = refl;
               low = omega arith;
               blocks = every-make _ (entriesOf (m .entries)) (λ e i. let z = facts .child-blocks e (subst (λ (es : List Entry). List·Memᴰ e es) same-entries i) in all-cons _ _ (le-leb 1 (e .block) (z .0)) (all-cons _ _ (lt-ltb (e .block) (blocksOf (length t)) (let y = same-room in omega (arith, z .1))) all-nil));
+              own = refl;
+              full = omega arith;
             }
 
         rooted : Sound (suc level) (storeOf t) (here ∷ []) → Rooted (suc level) (storeOf t) (here ∷ []) (Taken [] []) (level + 1) (storeOf t₁) root says
         rooted s =
-            let o = taken-open level (storeOf t) root Root 0 allKeys (omega arith) (omega arith) s (blocksOf (length t)) n (a .loaded .is) ss ks ni nd m fitI fitD k in
+            let o = taken-open level (storeOf t) root (Root root) 0 allKeys (omega arith) (omega arith) s (blocksOf (length t)) n (a .loaded .is) ss ks ni nd m fitI fitD k in
             let g = going-start level 0 allKeys (storeOf t) [] (o .0) (entriesOf (m .entries)) (heldIn m) says (o .1) (λ z i. absurd (List·Memᴰ·not-nil i)) in
             let g′ : Going level 0 allKeys (storeOf t) [] (storeOf t root .entries) (storeOf t) [] (o .0) (entriesOf (m .entries)) (heldIn m) says =
             subst (λ (es : List Entry). Going level 0 allKeys (storeOf t) [] es (storeOf t) [] (o .0) (entriesOf (m .entries)) (heldIn m) says) same-entries g
             in
             subst⁻¹ (λ (h : ℕ). Rooted (suc level) (storeOf t) (here ∷ []) (Taken [] []) h (storeOf t₁) root says) (add-one level)
             (rooted-one (suc level) (Taken [] []) (storeOf t) root (storeOf t₁) says
-            (going-done level (storeOf t) (storeOf t) (storeOf t₁) here Root [] [] (o .0) node says s (λ z i. absurd (List·Memᴰ·not-nil i)) g′ (shape (opened level (storeOf t) here s .inside)) (st .here) (stored-else t t₁ root m st)))
+            (going-done level (storeOf t) (storeOf t) (storeOf t₁) here (Root root) [] [] (o .0) node says s (λ z i. absurd (List·Memᴰ·not-nil i)) g′ (shape (opened level (storeOf t) here s .inside)) (st .here) (stored-else t t₁ root m st)))
 
         -- what light promises
         pub light-done : LightPost t t₂ ss ks bound

@@ -11,18 +11,20 @@ use Rattle.octets.proofs.Tests.{and-left, and-both}
 use Rattle.spot.specs.Keys.{allKeys}
 use Rattle.block.specs.declared.Asked.the-variants.{Root}
 use Rattle.block.specs.Node.{Store}
+use Rattle.block.specs.NodeRules.{standsIn}
 use Rattle.tree.specs.Part.{Part}
 use Rattle.tree.specs.Lookup.{lookup}
 use Rattle.tree.specs.Reach.{reach}
 use Rattle.tree.specs.Sound.{soundAt}
 use Rattle.tree.proofs.Frame.{Same, reach-same, sound-same, lookup-same}
 use Rattle.update.specs.Change.{part, reaches, Sound, Changed}
+use Rattle.update.proofs.Change.{led-one}
 use Rattle.change.specs.Growing.{Rooted}
 
 -- one part, alone
-pub sound-of : (l : ℕ) (m : Store) (p : Part) → soundAt l m p ≡ true → distinct (reach l m p) ≡ true → Sound l m (p ∷ [])
-sound-of l m p s d =
-    record { each = and-both (soundAt l m p) true s refl; once = subst⁻¹ (λ (r : List ℕ). distinct r ≡ true) (append-nil (reach l m p)) d }
+pub sound-of : (l : ℕ) (m : Store) (p : Part) → standsIn (p .asked) ≡ p .block → soundAt l m p ≡ true → distinct (reach l m p) ≡ true → Sound l m (p ∷ [])
+sound-of l m p own s d =
+    record { each = and-both (soundAt l m p) true s refl; once = subst⁻¹ (λ (r : List ℕ). distinct r ≡ true) (append-nil (reach l m p)) d; led = led-one p own }
 
 pub of-sound : (l : ℕ) (m : Store) (p : Part) → Sound l m (p ∷ []) → (soundAt l m p ≡ true) × (distinct (reach l m p) ≡ true)
 of-sound l m p s =
@@ -30,7 +32,7 @@ of-sound l m p s =
 
 -- the root changed and stayed the root
 pub rooted-one : (l : ℕ) (New : ℕ → Type 0) (x : Store) (b : ℕ) (y : Store) (f : ℕ → Option ℕ)
-    → Changed l New x (part b Root 0 allKeys ∷ []) y (part b Root 0 allKeys ∷ []) f → Rooted l x (part b Root 0 allKeys ∷ []) New l y b f
+    → Changed l New x (part b (Root b) 0 allKeys ∷ []) y (part b (Root b) 0 allKeys ∷ []) f → Rooted l x (part b (Root b) 0 allKeys ∷ []) New l y b f
 rooted-one l New x b y f c =
     record {
       sound = c .sound;
@@ -40,22 +42,23 @@ rooted-one l New x b y f c =
     }
   where
     p : Part
-    p = part b Root 0 allKeys
+    p = part b (Root b) 0 allKeys
 
 -- block 0, which it does not reach, changed
 pub rooted-frame : (l : ℕ) (x : Store) (ps : List Part) (New : ℕ → Type 0) (h : ℕ) (y : Store) (b : ℕ) (f : ℕ → Option ℕ) (w : Store)
     → (List·Memᴰ 0 (reaches l x ps) → ⊥) → (New 0 → ⊥) → ((z : ℕ) → (z ≡ 0 → ⊥) → w z ≡ y z)
     → Rooted l x ps New h y b f → Rooted l x ps New h w b f
+unfolding standsIn
 rooted-frame l x ps New h y b f w old new else g =
     record {
-      sound = sound-of h w p (sound-same y w h p same ∙ s .0) (ap distinct r ∙ s .1);
+      sound = sound-of h w p refl (sound-same y w h p same ∙ s .0) (ap distinct r ∙ s .1);
       found = λ k i. lookup-same y w h k p same ∙ g .found k i;
       reached = λ z i. g .reached z (subst (λ (bs : List ℕ). List·Memᴰ z bs) r i);
       still = λ z i. subst⁻¹ (λ (bs : List ℕ). List·Memᴰ z bs) r (g .still z i);
     }
   where
     p : Part
-    p = part b Root 0 allKeys
+    p = part b (Root b) 0 allKeys
 
     s : (soundAt h y p ≡ true) × (distinct (reach h y p) ≡ true)
     s = of-sound h y p (g .sound)

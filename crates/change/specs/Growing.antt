@@ -39,10 +39,10 @@ use Rattle.change.specs.Changing.{Changeable}
 -- The parts ps of the store x, of l levels, became the whole tree of h levels under the root b in the store y. f says what is found in it, and New are the
 -- blocks that came in.
 pub record Rooted (l : ℕ) (x : Store) (ps : List Part) (New : ℕ → Type 0) (h : ℕ) (y : Store) (b : ℕ) (f : ℕ → Option ℕ) : Type 0 where
-  pub sound : Sound h y (part b Root 0 allKeys ∷ [])
-  pub found : (k : ℕ) → within 0 allKeys k ≡ true → lookup h y k (part b Root 0 allKeys) ≡ f k
-  pub reached : (z : ℕ) → List·Memᴰ z (reach h y (part b Root 0 allKeys)) → List·Memᴰ z (reaches l x ps) ⊎ New z
-  pub still : (z : ℕ) → List·Memᴰ z (reaches l x ps) ⊎ New z → List·Memᴰ z (reach h y (part b Root 0 allKeys))
+  pub sound : Sound h y (part b (Root b) 0 allKeys ∷ [])
+  pub found : (k : ℕ) → within 0 allKeys k ≡ true → lookup h y k (part b (Root b) 0 allKeys) ≡ f k
+  pub reached : (z : ℕ) → List·Memᴰ z (reach h y (part b (Root b) 0 allKeys)) → List·Memᴰ z (reaches l x ps) ⊎ New z
+  pub still : (z : ℕ) → List·Memᴰ z (reaches l x ps) ⊎ New z → List·Memᴰ z (reach h y (part b (Root b) 0 allKeys))
 
 -- a node over two entries with nothing in its buffers
 pub record Over (depth : ℕ) (first second : Entry) (r : NodeValue) : Type 0 where
@@ -66,29 +66,42 @@ pub record Crownable (t w map : List ℕ) (first second : Entry) (level : ℕ) (
   pub spares : SpareFits t spare
   pub less : left ≤ spare .n
 
+-- what holds where the two entries lead to sound parts, in which f is found
+abbrev pub OverSound : List ℕ → Entry → Entry → ℕ → ((ℕ → Option ℕ) → Type 0) → Type 0
+OverSound t first second level Then =
+    (f : ℕ → Option ℕ) → 0 < second .low → second .low < allKeys
+    → Sound level (storeOf t) (parts 0 allKeys (first ∷ second ∷ []))
+    → ((k : ℕ) → within 0 allKeys k ≡ true → under level (storeOf t) 0 allKeys (first ∷ second ∷ []) k ≡ f k)
+    → Then f
+
 -- it stands in the last of the spare blocks
 pub record CrownPost (t t′ : List ℕ) (first second : Entry) (level : ℕ) (spare : Spare) (left : ℕ) (r : Grown) : Type 0 where
   pub some : r .ok ≡ true → 0 < left
   pub fewer : r .ok ≡ true → r .left ≡ left - 1
   pub levels : r .ok ≡ true → (r .levels ≡ suc level) × (level ≤ 6)
   pub taken : r .ok ≡ true → spareOf spare left ≡ spareOf spare (left - 1) ++ (r .root ∷ [])
-  pub done : r .ok ≡ true → (f : ℕ → Option ℕ) → 0 < second .low → second .low < allKeys
-      → Sound level (storeOf t) (parts 0 allKeys (first ∷ second ∷ []))
-      → ((k : ℕ) → within 0 allKeys k ≡ true → under level (storeOf t) 0 allKeys (first ∷ second ∷ []) k ≡ f k)
-      → (List·Memᴰ (r .root) (reaches level (storeOf t) (parts 0 allKeys (first ∷ second ∷ []))) → ⊥)
-      → Rooted level (storeOf t) (parts 0 allKeys (first ∷ second ∷ [])) (λ z. z ≡ r .root) (suc level) (storeOf t′) (r .root) f
+  pub done : r .ok ≡ true → OverSound t first second level (λ f.
+      (List·Memᴰ (r .root) (reaches level (storeOf t) (parts 0 allKeys (first ∷ second ∷ []))) → ⊥)
+      → Rooted level (storeOf t) (parts 0 allKeys (first ∷ second ∷ [])) (λ z. z ≡ r .root) (suc level) (storeOf t′) (r .root) f)
+  pub whole : OverSound t first second level (λ f. r .broken ≡ false)
+
+-- what holds where the tree is sound, the batch lies in its range, and it reaches no spare block
+abbrev pub OnTree : List ℕ → ℕ → ℕ → List Spot → List ℕ → Spare → Type 0 → Type 0
+OnTree t root level ss ks spare Then =
+    ((k : ℕ) → List·Memᴰ k (keys ss) → within 0 allKeys k ≡ true) → ((k : ℕ) → List·Memᴰ k ks → within 0 allKeys k ≡ true)
+    → Sound (suc level) (storeOf t) (part root (Root root) 0 allKeys ∷ [])
+    → Apart (spareOf spare (spare .n)) (reaches (suc level) (storeOf t) (part root (Root root) 0 allKeys ∷ []))
+    → Then
 
 -- the tree after the inserts ss and the deletes ks were settled at its root
 pub record GrowPost (t t′ : List ℕ) (root level : ℕ) (ss : List Spot) (ks : List ℕ) (spare : Spare) (r : Grown) : Type 0 where
   pub fewer : r .ok ≡ true → r .left ≤ spare .n
   pub levels : r .ok ≡ true → (1 ≤ r .levels) × (r .levels ≤ 7)
   pub top : r .ok ≡ true → (r .root ≡ root) ⊎ List·Memᴰ (r .root) (takenOf spare (r .left))
-  pub done : r .ok ≡ true
-      → ((k : ℕ) → List·Memᴰ k (keys ss) → within 0 allKeys k ≡ true) → ((k : ℕ) → List·Memᴰ k ks → within 0 allKeys k ≡ true)
-      → Sound (suc level) (storeOf t) (part root Root 0 allKeys ∷ [])
-      → Apart (spareOf spare (spare .n)) (reaches (suc level) (storeOf t) (part root Root 0 allKeys ∷ []))
-      → Rooted (suc level) (storeOf t) (part root Root 0 allKeys ∷ []) (Taken (spareOf spare (spare .n)) (spareOf spare (r .left))) (r .levels) (storeOf t′) (r .root)
-      (λ k. batchSays ss ks k (lookup (suc level) (storeOf t) k (part root Root 0 allKeys)))
+  pub done : r .ok ≡ true → OnTree t root level ss ks spare
+      (Rooted (suc level) (storeOf t) (part root (Root root) 0 allKeys ∷ []) (Taken (spareOf spare (spare .n)) (spareOf spare (r .left))) (r .levels) (storeOf t′) (r .root)
+      (λ k. batchSays ss ks k (lookup (suc level) (storeOf t) k (part root (Root root) 0 allKeys))))
+  pub whole : OnTree t root level ss ks spare (r .broken ≡ false)
 
 -- block 0 is taken back from the scratch, and then brought up to date
 pub record Finishable (t w : List ℕ) (spare : Spare) (left levels root bound : ℕ) : Type 0 where
@@ -112,7 +125,7 @@ pub record LightAt (t : List ℕ) (root level : ℕ) (n : NodeValue) (ni nd boun
   pub few : bound ≤ capacity (length t)
   pub one : ni + nd ≤ 1
   pub loaded : Loaded t root n
-  pub ok : nodeOk level Root (storeOf t root) ≡ true
+  pub ok : nodeOk level (Root root) (storeOf t root) ≡ true
   pub room : HasRoom n true
 
 -- only block 0 and the root were written

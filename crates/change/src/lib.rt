@@ -8,22 +8,41 @@ ghost use Rattle.journal.specs.Journal.{Kept};
 ghost use Rattle.spare.specs.Spares.{takenOf, Reheaded};
 ghost use Rattle.settle.specs.Settling.{Settleable};
 ghost use Rattle.edit.specs.Edits.{Tidy};
-ghost use Rattle.change.specs.Changing.{Changeable, ChangedBy};
+ghost use Rattle.change.specs.Changing.{Changeable, refusal, ChangedBy};
 ghost use Rattle.change.specs.Growing.{Over, Crownable, CrownPost, GrowPost, Finishable, HasRoom, LightAt, LightPost, HeavyAt};
 
-// The tree after a change at its root: its levels, its root, and how many spare blocks are left.
+// What became of a change: carried out, or the table is as it was, since there is no room, or since a block that was read breaks a rule.
+pub enum Outcome {
+    Done,
+    NoRoom,
+    Broken,
+}
+
+// The tree after a change at its root: its levels, its root, and how many spare blocks are left. Where it is not ok, `broken` says that a block that was read
+// breaks a rule; else there was no room.
 pub struct Grown {
     pub ok: bool,
+    pub broken: bool,
     pub levels: usize,
     pub root: usize,
     pub left: usize,
 }
 
-fn not_grown(left: usize) -> Grown
-    ensures { λ r. ⌜ r .ok ≡ false ⌝ }
+fn refused(broken: bool) -> Outcome
+    ensures { λ r. ⌜ r ≡ refusal broken ⌝ }
+{
+    if broken {
+        return Outcome::Broken;
+    }
+    Outcome::NoRoom
+}
+
+fn not_grown(broken: bool, left: usize) -> Grown
+    ensures { λ r. ⌜ (r .ok ≡ false) × (r .broken ≡ broken) ⌝ }
 {
     Grown {
         ok: false,
+        broken,
         levels: 0,
         root: 0,
         left,
@@ -95,18 +114,19 @@ fn new_root(
     ensures crowned { λ r. ⌜ CrownPost (now (t .entry)) (now (t .exit)) first second level spare left r ⌝ }
 {
     if (left == 0) | (6 < level) {
-        return not_grown(left);
+        return not_grown(false, left);
     }
     let root = spare::last_of(spare, left);
     let n = over(level, first, second);
     let f = fill::fill(t, w, map, n, level);
     if !f.ok {
-        return not_grown(left);
+        return not_grown(f.broken, left);
     }
     let full = f.node;
     journal::write_node(t, w, map, root, full);
     Grown {
         ok: true,
+        broken: false,
         levels: level + 1,
         root,
         left: left - 1,
@@ -129,14 +149,15 @@ fn grow(
     ensures grown { λ r. ⌜ GrowPost (now (t .entry)) (now (t .exit)) root level (held inserts) (named deletes) spare r ⌝ }
 {
     let left = spare.n;
-    let top = block::Asked::Root;
+    let top = block::Asked::Root(root);
     let r = settle::settle(t, w, map, root, top, level, inserts, deletes, spare, left);
     if !r.ok {
-        return not_grown(left);
+        return not_grown(r.broken, left);
     }
     if !r.two {
         return Grown {
             ok: true,
+            broken: false,
             levels: level + 1,
             root,
             left: r.left,
@@ -172,7 +193,7 @@ fn heavy(
     inserts: buffer::SpotBuffer,
     deletes: buffer::KeyBuffer,
     bound: u64,
-) -> bool
+) -> Outcome
     requires { ⌜ HeavyAt (now t) (now w) root level (inserts .n) (deletes .n) bound ⌝ }
     ensures { λ r. ⌜ ChangedBy (now (t .entry)) (now (t .exit)) (now (w .entry)) (now (w .exit)) (held inserts) (named deletes) bound r ⌝ }
 {
@@ -182,32 +203,32 @@ fn heavy(
     let g = grow(t, w, &mut map, root, level, inserts, deletes, spare);
     if !g.ok {
         journal::undo(t, w, &map);
-        return false;
+        return refused(g.broken);
     }
     finish(t, w, spare, g.left, g.levels, g.root, bound);
-    true
+    Outcome::Done
 }
 
-// Carries out one insert or one delete; false, with the table as it was, where a block breaks a rule or no spare block is left.
+// Carries out one insert or one delete, or leaves the table as it was.
 pub fn change(
     t: &mut [u8],
     w: &mut [u8],
     inserts: buffer::SpotBuffer,
     deletes: buffer::KeyBuffer,
     bound: u64,
-) -> bool
+) -> Outcome
     requires { ⌜ Changeable (now t) (now w) bound (inserts .n) (deletes .n) ⌝ }
     ensures { λ r. ⌜ ChangedBy (now (t .entry)) (now (t .exit)) (now (w .entry)) (now (w .exit)) (held inserts) (named deletes) bound r ⌝ }
 {
     let root = block::root_of(t);
     let level = block::levels_of(t) - 1;
-    if !block::block_ok(t, root, level, block::Asked::Root) {
-        return false;
+    if !block::block_ok(t, root, level, block::Asked::Root(root)) {
+        return Outcome::Broken;
     }
     let n = node::load(t, root);
     if is_roomy(n) {
         light(t, root, level, n, inserts, deletes, bound);
-        return true;
+        return Outcome::Done;
     }
     heavy(t, w, root, level, inserts, deletes, bound)
 }

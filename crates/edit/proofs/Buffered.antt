@@ -76,6 +76,10 @@ module _ (r : ℕ) (l : List Spot) (n : ℕ) (h : n ≤ length l) (b : Held) whe
       → d ≡ insertAll r (drop (i - 1) (take n l)) b
   inserts-more i g k e f = f ∙ ap (insertOne r (getD l (i - 1) blank)) e ∙ ap (λ (ss : List Spot). insertAll r ss b) (sym (rest-more l n i blank h g k))
 
+  -- a batch of one
+  pub inserts-one : n ≡ 1 → insertOne r (getD l 0 blank) b ≡ insertAll r (take n l) b
+  inserts-one e = inserts-more 1 (omega arith) (omega arith) (inserts-none ∙ ap (λ (k : ℕ). insertAll r (drop k (take n l)) b) e) refl
+
 module _ (r : ℕ) (l : List ℕ) (n : ℕ) (h : n ≤ length l) (b : Held) where
   pub deletes-none : b ≡ deleteAll r (drop n (take n l)) b
   deletes-none = rw (slice-empty n l)

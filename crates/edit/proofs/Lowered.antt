@@ -1,54 +1,83 @@
--- The lowest of P put into I, turn by turn.
+-- The lowest of P gathered turn by turn, and brought into I.
 -- Assumes nothing.
 use mathlib.Core.Path.{_≡_, refl, sym, ap, subst, _∙_}
 use mathlib.Core.Logic.{⊎-elim}
 use mathlib.Core.Bool.{false}
-use mathlib.Core.List.{List}
+use mathlib.Core.List.{List, [], List·Memᴰ, List·Memᴰ·not-nil}
 use Prim.Native.Nat.{suc, _+_, _≤_, _<_}
 use native.Mathlib.Omega.{arith}
 use lib.ListN.{length}
-use Rattle.octets.specs.Lists.{has}
+use Rattle.octets.specs.Lists.{has, rising}
 use Rattle.octets.specs.Sets.{Apart}
+use Rattle.octets.proofs.Lists.{mem-same}
 use Rattle.octets.proofs.Sets.{has-not}
 use Rattle.spot.specs.declared.Spot.{Spot}
 use Rattle.spot.specs.Spots.{keys, put}
 use Rattle.spot.specs.Sorted.{only, but}
+use Rattle.spot.proofs.Canon.{length-put}
 use Rattle.spot.proofs.Buffers.{find-mem, only-mem, put-mem}
 use Rattle.spot.proofs.Sorted.{but-not, length-but}
 use Rattle.buffer.specs.declared.SpotBuffer.{SpotBuffer}
 use Rattle.buffer.specs.declared.KeyBuffer.{KeyBuffer}
-use Rattle.buffer.specs.Buffer.{held, named, Ordered, OrderedKeys, Lowest}
+use Rattle.buffer.specs.Buffer.{held, named, Ordered, Lowest, merged}
 use Rattle.buffer.proofs.Laws.{held-length}
+use Rattle.buffer.proofs.Merged.{merged-none, merged-length, merged-more}
 use Rattle.node.specs.declared.NodeValue.{NodeValue}
 use Rattle.update.specs.Held.{Held}
-use Rattle.edit.specs.Edits.{Spilled, SpillPost}
+use Rattle.edit.specs.Edits.{Tidy, Spilled, SpillPost}
 use Rattle.edit.proofs.Buffered.{buffers, same-held}
 
--- p and i are what P and I have become
-pub record Lowering (p₀ i₀ : SpotBuffer) (d : KeyBuffer) (p i : SpotBuffer) : Type 0 where
+-- p is what P has become, and g what has gathered
+pub record Lowering (p₀ i₀ : SpotBuffer) (d : KeyBuffer) (p g : SpotBuffer) : Type 0 where
   pub long : length (p .spots) ≡ 80
   pub points : Ordered p
-  pub inserts : Ordered i
-  pub apart : Apart (keys (held p)) (keys (held i))
-  pub total : p .n + i .n ≡ p₀ .n + i₀ .n
-  pub on : (c : Held) → Spilled (buffers (held p) (held i) (named d)) c → Spilled (buffers (held p₀) (held i₀) (named d)) c
-  pub full : 64 < p₀ .n → 64 ≤ p .n
-  pub kept : p₀ .n ≤ 64 → (p ≡ p₀) × (i ≡ i₀)
+  pub gathered : Ordered g
+  pub count : length (held g) ≡ g .n
+  pub apart : Apart (keys (held p)) (keys (held g))
+  pub clear : Apart (keys (held p)) (keys (held i₀))
+  pub off : Apart (keys (held g)) (keys (held i₀))
+  pub total : p .n + g .n ≡ p₀ .n
+  pub on : (c : Held) → Spilled (buffers (held p) (merged (held g) (held i₀)) (named d)) c → Spilled (buffers (held p₀) (held i₀) (named d)) c
+  pub full : 64 ≤ p .n
 
 -- before the first turn
-pub lowering-none : (p i : SpotBuffer) (d : KeyBuffer) → length (p .spots) ≡ 80 → Ordered p → Ordered i → Apart (keys (held p)) (keys (held i)) → Lowering p i d p i
-lowering-none p i d w a b o = record { long = w; points = a; inserts = b; apart = o; total = refl; on = λ c s. s; full = λ h. omega arith; kept = λ h. (refl, refl) }
+pub lowering-none : (p i g : SpotBuffer) (d : KeyBuffer) → length (p .spots) ≡ 80 → Ordered p → Apart (keys (held p)) (keys (held i)) → 64 < p .n → g .n ≡ 0 → held g ≡ []
+    → Lowering p i d p g
+lowering-none p i g d w a o h z e =
+    record {
+      long = w;
+      points = a;
+      gathered = record { fits = omega arith; up = ap (λ (l : List Spot). rising (keys l)) e };
+      count = ap length e ∙ sym z;
+      apart = λ k x y. List·Memᴰ·not-nil (mem-same (ap keys e) y);
+      clear = o;
+      off = λ k x y. List·Memᴰ·not-nil (mem-same (ap keys e) x);
+      total = omega arith;
+      on = λ c s. subst (λ (l : List Spot). Spilled (buffers (held p) l (named d)) c) (ap (λ (l : List Spot). merged l (held i)) e ∙ merged-none (held i)) s;
+      full = omega arith;
+    }
 
-module _ (p i : SpotBuffer) (q : Spot) (l : Lowest (held p) q) (o : Apart (keys (held p)) (keys (held i))) where
-  -- the lowest of P is not in I
-  pub lowest-new : has (q .key) (keys (held i)) ≡ false
-  lowest-new = has-not (q .key) (keys (held i)) (o (q .key) (find-mem (q .key) (held p) (l .there)))
+module _ (p : SpotBuffer) (l : List Spot) (q : Spot) (least : Lowest (held p) q) (o : Apart (keys (held p)) (keys l)) where
+  -- the lowest of P is in no list apart from P
+  lowest-out : List·Memᴰ (q .key) (keys l) → ⊥
+  lowest-out = o (q .key) (find-mem (q .key) (held p) (least .there))
 
-  -- P and I stay apart
-  still-apart : {ps is : List Spot} → ps ≡ only (but (q .key)) (held p) → is ≡ put q (held i) → Apart (keys ps) (keys is)
-  still-apart e f z a b =
-      let m = only-mem (but (q .key)) (held p) (rw e at a) in
-      ⊎-elim (λ (h : z ≡ q .key). but-not (q .key) z (m .1) h) (λ j. o z (m .0) j) (put-mem q (held i) (rw f at b))
+  pub lowest-new : has (q .key) (keys l) ≡ false
+  lowest-new = has-not (q .key) (keys l) lowest-out
+
+-- P without it stays apart from what P was apart from
+less-apart : (q : Spot) (ps is : List Spot) {rs : List Spot} → rs ≡ only (but (q .key)) ps → Apart (keys ps) (keys is) → Apart (keys rs) (keys is)
+less-apart q ps is e o z a = o z (only-mem (but (q .key)) ps (mem-same (ap keys e) a) .0)
+
+-- and from what has gathered with it
+still-apart : (q : Spot) (ps gs : List Spot) {rs hs : List Spot} → rs ≡ only (but (q .key)) ps → hs ≡ put q gs → Apart (keys ps) (keys gs) → Apart (keys rs) (keys hs)
+still-apart q ps gs e f o z a b =
+    let m = only-mem (but (q .key)) ps (mem-same (ap keys e) a) in
+    ⊎-elim (λ (h : z ≡ q .key). but-not (q .key) z (m .1) h) (λ j. o z (m .0) j) (put-mem q gs (mem-same (ap keys f) b))
+
+-- what has gathered with it stays apart from I
+more-off : (q : Spot) (gs is : List Spot) {hs : List Spot} → hs ≡ put q gs → (List·Memᴰ (q .key) (keys is) → ⊥) → Apart (keys gs) (keys is) → Apart (keys hs) (keys is)
+more-off q gs is f n o z a b = ⊎-elim (λ (h : z ≡ q .key). n (rw h at b)) (λ j. o z j b) (put-mem q gs (mem-same (ap keys f) a))
 
 -- P has one fewer
 pub one-fewer : (p p′ : SpotBuffer) (q : Spot) → Lowest (held p) q → held p′ ≡ only (but (q .key)) (held p) → length (p .spots) ≡ 80 → Ordered p → length (p′ .spots) ≡ 80
@@ -57,34 +86,46 @@ one-fewer p p′ q l e w o v u =
     ap suc (sym (held-length p′ v (u .fits)) ∙ ap length e) ∙ length-but 0 (q .key) (held p) (o .up) (find-mem (q .key) (held p) (l .there)) ∙ held-length p w (o .fits)
 
 -- after a turn
-pub lowering-more : {p₀ i₀ : SpotBuffer} {d : KeyBuffer} (p i p′ i′ : SpotBuffer) (q : Spot) → Lowering p₀ i₀ d p i → Lowest (held p) q → 64 < p .n
-    → held p′ ≡ only (but (q .key)) (held p) → length (p′ .spots) ≡ 80 → Ordered p′ → i′ .n ≡ i .n + 1 → held i′ ≡ put q (held i) → Ordered i′
-    → Lowering p₀ i₀ d p′ i′
-lowering-more p i p′ i′ q s l h e w a n f b =
+pub lowering-more : {p₀ i₀ : SpotBuffer} {d : KeyBuffer} (p g p′ g′ : SpotBuffer) (q : Spot) → Lowering p₀ i₀ d p g → Ordered i₀ → Lowest (held p) q → 64 < p .n
+    → held p′ ≡ only (but (q .key)) (held p) → length (p′ .spots) ≡ 80 → Ordered p′ → g′ .n ≡ g .n + 1 → held g′ ≡ put q (held g) → Ordered g′
+    → Lowering p₀ i₀ d p′ g′
+lowering-more {p₀} {i₀} {d} p g p′ g′ q s u l h e w a n f b =
     let c = one-fewer p p′ q l e (s .long) (s .points) w a in
+    let z = lowest-out p (held i₀) q l (s .clear) in
+    let one : put q (merged (held g) (held i₀)) ≡ merged (held g′) (held i₀)
+    = merged-more q (held g) (held i₀) (s .gathered .up) (u .up) (lowest-out p (held g) q l (s .apart)) z ∙ ap (λ (x : List Spot). merged x (held i₀)) (sym f) in
     record {
       long = w;
       points = a;
-      inserts = b;
-      apart = still-apart p i q l (s .apart) e f;
+      gathered = b;
+      count = ap length f ∙ length-put q (held g) ∙ omega (arith, s .count);
+      apart = still-apart q (held p) (held g) e f (s .apart);
+      clear = less-apart q (held p) (held i₀) e (s .clear);
+      off = more-off q (held g) (held i₀) f z (s .off);
       total = omega (arith, s .total);
-      on = λ z t. s .on z (Spilled.more q l (subst (λ (y : Held). Spilled y z) (same-held e f refl) t));
-      full = λ k. omega arith;
-      kept = λ k. absurd (let g = ap (λ (y : SpotBuffer). y .n) (s .kept k .0) in omega arith);
+      on = λ y t. s .on y (Spilled.more q l (subst (λ (x : Held). Spilled x y) (same-held e (sym one) refl) t));
+      full = omega arith;
     }
 
--- after the last
-pub lowering-all : (n : NodeValue) (p i : SpotBuffer) → Lowering (n .points) (n .inserts) (n .deletes) p i → p .n ≤ 64 → OrderedKeys (n .deletes)
+-- after the last, with what has gathered brought into I
+pub lowering-all : (n : NodeValue) (p g i : SpotBuffer) → Lowering (n .points) (n .inserts) (n .deletes) p g → p .n ≤ 64 → 64 < n .points .n → Tidy n
+    → length (n .inserts .spots) ≡ 80 → length (i .spots) ≡ 80 → held i ≡ merged (held g) (held (n .inserts)) → Ordered i
     → SpillPost n (record { level = n .level; entries = n .entries; points = p; inserts = i; deletes = n .deletes })
-lowering-all n p i s h o =
+lowering-all n p g i s h k t v w e o =
+    let size : i .n ≡ length (held g) + length (held (n .inserts)) = sym (held-length i w (o .fits)) ∙ ap length e ∙ merged-length (held g) (held (n .inserts)) (s .off) in
     record {
-      spilled = s .on _ Spilled.none;
-      tidy = record { points = s .points; inserts = s .inserts; deletes = o };
+      spilled = s .on _ (subst (λ (l : List Spot). Spilled (buffers (held p) l (named (n .deletes))) (buffers (held p) (held i) (named (n .deletes)))) e Spilled.none);
+      tidy = record { points = s .points; inserts = o; deletes = t .deletes };
       entries = refl;
       level = refl;
       few = h;
-      full = λ k. omega (arith, s .full k);
-      kept = λ k. λ z. record { level = n .level; entries = n .entries; points = s .kept k .0 z; inserts = s .kept k .1 z; deletes = n .deletes };
-      total = s .total;
+      full = λ z. omega (arith, s .full);
+      kept = λ z. absurd (omega arith);
+      total = omega (arith, s .total, s .count, held-length (n .inserts) v (t .inserts .fits));
       deletes = refl;
     }
+
+-- nothing to spill
+pub spilled-none : (n : NodeValue) → Tidy n → n .points .n ≤ 64 → SpillPost n n
+spilled-none n t h =
+    record { spilled = Spilled.none; tidy = t; entries = refl; level = refl; few = h; full = λ k. absurd (omega arith); kept = λ k. refl; total = refl; deletes = refl }

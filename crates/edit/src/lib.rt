@@ -9,7 +9,7 @@ ghost use Rattle.octets.specs.Lists.{has, keep};
 ghost use Rattle.octets.specs.Sets.{Apart};
 ghost use Rattle.spot.specs.Spots.{keys, put};
 ghost use Rattle.spot.specs.Sorted.{only, but, lower};
-ghost use Rattle.buffer.specs.Buffer.{held, named};
+ghost use Rattle.buffer.specs.Buffer.{held, named, Ordered, merged};
 ghost use Rattle.node.specs.Memory.{entriesOf};
 ghost use Rattle.update.specs.Held.{insertOne, deleteOne, insertAll, deleteAll};
 ghost use Rattle.edit.specs.Edits.{heldIn, Tidy, Edited, SpillPost, Threshold, Half, EntryFor, BestChild};
@@ -74,19 +74,68 @@ pub fn delete_one(n: node::NodeValue, k: u64, r: u64) -> node::NodeValue
     }
 }
 
-// A batch of inserts, the last first.
-pub fn insert_all(n: node::NodeValue, batch: buffer::SpotBuffer, r: u64) -> node::NodeValue
+// The spots that gathered for a buffer, brought in by one merge.
+fn bring_in(gathered: buffer::SpotBuffer, b: buffer::SpotBuffer) -> buffer::SpotBuffer
+    requires { ⌜ Ordered gathered × Ordered b × (gathered .n + b .n ≤ 80) ⌝ }
+    ensures { λ x. ⌜ (x .n ≤ gathered .n + b .n) × (held x ≡ merged (held gathered) (held b)) × Ordered x ⌝ }
+{
+    let n = gathered.n;
+    if n == 0 {
+        return b;
+    }
+    buffer::merge(gathered, b)
+}
+
+// A batch of inserts, cut at r: what is at least r in rank order gathers for P, the others for I, and one merge brings each part in.
+fn insert_parts(n: node::NodeValue, batch: buffer::SpotBuffer, r: u64) -> node::NodeValue
     requires { ⌜ Tidy n × (batch .n ≤ 80) × (n .points .n + batch .n ≤ 80) × (n .inserts .n + batch .n ≤ 80) ⌝ }
     ensures { λ x. ⌜ Edited n x (insertAll r (held batch) (heldIn n)) (n .points .n + batch .n) (n .inserts .n + batch .n) (n .deletes .n) ⌝ }
 {
-    let mut next = n;
+    let level = n.level;
+    let entries = n.entries;
+    let mut points = n.points;
+    let mut inserts = n.inserts;
+    let mut deletes = n.deletes;
+    let mut high = buffer::empty();
+    let mut low = buffer::empty();
     let mut i = batch.n;
     while 0 < i {
         i -= 1;
         let s = batch.spots[i];
-        next = insert_one(next, s, r);
+        let k = s.key;
+        deletes = buffer::without_key(deletes, k);
+        if r <= spot::rank_key(k) {
+            inserts = buffer::without(inserts, k);
+            let others = buffer::without(high, k);
+            high = buffer::put(others, s);
+        } else {
+            points = buffer::without(points, k);
+            let others = buffer::without(low, k);
+            low = buffer::put(others, s);
+        }
     }
-    next
+    let points = bring_in(high, points);
+    let inserts = bring_in(low, inserts);
+    node::NodeValue {
+        level,
+        entries,
+        points,
+        inserts,
+        deletes,
+    }
+}
+
+// A batch of inserts, the last first. A single spot needs no merge.
+pub fn insert_all(n: node::NodeValue, batch: buffer::SpotBuffer, r: u64) -> node::NodeValue
+    requires { ⌜ Tidy n × (batch .n ≤ 80) × (n .points .n + batch .n ≤ 80) × (n .inserts .n + batch .n ≤ 80) ⌝ }
+    ensures { λ x. ⌜ Edited n x (insertAll r (held batch) (heldIn n)) (n .points .n + batch .n) (n .inserts .n + batch .n) (n .deletes .n) ⌝ }
+{
+    let size = batch.n;
+    if size == 1 {
+        let s = batch.spots[0];
+        return insert_one(n, s, r);
+    }
+    insert_parts(n, batch, r)
 }
 
 // A batch of deletes.
@@ -104,21 +153,26 @@ pub fn delete_all(n: node::NodeValue, batch: buffer::KeyBuffer, r: u64) -> node:
     next
 }
 
-// While P is over 64, its lowest in rank order goes to I.
+// While P is over 64, its lowest in rank order goes to I: these gather, and one merge brings them there.
 pub fn spill(n: node::NodeValue) -> node::NodeValue
     requires { ⌜ Tidy n × (n .points .n + n .inserts .n ≤ 144) × Apart (keys (held (n .points))) (keys (held (n .inserts))) ⌝ }
     ensures { λ x. ⌜ SpillPost n x ⌝ }
 {
+    let size = n.points.n;
+    if size <= 64 {
+        return n;
+    }
     let level = n.level;
     let entries = n.entries;
     let deletes = n.deletes;
     let mut points = n.points;
-    let mut inserts = n.inserts;
+    let mut gathered = buffer::empty();
     while 64 < points.n {
         let low = buffer::lowest(points);
         points = buffer::without(points, low.key);
-        inserts = buffer::put(inserts, low);
+        gathered = buffer::put(gathered, low);
     }
+    let inserts = buffer::merge(gathered, n.inserts);
     node::NodeValue {
         level,
         entries,

@@ -109,85 +109,109 @@ raised s k b = record { points = put s (b .points); inserts = b .inserts; delete
 abbrev dropped : ℕ → Held → Held
 dropped k b = record { points = b .points; inserts = b .inserts; deletes = keep (lower k) (b .deletes) }
 
--- a child's top was taken
-module _ (y z : Store) (l : ℕ) (n m : NodeValue) (c : ℕ) (e : Entry) (took : Took) (r : Turned) (less : n .points .n < 32)
-    (at-c : EntryAt (entriesOf (n .entries)) c e) (best : BestChild (entriesOf (n .entries)) c) (block : took .entry .block ≡ e .block) (low : took .entry .low ≡ e .low)
-    (done : (lo hi : ℕ) → lo ≤ hi → hi ≤ allKeys → e .low ≤ lo → Sound (suc l) y (part (e .block) (Child e) lo hi ∷ []) → TookOut y z l e lo hi took)
-    (put-in : Replaced n c (took .entry) m) (same : r .node .entries ≡ m .entries) where
+-- a child whose top may be taken
+pub record ChildReady (l : ℕ) (y : Store) (e : Entry) (lo hi : ℕ) : Type 0 where
+  pub order : lo ≤ hi
+  pub full : hi ≤ allKeys
+  pub low : e .low ≤ lo
+  pub sound : Sound (suc l) y (part (e .block) (Child e) lo hi ∷ [])
+
+-- the child with the highest top
+module _ (y : Store) (l : ℕ) (n : NodeValue) (c : ℕ) (e : Entry) (at-c : EntryAt (entriesOf (n .entries)) c e) (best : BestChild (entriesOf (n .entries)) c) where
   abbrev us : List Entry
   us = take c (entriesOf (n .entries))
 
   abbrev vs : List Entry
   vs = drop (suc c) (entriesOf (n .entries))
 
-  entries-as : entriesOf (r .node .entries) ≡ take c (entriesOf (n .entries)) ++ ((took .entry ∷ []) ++ drop (suc c) (entriesOf (n .entries)))
-  entries-as = ap entriesOf same ∙ put-in .entries
+  pts : e .size ≡ 0 → ⊥
+  pts = best-at (entriesOf (n .entries)) c e at-c best .0
 
-  held-as : heldIn m ≡ heldIn n
-  held-as = λ i. record { points = held (put-in .points i); inserts = held (put-in .inserts i); deletes = named (put-in .deletes i) }
+  most : (d : Entry) → List·Memᴰ d (take c (entriesOf (n .entries)) ++ (e ∷ drop (suc c) (entriesOf (n .entries)))) → (d .size ≡ 0 → ⊥) → rankKey (d .top) ≤ rankKey (e .top)
+  most d i = best-at (entriesOf (n .entries)) c e at-c best .1 d (subst⁻¹ (λ (q : List Entry). List·Memᴰ d q) (at-c .split) i)
 
-  -- what all kinds use, where the loop stands
+  -- where the loop stands
   module _ (ni nd lo hi rank : ℕ) (x : Store) (es₀ : List Entry) (f : ℕ → Option ℕ) (full : hi ≤ allKeys) (zero₀ : zeroFirst (lows es₀) ≡ true)
       (p : Loop ni nd (suc l) lo hi x es₀ y rank (entriesOf (n .entries)) (heldIn n) f) where
-    p′ : Loop ni nd (suc l) lo hi x es₀ y rank (take c (entriesOf (n .entries)) ++ (e ∷ drop (suc c) (entriesOf (n .entries)))) (heldIn n) f
-    p′ = subst (λ (q : List Entry). Loop ni nd (suc l) lo hi x es₀ y rank q (heldIn n) f) (at-c .split) p
+    split-at : Loop ni nd (suc l) lo hi x es₀ y rank (take c (entriesOf (n .entries)) ++ (e ∷ drop (suc c) (entriesOf (n .entries)))) (heldIn n) f
+    split-at = subst (λ (q : List Entry). Loop ni nd (suc l) lo hi x es₀ y rank q (heldIn n) f) (at-c .split) p
 
-    pts : e .size ≡ 0 → ⊥
-    pts = best-at (entriesOf (n .entries)) c e at-c best .0
+    pub child-ready : ChildReady l y e (childAt lo hi us vs e .lo) (childAt lo hi us vs e .hi)
+    child-ready =
+        let b = child-bounds ni nd (suc l) lo hi full x es₀ f zero₀ y rank us vs e (heldIn n) split-at pts most in
+        record {
+          order = b .2;
+          full = let v = b .1 in omega arith;
+          low = child-low ni nd (suc l) lo hi full x es₀ f zero₀ y rank us vs e (heldIn n) split-at pts most;
+          sound = child-sound ni nd (suc l) lo hi full x es₀ f zero₀ y rank us vs e (heldIn n) split-at pts most;
+        }
 
-    most : (d : Entry) → List·Memᴰ d (take c (entriesOf (n .entries)) ++ (e ∷ drop (suc c) (entriesOf (n .entries)))) → (d .size ≡ 0 → ⊥) → rankKey (d .top) ≤ rankKey (e .top)
-    most d i = best-at (entriesOf (n .entries)) c e at-c best .1 d (subst⁻¹ (λ (q : List Entry). List·Memᴰ d q) (at-c .split) i)
+  -- its top was taken
+  module _ (z : Store) (m : NodeValue) (took : Took) (r : Turned) (less : n .points .n < 32) (block : took .entry .block ≡ e .block) (low : took .entry .low ≡ e .low)
+      (done : (lo hi : ℕ) → lo ≤ hi → hi ≤ allKeys → e .low ≤ lo → Sound (suc l) y (part (e .block) (Child e) lo hi ∷ []) → TookOut y z l e lo hi took)
+      (put-in : Replaced n c (took .entry) m) (same : r .node .entries ≡ m .entries) where
+    entries-as : entriesOf (r .node .entries) ≡ take c (entriesOf (n .entries)) ++ ((took .entry ∷ []) ++ drop (suc c) (entriesOf (n .entries)))
+    entries-as = ap entriesOf same ∙ put-in .entries
 
-    abbrev child : Part
-    child = childAt lo hi (take c (entriesOf (n .entries))) (drop (suc c) (entriesOf (n .entries))) e
+    held-as : heldIn m ≡ heldIn n
+    held-as = λ i. record { points = held (put-in .points i); inserts = held (put-in .inserts i); deletes = named (put-in .deletes i) }
 
-    out : TookOut y z l e (child .lo) (child .hi) took
-    out =
-        let b = child-bounds ni nd (suc l) lo hi full x es₀ f zero₀ y rank us vs e (heldIn n) p′ pts most in
-        done (child .lo) (child .hi) (b .2) (let v = b .1 in omega arith) (child-low ni nd (suc l) lo hi full x es₀ f zero₀ y rank us vs e (heldIn n) p′ pts most) (child-sound ni nd (suc l) lo hi full x es₀ f zero₀ y rank us vs e (heldIn n) p′ pts most)
+    -- what all kinds use, where the loop stands
+    module _ (ni nd lo hi rank : ℕ) (x : Store) (es₀ : List Entry) (f : ℕ → Option ℕ) (full : hi ≤ allKeys) (zero₀ : zeroFirst (lows es₀) ≡ true)
+        (p : Loop ni nd (suc l) lo hi x es₀ y rank (entriesOf (n .entries)) (heldIn n) f) where
+      p′ : Loop ni nd (suc l) lo hi x es₀ y rank (take c (entriesOf (n .entries)) ++ (e ∷ drop (suc c) (entriesOf (n .entries)))) (heldIn n) f
+      p′ = split-at ni nd lo hi rank x es₀ f full zero₀ p
 
-    changed : Changed (suc l) (Taken [] []) y (child ∷ []) z (part (took .entry .block) (Child (took .entry)) (child .lo) (child .hi) ∷ []) (λ k. cond (eqb k (e .top)) none (lookup (suc l) y k child))
-    changed = subst⁻¹ (λ (b : ℕ). Changed (suc l) (Taken [] []) y (child ∷ []) z (part b (Child (took .entry)) (child .lo) (child .hi) ∷ []) (λ k. cond (eqb k (e .top)) none (lookup (suc l) y k child))) block (out .changed)
+      abbrev child : Part
+      child = childAt lo hi (take c (entriesOf (n .entries))) (drop (suc c) (entriesOf (n .entries))) e
 
-    room : length (held (n .points)) < 32
-    room = let q = length-take (n .points .n) (n .points .spots) in omega arith
+      out : TookOut y z l e (child .lo) (child .hi) took
+      out =
+          let b = child-ready ni nd lo hi rank x es₀ f full zero₀ p in
+          done (child .lo) (child .hi) (b .order) (b .full) (b .low) (b .sound)
 
-    child-on : ChildUp m (took .spot) r → ((k : ℕ) → List·Memᴰ k (keys (held (n .inserts))) → rankKey k < rankKey (e .top)) → r .ok ≡ true
-        → (after : ℕ) × Loop ni nd (suc l) lo hi x es₀ z after (entriesOf (r .node .entries)) (heldIn (r .node)) f
-    child-on u above ok = go (has (e .top) (named (n .deletes))) refl
-      where
-        names : {q : Bool} → has (e .top) (named (n .deletes)) ≡ q → has (took .spot .key) (named (m .deletes)) ≡ q
-        names h = ap (λ (k : ℕ). has k (named (m .deletes))) (out .key) ∙ ap (λ (b : Held). has (e .top) (b .deletes)) held-as ∙ h
+      changed : Changed (suc l) (Taken [] []) y (child ∷ []) z (part (took .entry .block) (Child (took .entry)) (child .lo) (child .hi) ∷ []) (λ k. cond (eqb k (e .top)) none (lookup (suc l) y k child))
+      changed = subst⁻¹ (λ (b : ℕ). Changed (suc l) (Taken [] []) y (child ∷ []) z (part b (Child (took .entry)) (child .lo) (child .hi) ∷ []) (λ k. cond (eqb k (e .top)) none (lookup (suc l) y k child))) block (out .changed)
 
-        go : (q : Bool) → has (e .top) (named (n .deletes)) ≡ q → (after : ℕ) × Loop ni nd (suc l) lo hi x es₀ z after (entriesOf (r .node .entries)) (heldIn (r .node)) f
-        go true h = (
-          rankKey (e .top),
-          loop-as entries-as (u .dropped ok (names h) ∙ ap (λ (k : ℕ). dropped k (heldIn m)) (out .key) ∙ ap (dropped (e .top)) held-as)
-              (round-dead ni nd (suc l) lo hi full x es₀ f zero₀ y rank us vs e (heldIn n) p′ pts most z (took .entry) low block changed above h),
-        )
-        go false h = (
-          rankKey (e .top),
-          loop-as entries-as (u .raised ok (names h) ∙ ap (λ (k : ℕ). raised (took .spot) k (heldIn m)) (out .key) ∙ ap (raised (took .spot) (e .top)) held-as)
-              (round-child ni nd (suc l) lo hi full x es₀ f zero₀ y rank us vs e (heldIn n) p′ pts most z (took .entry) low block changed room (took .spot) (out .key) (out .live) above h),
-        )
+      room : length (held (n .points)) < 32
+      room = let q = length-take (n .points .n) (n .points .spots) in omega arith
 
-    both-on : (s : Spot) → InsertUp m s r → Highest (held (n .inserts)) s → s .key ≡ e .top → r .ok ≡ true
-        → (after : ℕ) × Loop ni nd (suc l) lo hi x es₀ z after (entriesOf (r .node .entries)) (heldIn (r .node)) f
-    both-on s u high at-t ok = (
-      rankKey (e .top),
-      loop-as entries-as (u .raised ok ∙ ap (λ (k : ℕ). inserted s k (heldIn m)) at-t ∙ ap (inserted s (e .top)) held-as)
-          (round-both ni nd (suc l) lo hi full x es₀ f zero₀ y rank us vs e (heldIn n) p′ pts most z (took .entry) low block changed room s at-t
-          (ap (λ (k : ℕ). find k (held (n .inserts))) (sym at-t) ∙ high .there) (λ k i. let q : rankKey (s .key) ≡ rankKey (e .top) = ap rankKey at-t in let v = high .most k i in omega arith)),
-    )
+      child-on : ChildUp m (took .spot) r → ((k : ℕ) → List·Memᴰ k (keys (held (n .inserts))) → rankKey k < rankKey (e .top)) → r .ok ≡ true
+          → (after : ℕ) × Loop ni nd (suc l) lo hi x es₀ z after (entriesOf (r .node .entries)) (heldIn (r .node)) f
+      child-on u above ok = go (has (e .top) (named (n .deletes))) refl
+        where
+          names : {q : Bool} → has (e .top) (named (n .deletes)) ≡ q → has (took .spot .key) (named (m .deletes)) ≡ q
+          names h = ap (λ (k : ℕ). has k (named (m .deletes))) (out .key) ∙ ap (λ (b : Held). has (e .top) (b .deletes)) held-as ∙ h
 
-  -- from the child
-  pub on-child : ChildUp m (took .spot) r → ((k : ℕ) → List·Memᴰ k (keys (held (n .inserts))) → rankKey k < rankKey (e .top)) → r .ok ≡ true → GoesOn y z (suc l) n (r .node) (r .over)
-  on-child u above ok ni nd lo hi rank x es₀ f full zero₀ p =
-      let q = child-on ni nd lo hi rank x es₀ f full zero₀ p u above ok in
-      (q .0, q .1, λ o. absurd (true≢false (sym o ∙ u .lifted .over)))
+          go : (q : Bool) → has (e .top) (named (n .deletes)) ≡ q → (after : ℕ) × Loop ni nd (suc l) lo hi x es₀ z after (entriesOf (r .node .entries)) (heldIn (r .node)) f
+          go true h = (
+            rankKey (e .top),
+            loop-as entries-as (u .dropped ok (names h) ∙ ap (λ (k : ℕ). dropped k (heldIn m)) (out .key) ∙ ap (dropped (e .top)) held-as)
+                (round-dead ni nd (suc l) lo hi full x es₀ f zero₀ y rank us vs e (heldIn n) p′ pts most z (took .entry) low block changed above h),
+          )
+          go false h = (
+            rankKey (e .top),
+            loop-as entries-as (u .raised ok (names h) ∙ ap (λ (k : ℕ). raised (took .spot) k (heldIn m)) (out .key) ∙ ap (raised (took .spot) (e .top)) held-as)
+                (round-child ni nd (suc l) lo hi full x es₀ f zero₀ y rank us vs e (heldIn n) p′ pts most z (took .entry) low block changed room (took .spot) (out .key) (out .live) above h),
+          )
 
-  -- from I, and the child's goes
-  pub on-both : (s : Spot) → InsertUp m s r → Highest (held (n .inserts)) s → s .key ≡ e .top → r .ok ≡ true → GoesOn y z (suc l) n (r .node) (r .over)
-  on-both s u high at-t ok ni nd lo hi rank x es₀ f full zero₀ p =
-      let q = both-on ni nd lo hi rank x es₀ f full zero₀ p s u high at-t ok in
-      (q .0, q .1, λ o. absurd (true≢false (sym o ∙ u .lifted .over)))
+      both-on : (s : Spot) → InsertUp m s r → Highest (held (n .inserts)) s → s .key ≡ e .top → r .ok ≡ true
+          → (after : ℕ) × Loop ni nd (suc l) lo hi x es₀ z after (entriesOf (r .node .entries)) (heldIn (r .node)) f
+      both-on s u high at-t ok = (
+        rankKey (e .top),
+        loop-as entries-as (u .raised ok ∙ ap (λ (k : ℕ). inserted s k (heldIn m)) at-t ∙ ap (inserted s (e .top)) held-as)
+            (round-both ni nd (suc l) lo hi full x es₀ f zero₀ y rank us vs e (heldIn n) p′ pts most z (took .entry) low block changed room s at-t
+            (ap (λ (k : ℕ). find k (held (n .inserts))) (sym at-t) ∙ high .there) (λ k i. let q : rankKey (s .key) ≡ rankKey (e .top) = ap rankKey at-t in let v = high .most k i in omega arith)),
+      )
+
+    -- from the child
+    pub on-child : ChildUp m (took .spot) r → ((k : ℕ) → List·Memᴰ k (keys (held (n .inserts))) → rankKey k < rankKey (e .top)) → r .ok ≡ true → GoesOn y z (suc l) n (r .node) (r .over)
+    on-child u above ok ni nd lo hi rank x es₀ f full zero₀ p =
+        let q = child-on ni nd lo hi rank x es₀ f full zero₀ p u above ok in
+        (q .0, q .1, λ o. absurd (true≢false (sym o ∙ u .lifted .over)))
+
+    -- from I, and the child's goes
+    pub on-both : (s : Spot) → InsertUp m s r → Highest (held (n .inserts)) s → s .key ≡ e .top → r .ok ≡ true → GoesOn y z (suc l) n (r .node) (r .over)
+    on-both s u high at-t ok ni nd lo hi rank x es₀ f full zero₀ p =
+        let q = both-on ni nd lo hi rank x es₀ f full zero₀ p s u high at-t ok in
+        (q .0, q .1, λ o. absurd (true≢false (sym o ∙ u .lifted .over)))

@@ -1,7 +1,7 @@
 -- What a round of each kind needs and promises, from what its calls give.
 -- Assumes nothing.
 use mathlib.Core.Path.{_≡_, sym, ap, _∙_, subst⁻¹}
-use mathlib.Core.Bool.{true}
+use mathlib.Core.Bool.{true, false}
 use mathlib.Core.List.{List, [], List·Memᴰ, List·Memᴰ·not-nil}
 use Prim.Native.Nat.{ℕ, suc, _-_, _≤_, _<_}
 use native.Mathlib.Omega.{arith}
@@ -20,9 +20,9 @@ use Rattle.edit.specs.Edits.{Tidy, Edited, BestChild}
 use Rattle.journal.specs.Journal.{Kept}
 use Rattle.fill.specs.declared.Took.{Took}
 use Rattle.fill.specs.declared.Turned.{Turned}
-use Rattle.fill.specs.Filling.{Workable, RoundPost, GoesOn, TakePost, Replaced, InsertUp, ChildUp, ChildHighest, BothHighest}
-use Rattle.fill.proofs.Works.{round-ended, round-lifted, round-taken}
-use Rattle.fill.proofs.Onward.{same-at, best-at, on-insert, on-end, on-child, on-both}
+use Rattle.fill.specs.Filling.{Workable, RoundPost, OnLoop, GoesOn, TakePost, Replaced, InsertUp, ChildUp, ChildHighest, BothHighest}
+use Rattle.fill.proofs.Works.{round-failed, round-ended, round-lifted, round-taken}
+use Rattle.fill.proofs.Onward.{same-at, best-at, child-ready, on-insert, on-end, on-child, on-both}
 
 -- ---- what the calls are handed
 
@@ -66,7 +66,7 @@ replaced-ready {n} {m} t h p = (
 -- the last round
 pub post-end : {t s map : List ℕ} {level : ℕ} {n r : NodeValue} (c : ℕ) → Workable t s map n level → n .points .n < 32
     → Edited n r (record { points = held (n .points); inserts = held (n .inserts); deletes = [] }) (n .points .n) (n .inserts .n) 0
-    → n .inserts .n ≡ 0 → BestChild (entriesOf (n .entries)) c → n .entries .n ≤ c → RoundPost t t s map level n (record { ok = true; over = true; node = r })
+    → n .inserts .n ≡ 0 → BestChild (entriesOf (n .entries)) c → n .entries .n ≤ c → RoundPost t t s map level n (record { ok = true; broken = false; over = true; node = r })
 post-end {t} {level = level} {n = n} {r = r} c w h d z b g =
     round-ended w h d (on-end (storeOf t) level n r true h d z (λ e i. b .none (let v = length-take (n .entries .n) (n .entries .list) in omega arith) e i))
 
@@ -87,22 +87,35 @@ tops-lower n c e k b a g h l x d i m =
     let v = rank-strict (e .top) k g h (λ q. x (sym q)) l in
     omega arith
 
--- a child's top was taken
+deeper : (level : ℕ) → (level ≡ 0 → ⊥) → level ≡ suc (level - 1)
+deeper level inner = omega (arith, inner)
+
+-- a child's top could not be taken
+pub post-failed : {t s map t′ s′ map′ : List ℕ} {level : ℕ} {n : NodeValue} {c : ℕ} {e : Entry} {took : Took} {r : Turned} → Workable t s map n level → (level ≡ 0 → ⊥)
+    → Kept t s map t′ s′ map′ → EntryAt (entriesOf (n .entries)) c e → BestChild (entriesOf (n .entries)) c → TakePost t t′ s′ map′ (level - 1) e took → r .ok ≡ false → r .node ≡ n
+    → r .broken ≡ took .broken → RoundPost t t′ s′ map′ level n r
+post-failed {t} {level = level} {n = n} {c = c} {e = e} {took = took} {r = r} w inner k a b p h same said =
+    round-failed w k h same (
+    subst⁻¹ (λ (v : ℕ). OnLoop (storeOf t) v n (λ ni nd lo hi x es₀ f. r .broken ≡ false)) (deeper level inner) (
+    λ ni nd lo hi rank x es₀ f full zero₀ q.
+    let s = child-ready (storeOf t) (level - 1) n c e a b ni nd lo hi rank x es₀ f full zero₀ q in
+    said ∙ p .whole _ _ (s .order) (s .full) (s .low) (s .sound)
+    )
+    )
+
+-- it was taken
 module _ {t s map t′ s′ map′ : List ℕ} {level : ℕ} {n m : NodeValue} {c : ℕ} {e : Entry} {took : Took} (w : Workable t s map n level) (less : n .points .n < 32) (inner : level ≡ 0 → ⊥)
     (k : Kept t s map t′ s′ map′) (a : EntryAt (entriesOf (n .entries)) c e) (p : TakePost t t′ s′ map′ (level - 1) e took) (done : took .ok ≡ true) (q : Replaced n c (took .entry) m) where
-  deeper : level ≡ suc (level - 1)
-  deeper = omega (arith, inner)
-
   pub post-child : {r : Turned} → ChildHighest n c → ChildUp m (took .spot) r → RoundPost t t′ s′ map′ level n r
   post-child {r} h u =
       round-taken w less k a (p .block) (p .low) (p .fits) q (u .lifted)
       (λ ok.
-      subst⁻¹ (λ (v : ℕ). GoesOn (storeOf t) (storeOf t′) v n (r .node) (r .over)) deeper
-      (on-child (storeOf t) (storeOf t′) (level - 1) n m c e took r less a (h .best) (p .block) (p .low) (p .done done) q (u .lifted .entries) u (h .above e a) ok))
+      subst⁻¹ (λ (v : ℕ). GoesOn (storeOf t) (storeOf t′) v n (r .node) (r .over)) (deeper level inner)
+      (on-child (storeOf t) (level - 1) n c e a (h .best) (storeOf t′) m took r less (p .block) (p .low) (p .done done) q (u .lifted .entries) u (h .above e a) ok))
 
   pub post-both : {r : Turned} (x : Spot) → BothHighest n c x → InsertUp m x r → RoundPost t t′ s′ map′ level n r
   post-both {r} x h u =
       round-taken w less k a (p .block) (p .low) (p .fits) q (u .lifted)
       (λ ok.
-      subst⁻¹ (λ (v : ℕ). GoesOn (storeOf t) (storeOf t′) v n (r .node) (r .over)) deeper
-      (on-both (storeOf t) (storeOf t′) (level - 1) n m c e took r less a (h .best) (p .block) (p .low) (p .done done) q (u .lifted .entries) x u (h .highest) (h .same e a) ok))
+      subst⁻¹ (λ (v : ℕ). GoesOn (storeOf t) (storeOf t′) v n (r .node) (r .over)) (deeper level inner)
+      (on-both (storeOf t) (level - 1) n c e a (h .best) (storeOf t′) m took r less (p .block) (p .low) (p .done done) q (u .lifted .entries) x u (h .highest) (h .same e a) ok))

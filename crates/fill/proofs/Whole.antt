@@ -1,7 +1,7 @@
 -- The loop of fill from its start to its end, and take_top's post-condition from what its calls give.
 -- Assumes nothing.
 use mathlib.Core.Path.{_≡_, refl, sym, ap, _∙_, subst, subst⁻¹}
-use mathlib.Core.Bool.{Bool, true, false, cond, false≢true}
+use mathlib.Core.Bool.{Bool, true, false, cond, true≢false, false≢true}
 use mathlib.Core.List.{List, [], _∷_, List·Memᴰ, List·Memᴰ·not-nil}
 use mathlib.Core.Option.{Option, none, some}
 use Prim.Native.Nat.{ℕ, suc, _≤_, _<_}
@@ -28,17 +28,19 @@ use Rattle.update.specs.Spare.{Taken}
 use Rattle.update.specs.Open.{Open}
 use Rattle.update.specs.Rounds.{Loop, Full}
 use Rattle.update.proofs.Going.{going-start}
+use Rattle.update.proofs.Loose.{opened}
 use Rattle.update.proofs.Taken.{after, take-finish, take-open, top-is, top-found}
-use Rattle.node.specs.Memory.{entriesOf, nodeIn, Storable, Stored, Loaded}
+use Rattle.node.specs.Memory.{entriesOf, nodeIn, EntryFits, Storable, Stored, Loaded}
 use Rattle.node.specs.declared.Entries.{Entries}
 use Rattle.node.specs.declared.NodeValue.{NodeValue}
 use Rattle.node.proofs.Laws.{stored-else}
 use Rattle.edit.specs.Edits.{heldIn, Edited, EntryFor}
 use Rattle.journal.specs.Journal.{Undoable, Kept}
 use Rattle.journal.proofs.Kept.{undoable-kept, kept-refl, kept-trans}
+use Rattle.fill.specs.declared.Took.{Took}
 use Rattle.fill.specs.declared.Filled.{Filled}
 use Rattle.fill.specs.declared.Turned.{Turned}
-use Rattle.fill.specs.Filling.{Workable, FillPost, FilledBy, RoundPost, TakePost}
+use Rattle.fill.specs.Filling.{Workable, OnNode, FillPost, FilledBy, RoundPost, OnChild, TakePost}
 
 -- ---- fill
 
@@ -50,9 +52,8 @@ pub record Filling (t₀ s₀ map₀ : List ℕ) (depth : ℕ) (n₀ : NodeValue
   pub fewD : n .deletes .n ≤ n₀ .deletes .n
   pub count : n .entries .n ≡ n₀ .entries .n
   pub sameLows : lows (entriesOf (n .entries)) ≡ lows (entriesOf (n₀ .entries))
-  pub goes : (lo hi rank : ℕ) (f : ℕ → Option ℕ) → hi ≤ allKeys → zeroFirst (lows (entriesOf (n₀ .entries))) ≡ true
-      → Open depth (storeOf t₀) lo hi rank (entriesOf (n₀ .entries)) (heldIn n₀) f
-      → (r : ℕ) × Loop (n₀ .inserts .n) (n₀ .deletes .n) depth lo hi (storeOf t₀) (entriesOf (n₀ .entries)) (storeOf t) r (entriesOf (n .entries)) (heldIn n) f
+  pub goes : OnNode t₀ depth n₀ (λ lo hi f.
+      (r : ℕ) × Loop (n₀ .inserts .n) (n₀ .deletes .n) depth lo hi (storeOf t₀) (entriesOf (n₀ .entries)) (storeOf t) r (entriesOf (n .entries)) (heldIn n) f)
 
 pub fill-start : {t s map : List ℕ} {level : ℕ} {n : NodeValue} → Workable t s map n level → Filling t s map level n t s map n
 fill-start {t} {s} {map} {level} {n} w =
@@ -78,7 +79,7 @@ fill-start {t} {s} {map} {level} {n} w =
 
 module _ {t₀ s₀ map₀ : List ℕ} {level : ℕ} {n₀ : NodeValue} {t s map : List ℕ} {n : NodeValue} (p : Filling t₀ s₀ map₀ level n₀ t s map n) where
   -- the post-condition, whatever ends the loop
-  pub fill-ends : (ok : Bool) → (ok ≡ true → Full (entriesOf (n .entries)) (heldIn n)) → FillPost t₀ t s map level n₀ (record { ok = ok; node = n })
+  pub fill-ends : (ok : Bool) → (ok ≡ true → Full (entriesOf (n .entries)) (heldIn n)) → FillPost t₀ t s map level n₀ (record { ok = ok; broken = false; node = n })
   fill-ends ok h =
       record {
         works = p .works;
@@ -87,6 +88,7 @@ module _ {t₀ s₀ map₀ : List ℕ} {level : ℕ} {n₀ : NodeValue} {t s map
         count = p .count;
         sameLows = p .sameLows;
         done = λ e lo hi rank f full z o. let q = p .goes lo hi rank f full z o in record { rank = q .0; loop = q .1; full = h e };
+        whole = λ lo hi rank f full z o. refl;
       }
 
   module _ {t′ s′ map′ : List ℕ} {r : Turned} (k : Kept t s map t′ s′ map′) (q : RoundPost t t′ s′ map′ level n r) where
@@ -107,7 +109,7 @@ module _ {t₀ s₀ map₀ : List ℕ} {level : ℕ} {n₀ : NodeValue} {t s map
         }
 
     -- one that fails
-    pub fill-fails : FillPost t₀ t′ s′ map′ level n₀ (record { ok = false; node = r .node })
+    pub fill-fails : FillPost t₀ t′ s′ map′ level n₀ (record { ok = false; broken = r .broken; node = r .node })
     fill-fails =
         record {
           works = q .works;
@@ -116,10 +118,11 @@ module _ {t₀ s₀ map₀ : List ℕ} {level : ℕ} {n₀ : NodeValue} {t s map
           count = q .count ∙ p .count;
           sameLows = q .sameLows ∙ p .sameLows;
           done = λ e. absurd (false≢true e);
+          whole = λ lo hi rank f full z o. let a = p .goes lo hi rank f full z o in q .whole (n₀ .inserts .n) (n₀ .deletes .n) lo hi (a .0) (storeOf t₀) (entriesOf (n₀ .entries)) f full z (a .1);
         }
 
     -- one that is the last
-    pub fill-over : r .ok ≡ true → r .over ≡ true → FillPost t₀ t′ s′ map′ level n₀ (record { ok = true; node = r .node })
+    pub fill-over : r .ok ≡ true → r .over ≡ true → FillPost t₀ t′ s′ map′ level n₀ (record { ok = true; broken = false; node = r .node })
     fill-over ok over =
         record {
           works = q .works;
@@ -131,15 +134,31 @@ module _ {t₀ s₀ map₀ : List ℕ} {level : ℕ} {n₀ : NodeValue} {t s map
               let a = p .goes lo hi rank f full z o in
               let b = q .goesOn ok (n₀ .inserts .n) (n₀ .deletes .n) lo hi (a .0) (storeOf t₀) (entriesOf (n₀ .entries)) f full z (a .1) in
               record { rank = b .0; loop = b .1; full = b .2 over };
+          whole = λ lo hi rank f full z o. refl;
         }
 
 -- ---- take_top
 
 -- nothing was taken
-pub take-fails : {t s map t′ s′ map′ : List ℕ} {level : ℕ} {e : Entry} {spot : Spot} → Undoable t s map → Kept t s map t′ s′ map′
-    → TakePost t t′ s′ map′ level e (record { ok = false; entry = e; spot = spot })
-take-fails u k =
-    record { undoable = undoable-kept k u; sized = k .table; block = refl; low = refl; fits = λ f. f; done = λ h. absurd (false≢true h) }
+abbrev NotTaken : Entry → Bool → Took → Type 0
+NotTaken e broken r = (r .ok ≡ false) × (r .broken ≡ broken) × (r .entry ≡ e)
+
+pub take-fails : {t s map t′ s′ map′ : List ℕ} {level : ℕ} {e : Entry} {broken : Bool} {r : Took} → Undoable t s map → Kept t s map t′ s′ map′ → NotTaken e broken r
+    → OnChild t level e (λ lo hi. broken ≡ false) → TakePost t t′ s′ map′ level e r
+take-fails u k q w =
+    record {
+      undoable = undoable-kept k u;
+      sized = k .table;
+      block = ap (λ (x : Entry). x .block) (q .2);
+      low = ap (λ (x : Entry). x .low) (q .2);
+      fits = subst⁻¹ EntryFits (q .2);
+      done = λ h. absurd (true≢false (sym h ∙ q .0));
+      whole = λ lo hi order full low sound. q .1 ∙ w lo hi order full low sound;
+    }
+
+-- a block that breaks a rule is not that of a sound part
+pub part-valid : (t : List ℕ) {level : ℕ} {e : Entry} → nodeOk level (Child e) (storeOf t (e .block)) ≡ false → OnChild t level e (λ lo hi. true ≡ false)
+part-valid t {level} {e} refused lo hi order full low sound = absurd (true≢false (sym (opened level (storeOf t) (part (e .block) (Child e) lo hi) sound .ok) ∙ refused))
 
 -- the node of a block that was tested may be worked on
 pub loaded-works : {t s map : List ℕ} {level : ℕ} (e : Entry) {n m : NodeValue} {b : Held} → Undoable t s map → level ≤ 6 → nodeOk level (Child e) (storeOf t (e .block)) ≡ true
@@ -161,6 +180,10 @@ loaded-works {t} {level = level} e {n = n} {m = m} u deep ok l d =
       deletes = omega (arith, d .deletes, l .storable .deletes);
     }
 
+-- its first entry's low is 0
+edited-zero : {t : List ℕ} {b : ℕ} {n m : NodeValue} {h : Held} {i j k : ℕ} → Loaded t b n → Edited n m h i j k → zeroFirst (lows (entriesOf (m .entries))) ≡ true
+edited-zero l d = ap zeroFirst (ap (λ (es : Entries). lows (entriesOf es)) (d .entries)) ∙ l .storable .first
+
 -- and what fill makes of it may be stored
 pub filled-stores : {t t′ s′ map′ : List ℕ} {level : ℕ} {b : ℕ} {n m : NodeValue} {h : Held} {r : Filled} → Loaded t b n → Edited n m h (n .points .n) (n .inserts .n) (n .deletes .n)
     → FillPost t t′ s′ map′ level m r → Storable (r .node)
@@ -168,18 +191,15 @@ filled-stores {n = n} {m = m} {r = r} l d p =
     record {
       level = let z = p .works .level in omega (arith, p .works .deep);
       entries = p .works .entries;
-      first = ap zeroFirst (p .sameLows ∙ ap (λ (es : Entries). lows (entriesOf es)) (d .entries)) ∙ l .storable .first;
+      first = ap zeroFirst (p .sameLows) ∙ edited-zero l d;
       points = p .works .points;
       inserts = omega (arith, p .inserts, d .inserts, l .storable .inserts);
       deletes = omega (arith, p .deletes, d .deletes, l .storable .deletes);
     }
 
--- the top was taken: the node m without its top was filled to r over the table t′, and stored to t″
-module _ {t s map t′ s′ map′ t″ s″ map″ : List ℕ} {level : ℕ} {e e′ : Entry} {spot : Spot} {n m : NodeValue} {r : Filled}
-    (u : Undoable t s map) (inside : e .block < blocksOf (length t)) (ok : nodeOk level (Child e) (storeOf t (e .block)) ≡ true) (l : Loaded t (e .block) n) (high : Highest (held (n .points)) spot)
-    (d : Edited n m (record { points = only (but (spot .key)) (held (n .points)); inserts = held (n .inserts); deletes = named (n .deletes) }) (n .points .n) (n .inserts .n) (n .deletes .n))
-    (p : FillPost t t′ s′ map′ level m r) (done : r .ok ≡ true) (k : Kept t s map t′ s′ map′) (k′ : Kept t′ s′ map′ t″ s″ map″) (st : Stored t′ t″ (e .block) (r .node))
-    (made : EntryFor (e .block) (e .low) (r .node) e′) (longI : n .inserts .n ≤ length (held (n .inserts))) (longD : n .deletes .n ≤ length (named (n .deletes))) where
+-- the top is left out of the loaded node, which becomes m
+module _ {t : List ℕ} {level : ℕ} {e : Entry} {spot : Spot} {n m : NodeValue} (l : Loaded t (e .block) n) (high : Highest (held (n .points)) spot)
+    (d : Edited n m (record { points = only (but (spot .key)) (held (n .points)); inserts = held (n .inserts); deletes = named (n .deletes) }) (n .points .n) (n .inserts .n) (n .deletes .n)) where
   module _ (lo hi : ℕ) (order : lo ≤ hi) (full : hi ≤ allKeys) (low : e .low ≤ lo) (sound : Sound (suc level) (storeOf t) (part (e .block) (Child e) lo hi ∷ [])) where
     top : (e .size ≡ 0 → ⊥) × (spot .key ≡ e .top)
     top =
@@ -191,8 +211,8 @@ module _ {t s map t′ s′ map′ t″ s″ map″ : List ℕ} {level : ℕ} {e
         top-found level (storeOf t) (part (e .block) (Child e) lo hi) e refl full sound (spot .track)
         (subst (λ (v : Node). find (e .top) (v .points) ≡ some (spot .track)) (l .is) (ap (λ (j : ℕ). find j (held (n .points))) (sym (top .1)) ∙ high .there))
 
-    opened : (rank : ℕ) × Open level (storeOf t) lo hi rank (entriesOf (m .entries)) (heldIn m) (λ j. cond (eqb j (e .top)) none (lookup (suc level) (storeOf t) j (part (e .block) (Child e) lo hi)))
-    opened =
+    open-part : (rank : ℕ) × Open level (storeOf t) lo hi rank (entriesOf (m .entries)) (heldIn m) (λ j. cond (eqb j (e .top)) none (lookup (suc level) (storeOf t) j (part (e .block) (Child e) lo hi)))
+    open-part =
         let o = take-open level (storeOf t) (part (e .block) (Child e) lo hi) e refl full sound order (top .0) in
         let o₁ = subst⁻¹ (λ (v : Node). Open level (storeOf t) lo hi (o .0) (v .entries) (record { points = only (but (e .top)) (v .points); inserts = v .inserts; deletes = v .deletes }) (λ j. cond (eqb j (e .top)) none (lookup (suc level) (storeOf t) j (part (e .block) (Child e) lo hi)))) (l .is) (o .1) in
         let same : heldIn m ≡ record { points = only (but (e .top)) (held (n .points)); inserts = held (n .inserts); deletes = named (n .deletes) } =
@@ -203,40 +223,51 @@ module _ {t s map t′ s′ map′ t″ s″ map″ : List ℕ} {level : ℕ} {e
               (subst⁻¹ (λ (b : Held). Open level (storeOf t) lo hi (o .0) (entriesOf (n .entries)) b (λ j. cond (eqb j (e .top)) none (lookup (suc level) (storeOf t) j (part (e .block) (Child e) lo hi)))) same o₁),
         )
 
-    filled : FilledBy (storeOf t) (storeOf t′) level m (r .node) lo hi (λ j. cond (eqb j (e .top)) none (lookup (suc level) (storeOf t) j (part (e .block) (Child e) lo hi)))
-    filled = p .done done lo hi (opened .0) _ full (ap zeroFirst (ap (λ (es : Entries). lows (entriesOf es)) (d .entries)) ∙ l .storable .first) (opened .1)
+  -- fill finds no block that breaks a rule
+  pub fill-whole : {t′ s′ map′ : List ℕ} {r : Filled} → FillPost t t′ s′ map′ level m r → OnChild t level e (λ lo hi. r .broken ≡ false)
+  fill-whole p lo hi order full low sound = let o = open-part lo hi order full low sound in p .whole lo hi (o .0) _ full (edited-zero l d) (o .1)
 
-    -- the node that is stored
-    is-node : nodeIn (blocksOf (length t)) (r .node) ≡ after (storeOf t (e .block)) (entriesOf (r .node .entries)) (heldIn (r .node))
-    unfolding nodeOk
-    is-node =
-        let own : nodeOk level (Child e) (nodeIn (blocksOf (length t)) n) ≡ true = ap (nodeOk level (Child e)) (l .is) ∙ ok in
-        let levels : r .node .level ≡ n .level = p .works .level ∙ sym (eqb-true (n .level) level (all-at _ own 1)) in
-        ap (λ (v : ℕ). after (nodeIn (blocksOf (length t)) (record { level = v; entries = n .entries; points = n .points; inserts = n .inserts; deletes = n .deletes })) (entriesOf (r .node .entries)) (heldIn (r .node))) levels
-        ∙ ap (λ (v : Node). after v (entriesOf (r .node .entries)) (heldIn (r .node))) (l .is)
+  -- and what it fills to r over the table t′ is stored to t″
+  module _ {s map t′ s′ map′ t″ s″ map″ : List ℕ} {e′ : Entry} {r : Filled} (u : Undoable t s map) (inside : e .block < blocksOf (length t))
+      (ok : nodeOk level (Child e) (storeOf t (e .block)) ≡ true) (p : FillPost t t′ s′ map′ level m r) (done : r .ok ≡ true) (k : Kept t s map t′ s′ map′) (k′ : Kept t′ s′ map′ t″ s″ map″)
+      (st : Stored t′ t″ (e .block) (r .node)) (made : EntryFor (e .block) (e .low) (r .node) e′) (longI : n .inserts .n ≤ length (held (n .inserts)))
+      (longD : n .deletes .n ≤ length (named (n .deletes))) where
+    module _ (lo hi : ℕ) (order : lo ≤ hi) (full : hi ≤ allKeys) (low : e .low ≤ lo) (sound : Sound (suc level) (storeOf t) (part (e .block) (Child e) lo hi ∷ [])) where
+      filled : FilledBy (storeOf t) (storeOf t′) level m (r .node) lo hi (λ j. cond (eqb j (e .top)) none (lookup (suc level) (storeOf t) j (part (e .block) (Child e) lo hi)))
+      filled = let o = open-part lo hi order full low sound in p .done done lo hi (o .0) _ full (edited-zero l d) (o .1)
 
-    changed : Changed (suc level) (Taken [] []) (storeOf t) (part (e .block) (Child e) lo hi ∷ []) (storeOf t″) (part (e .block) (Child e′) lo hi ∷ []) (λ j. cond (eqb j (e .top)) none (lookup (suc level) (storeOf t) j (part (e .block) (Child e) lo hi)))
-    changed =
-        take-finish (m .inserts .n) (m .deletes .n) level (storeOf t) (storeOf t′) (storeOf t″) (part (e .block) (Child e) lo hi) e e′ refl (made .low) low sound
-        (subst (λ (v : Node). m .inserts .n ≤ length (v .inserts)) (l .is) (omega (arith, d .inserts, longI)))
-        (subst (λ (v : Node). m .deletes .n ≤ length (v .deletes)) (l .is) (omega (arith, d .deletes, longD)))
-        (subst (λ (v : Node). length (v .inserts) ≤ 64) (l .is) (let z = length-take (n .inserts .n) (n .inserts .spots) in omega (arith, l .storable .inserts)))
-        (subst (λ (v : Node). length (v .deletes) ≤ 16) (l .is) (let z = length-take (n .deletes .n) (n .deletes .keys) in omega (arith, l .storable .deletes)))
-        (filled .rank) (entriesOf (r .node .entries)) (heldIn (r .node)) _
-        (subst (λ (es : List Entry). Loop (m .inserts .n) (m .deletes .n) level lo hi (storeOf t) es (storeOf t′) (filled .rank) (entriesOf (r .node .entries)) (heldIn (r .node)) (λ j. cond (eqb j (e .top)) none (lookup (suc level) (storeOf t) j (part (e .block) (Child e) lo hi))))
-        (ap entriesOf (d .entries) ∙ ap (λ (v : Node). v .entries) (l .is)) (filled .loop))
-        (filled .full)
-        (subst (λ (v : Node). agrees (Child e′) v ≡ true) is-node (made .agree (blocksOf (length t))))
-        (st .here ∙ ap (λ (j : ℕ). nodeIn (blocksOf j) (r .node)) (k .table) ∙ is-node)
-        (stored-else t′ t″ (e .block) (r .node) st)
+      -- the node that is stored
+      is-node : nodeIn (blocksOf (length t)) (r .node) ≡ after (storeOf t (e .block)) (entriesOf (r .node .entries)) (heldIn (r .node))
+      unfolding nodeOk
+      is-node =
+          let own : nodeOk level (Child e) (nodeIn (blocksOf (length t)) n) ≡ true = ap (nodeOk level (Child e)) (l .is) ∙ ok in
+          let levels : r .node .level ≡ n .level = p .works .level ∙ sym (eqb-true (n .level) level (all-at _ own 1)) in
+          ap (λ (v : ℕ). after (nodeIn (blocksOf (length t)) (record { level = v; entries = n .entries; points = n .points; inserts = n .inserts; deletes = n .deletes })) (entriesOf (r .node .entries)) (heldIn (r .node))) levels
+          ∙ ap (λ (v : Node). after v (entriesOf (r .node .entries)) (heldIn (r .node))) (l .is)
 
-  pub take-done : TakePost t t″ s″ map″ level e (record { ok = true; entry = e′; spot = spot })
-  take-done =
-      record {
-        undoable = undoable-kept (kept-trans k k′) u;
-        sized = k′ .table ∙ k .table;
-        block = made .block;
-        low = made .low;
-        fits = λ q. made .fits (omega (arith, u .most));
-        done = λ q lo hi order full low sound. record { changed = changed lo hi order full low sound; key = top lo hi order full low sound .1; live = live lo hi order full low sound };
-      }
+      changed : Changed (suc level) (Taken [] []) (storeOf t) (part (e .block) (Child e) lo hi ∷ []) (storeOf t″) (part (e .block) (Child e′) lo hi ∷ []) (λ j. cond (eqb j (e .top)) none (lookup (suc level) (storeOf t) j (part (e .block) (Child e) lo hi)))
+      changed =
+          take-finish (m .inserts .n) (m .deletes .n) level (storeOf t) (storeOf t′) (storeOf t″) (part (e .block) (Child e) lo hi) e e′ refl (made .block) (made .low) low full sound
+          (subst (λ (v : Node). m .inserts .n ≤ length (v .inserts)) (l .is) (omega (arith, d .inserts, longI)))
+          (subst (λ (v : Node). m .deletes .n ≤ length (v .deletes)) (l .is) (omega (arith, d .deletes, longD)))
+          (subst (λ (v : Node). length (v .inserts) ≤ 64) (l .is) (let z = length-take (n .inserts .n) (n .inserts .spots) in omega (arith, l .storable .inserts)))
+          (subst (λ (v : Node). length (v .deletes) ≤ 16) (l .is) (let z = length-take (n .deletes .n) (n .deletes .keys) in omega (arith, l .storable .deletes)))
+          (filled .rank) (entriesOf (r .node .entries)) (heldIn (r .node)) _
+          (subst (λ (es : List Entry). Loop (m .inserts .n) (m .deletes .n) level lo hi (storeOf t) es (storeOf t′) (filled .rank) (entriesOf (r .node .entries)) (heldIn (r .node)) (λ j. cond (eqb j (e .top)) none (lookup (suc level) (storeOf t) j (part (e .block) (Child e) lo hi))))
+          (ap entriesOf (d .entries) ∙ ap (λ (v : Node). v .entries) (l .is)) (filled .loop))
+          (filled .full)
+          (subst (λ (v : Node). agrees (Child e′) v ≡ true) is-node (made .agree (blocksOf (length t))))
+          (st .here ∙ ap (λ (j : ℕ). nodeIn (blocksOf j) (r .node)) (k .table) ∙ is-node)
+          (stored-else t′ t″ (e .block) (r .node) st)
+
+    pub take-done : TakePost t t″ s″ map″ level e (record { ok = true; broken = false; entry = e′; spot = spot })
+    take-done =
+        record {
+          undoable = undoable-kept (kept-trans k k′) u;
+          sized = k′ .table ∙ k .table;
+          block = made .block;
+          low = made .low;
+          fits = λ q. made .fits (omega (arith, u .most));
+          done = λ q lo hi order full low sound. record { changed = changed lo hi order full low sound; key = top lo hi order full low sound .1; live = live lo hi order full low sound };
+          whole = λ lo hi order full low sound. refl;
+        }

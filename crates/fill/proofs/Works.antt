@@ -1,6 +1,6 @@
 -- A node that may be worked on may still be after each step, and a round's post-condition is made of these.
 -- Assumes nothing.
-use mathlib.Core.Path.{_≡_, sym, ap, _∙_, subst, subst⁻¹}
+use mathlib.Core.Path.{_≡_, refl, sym, ap, _∙_, subst, subst⁻¹}
 use mathlib.Core.Logic.{_⊎_, inl, inr, ⊎-elim}
 use mathlib.Core.Bool.{true, false, true≢false}
 use mathlib.Core.List.{List, _∷_, _++_, List·Memᴰ}
@@ -24,17 +24,18 @@ use Rattle.edit.specs.Edits.{Tidy, Edited}
 use Rattle.journal.specs.Journal.{Kept}
 use Rattle.journal.proofs.Kept.{undoable-kept}
 use Rattle.fill.specs.declared.Turned.{Turned}
-use Rattle.fill.specs.Filling.{Inside, Workable, RoundPost, GoesOn, Replaced, Lifted}
+use Rattle.fill.specs.Filling.{Inside, Workable, RoundPost, OnLoop, GoesOn, Replaced, Lifted}
 
 -- one entry for another: what is there then
 one-more : (us vs : List Entry) (e e′ : Entry) {d : Entry} → List·Memᴰ d (us ++ (e′ ∷ vs)) → (d ≡ e′) ⊎ List·Memᴰ d (us ++ (e ∷ vs))
 one-more us vs e e′ i = ⊎-elim inl (λ j. inr (mem-more us e vs j)) (mem-less us e′ vs i)
 
 -- a round that fails leaves the node
-pub lifted-failed : (n : NodeValue) (r : Turned) → Tidy n → r .over ≡ false → r .node ≡ n → Lifted n r
-lifted-failed n r t o e =
+pub lifted-failed : (n : NodeValue) (r : Turned) → Tidy n → r .over ≡ false → r .node ≡ n → r .broken ≡ false → Lifted n r
+lifted-failed n r t o e w =
     record {
       over = o;
+      whole = w;
       tidy = subst⁻¹ Tidy e t;
       entries = ap (λ (m : NodeValue). m .entries) e;
       level = ap (λ (m : NodeValue). m .level) e;
@@ -106,8 +107,8 @@ replaced-lows {n} {c = c} {e = e} {e′ = e′} a l p =
 
 -- it failed
 pub round-failed : {t s map t′ s′ map′ : List ℕ} {n : NodeValue} {r : Turned} {level : ℕ} → Workable t s map n level → Kept t s map t′ s′ map′ → r .ok ≡ false → r .node ≡ n
-    → RoundPost t t′ s′ map′ level n r
-round-failed {t′ = t′} {s′ = s′} {map′ = map′} {n = n} {r = r} {level = level} w k h e =
+    → OnLoop (storeOf t) level n (λ ni nd lo hi x es₀ f. r .broken ≡ false) → RoundPost t t′ s′ map′ level n r
+round-failed {t′ = t′} {s′ = s′} {map′ = map′} {n = n} {r = r} {level = level} w k h e v =
     record {
       works = subst⁻¹ (λ (m : NodeValue). Workable t′ s′ map′ m level) e (work-kept w k);
       inserts = let z : r .node .inserts .n ≡ n .inserts .n = ap (λ (m : NodeValue). m .inserts .n) e in omega arith;
@@ -115,6 +116,7 @@ round-failed {t′ = t′} {s′ = s′} {map′ = map′} {n = n} {r = r} {leve
       count = ap (λ (m : NodeValue). m .entries .n) e;
       sameLows = ap (λ (m : NodeValue). lows (entriesOf (m .entries))) e;
       goesOn = λ g. absurd (true≢false (sym g ∙ h));
+      whole = v;
     }
 
 -- the store stayed
@@ -128,11 +130,12 @@ round-lifted w h l g =
       count = ap (λ (es : Entries). es .n) (l .entries);
       sameLows = ap (λ (es : Entries). lows (entriesOf es)) (l .entries);
       goesOn = g;
+      whole = λ ni nd lo hi rank x es₀ f full z p. l .whole;
     }
 
 -- it was the last
 pub round-ended : {t s map : List ℕ} {n m : NodeValue} {b : Held} {level : ℕ} → Workable t s map n level → n .points .n < 32 → Edited n m b (n .points .n) (n .inserts .n) 0
-    → GoesOn (storeOf t) (storeOf t) level n m true → RoundPost t t s map level n (record { ok = true; over = true; node = m })
+    → GoesOn (storeOf t) (storeOf t) level n m true → RoundPost t t s map level n (record { ok = true; broken = false; over = true; node = m })
 round-ended {t} {n = n} {m = m} w h l g =
     record {
       works = record {
@@ -151,6 +154,7 @@ round-ended {t} {n = n} {m = m} w h l g =
       count = ap (λ (es : Entries). es .n) (l .entries);
       sameLows = ap (λ (es : Entries). lows (entriesOf es)) (l .entries);
       goesOn = λ e. g;
+      whole = λ ni nd lo hi rank x es₀ f full z p. refl;
     }
 
 -- a child's top was taken
@@ -166,4 +170,5 @@ round-taken {n = n} {m = m} w h k a b l f p u g =
       count = ap (λ (es : Entries). es .n) (u .entries) ∙ p .count;
       sameLows = ap (λ (es : Entries). lows (entriesOf es)) (u .entries) ∙ replaced-lows a l p;
       goesOn = g;
+      whole = λ ni nd lo hi rank x es₀ f full z p. u .whole;
     }

@@ -1,5 +1,5 @@
 -- What fill and take_top are handed and hand back. They answer `ok` only where all went well; then, where the part was sound, it is sound again and says what it
--- should of every key. Whatever they answer, the journal can still tell what was.
+-- should of every key. Where the part was sound they never answer `broken` (`whole`). Whatever they answer, the journal can still tell what was.
 -- Assumes nothing.
 use mathlib.Core.Path.{_≡_}
 use Prim.Native.Nat.{ℕ, suc, _+_, _≤_, _<_}
@@ -54,15 +54,20 @@ pub record FilledBy (x y : Store) (level : ℕ) (n : NodeValue) (r : NodeValue) 
   pub loop : Loop (n .inserts .n) (n .deletes .n) level lo hi x (entriesOf (n .entries)) y rank (entriesOf (r .entries)) (heldIn r) f
   pub full : Full (entriesOf (r .entries)) (heldIn r)
 
+-- what holds where the node stands open over the table's store
+abbrev pub OnNode : List ℕ → ℕ → NodeValue → (ℕ → ℕ → (ℕ → Option ℕ) → Type 0) → Type 0
+OnNode t level n Then =
+    (lo hi rank : ℕ) (f : ℕ → Option ℕ) → hi ≤ allKeys → zeroFirst (lows (entriesOf (n .entries))) ≡ true
+    → Open level (storeOf t) lo hi rank (entriesOf (n .entries)) (heldIn n) f → Then lo hi f
+
 pub record FillPost (t t′ s′ map′ : List ℕ) (level : ℕ) (n : NodeValue) (r : Filled) : Type 0 where
   pub works : Workable t′ s′ map′ (r .node) level
   pub inserts : r .node .inserts .n ≤ n .inserts .n
   pub deletes : r .node .deletes .n ≤ n .deletes .n
   pub count : r .node .entries .n ≡ n .entries .n
   pub sameLows : lows (entriesOf (r .node .entries)) ≡ lows (entriesOf (n .entries))
-  pub done : r .ok ≡ true → (lo hi rank : ℕ) (f : ℕ → Option ℕ) → hi ≤ allKeys → zeroFirst (lows (entriesOf (n .entries))) ≡ true
-      → Open level (storeOf t) lo hi rank (entriesOf (n .entries)) (heldIn n) f
-      → FilledBy (storeOf t) (storeOf t′) level n (r .node) lo hi f
+  pub done : r .ok ≡ true → OnNode t level n (λ lo hi f. FilledBy (storeOf t) (storeOf t′) level n (r .node) lo hi f)
+  pub whole : OnNode t level n (λ lo hi f. r .broken ≡ false)
 
 -- the highest point of a part is taken out
 pub record TookOut (x y : Store) (level : ℕ) (e : Entry) (lo hi : ℕ) (r : Took) : Type 0 where
@@ -71,21 +76,30 @@ pub record TookOut (x y : Store) (level : ℕ) (e : Entry) (lo hi : ℕ) (r : To
   pub key : r .spot .key ≡ e .top
   pub live : lookup (suc level) x (e .top) (part (e .block) (Child e) lo hi) ≡ some (r .spot .track)
 
+-- what holds where the part that an entry leads to is sound
+abbrev pub OnChild : List ℕ → ℕ → Entry → (ℕ → ℕ → Type 0) → Type 0
+OnChild t level e Then = (lo hi : ℕ) → lo ≤ hi → hi ≤ allKeys → e .low ≤ lo → Sound (suc level) (storeOf t) (part (e .block) (Child e) lo hi ∷ []) → Then lo hi
+
 pub record TakePost (t t′ s′ map′ : List ℕ) (level : ℕ) (e : Entry) (r : Took) : Type 0 where
   pub undoable : Undoable t′ s′ map′
   pub sized : length t′ ≡ length t
   pub block : r .entry .block ≡ e .block
   pub low : r .entry .low ≡ e .low
   pub fits : EntryFits e → EntryFits (r .entry)
-  pub done : r .ok ≡ true → (lo hi : ℕ) → lo ≤ hi → hi ≤ allKeys → e .low ≤ lo → Sound (suc level) (storeOf t) (part (e .block) (Child e) lo hi ∷ [])
-      → TookOut (storeOf t) (storeOf t′) level e lo hi r
+  pub done : r .ok ≡ true → OnChild t level e (λ lo hi. TookOut (storeOf t) (storeOf t′) level e lo hi r)
+  pub whole : OnChild t level e (λ lo hi. r .broken ≡ false)
 
--- the loop of fill goes on from where it stood with n over the store y: with r over the store z, and at the end where `over`
+-- what holds where the loop of fill stands with n over the store y
+abbrev pub OnLoop : Store → ℕ → NodeValue → (ℕ → ℕ → ℕ → ℕ → Store → List Entry → (ℕ → Option ℕ) → Type 0) → Type 0
+OnLoop y level n Then =
+    (ni nd lo hi rank : ℕ) (x : Store) (es₀ : List Entry) (f : ℕ → Option ℕ) → hi ≤ allKeys → zeroFirst (lows es₀) ≡ true
+    → Loop ni nd level lo hi x es₀ y rank (entriesOf (n .entries)) (heldIn n) f → Then ni nd lo hi x es₀ f
+
+-- it goes on: with r over the store z, and at the end where `over`
 abbrev pub GoesOn : Store → Store → ℕ → NodeValue → NodeValue → Bool → Type 0
 GoesOn y z level n r over =
-    (ni nd lo hi rank : ℕ) (x : Store) (es₀ : List Entry) (f : ℕ → Option ℕ) → hi ≤ allKeys → zeroFirst (lows es₀) ≡ true
-    → Loop ni nd level lo hi x es₀ y rank (entriesOf (n .entries)) (heldIn n) f
-    → (after : ℕ) × Loop ni nd level lo hi x es₀ z after (entriesOf (r .entries)) (heldIn r) f × (over ≡ true → Full (entriesOf (r .entries)) (heldIn r))
+    OnLoop y level n (λ ni nd lo hi x es₀ f.
+    (after : ℕ) × Loop ni nd level lo hi x es₀ z after (entriesOf (r .entries)) (heldIn r) f × (over ≡ true → Full (entriesOf (r .entries)) (heldIn r)))
 
 -- one round
 pub record RoundPost (t t′ s′ map′ : List ℕ) (level : ℕ) (n : NodeValue) (r : Turned) : Type 0 where
@@ -95,6 +109,7 @@ pub record RoundPost (t t′ s′ map′ : List ℕ) (level : ℕ) (n : NodeValu
   pub count : r .node .entries .n ≡ n .entries .n
   pub sameLows : lows (entriesOf (r .node .entries)) ≡ lows (entriesOf (n .entries))
   pub goesOn : r .ok ≡ true → GoesOn (storeOf t) (storeOf t′) level n (r .node) (r .over)
+  pub whole : OnLoop (storeOf t) level n (λ ni nd lo hi x es₀ f. r .broken ≡ false)
 
 -- a child's entry is replaced; nothing else of the node changes
 pub record Replaced (n : NodeValue) (c : ℕ) (e : Entry) (r : NodeValue) : Type 0 where
@@ -108,6 +123,7 @@ pub record Replaced (n : NodeValue) (c : ℕ) (e : Entry) (r : NodeValue) : Type
 -- the end of a round: the buffers change, or it fails and nothing does
 pub record Lifted (n : NodeValue) (r : Turned) : Type 0 where
   pub over : r .over ≡ false
+  pub whole : r .broken ≡ false
   pub tidy : Tidy (r .node)
   pub entries : r .node .entries ≡ n .entries
   pub level : r .node .level ≡ n .level

@@ -11,31 +11,49 @@ ghost use Rattle.edit.specs.Edits.{Tidy, Edited};
 ghost use Rattle.journal.specs.Journal.{Undoable, Kept};
 ghost use Rattle.fill.specs.Filling.{Workable, FillPost, TakePost, RoundPost, Replaced, InsertUp, ChildUp, ChildHighest, BothHighest};
 
-// The highest point of a child, taken out: the child's entry then, and the spot.
+// The highest point of a child, taken out: the child's entry then, and the spot. Where it is not ok, `broken` says that a block that was read breaks a rule;
+// else there was no room. So it is in the two below.
 pub struct Took {
     pub ok: bool,
+    pub broken: bool,
     pub entry: block::Entry,
     pub spot: spot::Spot,
 }
 
 pub struct Filled {
     pub ok: bool,
+    pub broken: bool,
     pub node: node::NodeValue,
 }
 
 // One round of fill: whether it went well, whether nothing is left, and the node then.
 pub struct Turned {
     pub ok: bool,
+    pub broken: bool,
     pub over: bool,
     pub node: node::NodeValue,
 }
 
-fn failed(n: node::NodeValue) -> Turned
-    ensures { λ r. ⌜ (r .ok ≡ false) × (r .over ≡ false) × (r .node ≡ n) ⌝ }
+fn not_taken(e: block::Entry, broken: bool) -> Took
+    ensures { λ r. ⌜ (r .ok ≡ false) × (r .broken ≡ broken) × (r .entry ≡ e) ⌝ }
+{
+    let entry = e;
+    let spot = spot::Spot { key: 0, track: 0 };
+    Took {
+        ok: false,
+        broken,
+        entry,
+        spot,
+    }
+}
+
+fn failed(n: node::NodeValue, broken: bool) -> Turned
+    ensures { λ r. ⌜ (r .ok ≡ false) × (r .over ≡ false) × (r .node ≡ n) × (r .broken ≡ broken) ⌝ }
 {
     let node = n;
     Turned {
         ok: false,
+        broken,
         over: false,
         node,
     }
@@ -104,31 +122,27 @@ pub fn take_top(t: &mut [u8], s: &mut [u8], map: &mut [u8], e: block::Entry, lev
     ensures kept { λ r. ⌜ Kept (now (t .entry)) (now (s .entry)) (now (map .entry)) (now (t .exit)) (now (s .exit)) (now (map .exit)) ⌝ }
     ensures took { λ r. ⌜ TakePost (now (t .entry)) (now (t .exit)) (now (s .exit)) (now (map .exit)) level e r ⌝ }
 {
-    let none = Took {
-        ok: false,
-        entry: e,
-        spot: spot::Spot { key: 0, track: 0 },
-    };
     let b = e.block;
     if !block::block_ok(t, b, level, block::Asked::Child(e)) {
-        return none;
+        return not_taken(e, true);
     }
     let n = node::load(t, b);
     let size = n.points.n;
     if size == 0 {
-        return none;
+        return not_taken(e, false);
     }
     let spot = buffer::highest(n.points);
     let open = without_point(n, spot.key);
     let f = fill(t, s, map, open, level);
     if !f.ok {
-        return none;
+        return not_taken(e, f.broken);
     }
     let full = f.node;
     journal::write_node(t, s, map, b, full);
     let entry = edit::entry_for(b, e.low, full);
     Took {
         ok: true,
+        broken: false,
         entry,
         spot,
     }
@@ -144,19 +158,35 @@ pub fn fill(t: &mut [u8], s: &mut [u8], map: &mut [u8], n: node::NodeValue, leve
     let mut rounds: usize = 0;
     while node.points.n < 32 {
         if 128 <= rounds {
-            return Filled { ok: false, node };
+            return Filled {
+                ok: false,
+                broken: false,
+                node,
+            };
         }
         let r = round(t, s, map, node, level);
         node = r.node;
         if !r.ok {
-            return Filled { ok: false, node };
+            return Filled {
+                ok: false,
+                broken: r.broken,
+                node,
+            };
         }
         if r.over {
-            return Filled { ok: true, node };
+            return Filled {
+                ok: true,
+                broken: false,
+                node,
+            };
         }
         rounds += 1;
     }
-    Filled { ok: true, node }
+    Filled {
+        ok: true,
+        broken: false,
+        node,
+    }
 }
 
 // The highest of I and of the children's tops goes to P; deletes at or above it are done with.
@@ -173,6 +203,7 @@ pub fn round(t: &mut [u8], s: &mut [u8], map: &mut [u8], n: node::NodeValue, lev
             let node = without_deletes(n);
             return Turned {
                 ok: true,
+                broken: false,
                 over: true,
                 node,
             };
@@ -199,11 +230,12 @@ fn from_inserts(n: node::NodeValue, high: spot::Spot) -> Turned
     ensures { λ r. ⌜ InsertUp n high r ⌝ }
 {
     if buffer::holds(n.points, high.key) {
-        return failed(n);
+        return failed(n, false);
     }
     let node = edit::raise_insert(n, high);
     Turned {
         ok: true,
+        broken: false,
         over: false,
         node,
     }
@@ -219,16 +251,18 @@ fn from_top(n: node::NodeValue, top: spot::Spot) -> Turned
         let node = edit::drop_child(n, k);
         return Turned {
             ok: true,
+            broken: false,
             over: false,
             node,
         };
     }
     if buffer::holds(n.points, k) {
-        return failed(n);
+        return failed(n, false);
     }
     let node = edit::raise_child(n, top);
     Turned {
         ok: true,
+        broken: false,
         over: false,
         node,
     }
@@ -249,12 +283,12 @@ fn from_both(
     ensures turned { λ r. ⌜ RoundPost (now (t .entry)) (now (t .exit)) (now (s .exit)) (now (map .exit)) level n r ⌝ }
 {
     if level == 0 {
-        return failed(n);
+        return failed(n, false);
     }
     let e = node::entry(n.entries, c);
     let took = take_top(t, s, map, e, level - 1);
     if !took.ok {
-        return failed(n);
+        return failed(n, took.broken);
     }
     let next = with_child(n, c, took.entry);
     from_inserts(next, high)
@@ -274,12 +308,12 @@ fn from_child(
     ensures turned { λ r. ⌜ RoundPost (now (t .entry)) (now (t .exit)) (now (s .exit)) (now (map .exit)) level n r ⌝ }
 {
     if level == 0 {
-        return failed(n);
+        return failed(n, false);
     }
     let e = node::entry(n.entries, c);
     let took = take_top(t, s, map, e, level - 1);
     if !took.ok {
-        return failed(n);
+        return failed(n, took.broken);
     }
     let next = with_child(n, c, took.entry);
     from_top(next, took.spot)

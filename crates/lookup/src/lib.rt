@@ -132,7 +132,14 @@ pub fn look_up(t: &[u8], k: u64) -> Looked
     if block::header_ok(t) {
         let root = block::root_of(t);
         let level = block::levels_of(t) - 1;
-        return look_in(t, root, level, block::Asked::Root, visit::root_span(), k);
+        return look_in(
+            t,
+            root,
+            level,
+            block::Asked::Root(root),
+            visit::root_span(),
+            k,
+        );
     }
     Looked::Broken
 }

@@ -1,4 +1,4 @@
-// The leaves and the validation of a block, exported for the benchmarks under bench/.
+// The leaves and the validation of a block, exported for the benchmarks under measure/.
 ghost use mathlib.Core.Path.{_≡_};
 ghost use Prim.Native.Nat.{_+_, _*_, _≤_};
 ghost use lib.ListN.{length};
@@ -57,7 +57,7 @@ pub extern "C" fn perf_change(t: &mut [u8], level: usize, key: u64, track: u32) 
     if t.len() < 4096 {
         return false;
     }
-    if !block::block_ok(t, 1, level, block::Asked::Root) {
+    if !block::block_ok(t, 1, level, block::Asked::Root(1)) {
         return false;
     }
     let n = node::load(t, 1);

@@ -60,15 +60,15 @@ module _ (t : List ℕ) (q : Query) (h : isBroken (walkTable t q) ≡ false) whe
   -- from the root, as the code calls it
   module _ (span : Span) (path : Path) {root level : ℕ} (p : root ≡ headOf t .root) (l : level ≡ headOf t .levels) (lo : span .lo ≡ 0) (hi : endOf span ≡ allKeys)
       (n : path .n ≡ 0) (none : above path ≡ []) (out : List ℕ) (room : 12 * length (spots (walkTable t q)) ≤ length out) where
-    same-part : partOf root Root span ≡ W
+    same-part : partOf root (Root root) span ≡ W
     same-part = root-part t span p lo hi
 
     same-level : suc (level - 1) ≡ L
     same-level = levels-are t whole-header p l
 
-    tally-is : tally (suc (level - 1)) (storeOf t) q (namedAbove t path) (partOf root Root span) ≡ length (spots (walkTable t q))
+    tally-is : tally (suc (level - 1)) (storeOf t) q (namedAbove t path) (partOf root (Root root) span) ≡ length (spots (walkTable t q))
     tally-is =
-        ap (λ (k : ℕ). tally k (storeOf t) q (namedAbove t path) (partOf root Root span)) same-level
+        ap (λ (k : ℕ). tally k (storeOf t) q (namedAbove t path) (partOf root (Root root) span)) same-level
         ∙ ap (tally L (storeOf t) q (namedAbove t path)) same-part
         ∙ ap (λ (bs : List ℕ). tally L (storeOf t) q (namedBy (storeOf t) bs) W) none
         ∙ omega (arith, gains-length L (storeOf t) q [] W [], ap length found)
@@ -76,9 +76,9 @@ module _ (t : List ℕ) (q : Query) (h : isBroken (walkTable t q) ≡ false) whe
     pub root-asks : Collectable t out root (level - 1) span q path 0
     root-asks =
         record {
-          asked = Root;
+          asked = Root root;
           obeyed =
-              ap (λ (k : ℕ). obeys k (storeOf t) q (partOf root Root span)) same-level ∙ ap (obeys L (storeOf t) q) same-part ∙ obeyed;
+              ap (λ (k : ℕ). obeys k (storeOf t) q (partOf root (Root root) span)) same-level ∙ ap (obeys L (storeOf t) q) same-part ∙ obeyed;
           inside = root-low t whole-header p l;
           blocks = header-few t whole-header;
           deep = omega (arith, levels-few t whole-header p l);
@@ -88,10 +88,10 @@ module _ (t : List ℕ) (q : Query) (h : isBroken (walkTable t q) ≡ false) whe
         }
 
     module _ {out' : List ℕ} {r : ℕ} (bytes : (k : ℕ) → getD out' k 0 < 256)
-        (c : Collected out out' 0 (gains (suc (level - 1)) (storeOf t) q (namedAbove t path) (partOf root Root span) (spotsIn out 0)) r) where
-      gained : gains (suc (level - 1)) (storeOf t) q (namedAbove t path) (partOf root Root span) [] ≡ spots (walkTable t q)
+        (c : Collected out out' 0 (gains (suc (level - 1)) (storeOf t) q (namedAbove t path) (partOf root (Root root) span) (spotsIn out 0)) r) where
+      gained : gains (suc (level - 1)) (storeOf t) q (namedAbove t path) (partOf root (Root root) span) [] ≡ spots (walkTable t q)
       gained =
-          ap (λ (k : ℕ). gains k (storeOf t) q (namedAbove t path) (partOf root Root span) []) same-level
+          ap (λ (k : ℕ). gains k (storeOf t) q (namedAbove t path) (partOf root (Root root) span) []) same-level
           ∙ ap (λ (x : Part). gains L (storeOf t) q (namedAbove t path) x []) same-part
           ∙ ap (λ (bs : List ℕ). gains L (storeOf t) q (namedBy (storeOf t) bs) W []) none
           ∙ sym found

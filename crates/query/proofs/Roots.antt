@@ -40,7 +40,7 @@ module _ (t : List ℕ) (ok : headerOk (length t) (headOf t) ≡ true) where
     pub levels-are : suc (level - 1) ≡ headOf t .levels
     levels-are = omega (arith, levels-some)
 
-pub root-part : (t : List ℕ) (span : Span) {root : ℕ} → root ≡ headOf t .root → span .lo ≡ 0 → endOf span ≡ allKeys → partOf root Root span ≡ whole (headOf t)
+pub root-part : (t : List ℕ) (span : Span) {root : ℕ} → root ≡ headOf t .root → span .lo ≡ 0 → endOf span ≡ allKeys → partOf root (Root root) span ≡ whole (headOf t)
 root-part t span p lo hi =
-    ap₂ (λ (b l : ℕ). record { block = b; asked = Root; lo = l; hi = endOf span }) p lo
-    ∙ ap (λ (h : ℕ). record { block = headOf t .root; asked = Root; lo = 0; hi = h }) hi
+    ap₂ (λ (b l : ℕ). record { block = b; asked = Root b; lo = l; hi = endOf span }) p lo
+    ∙ ap (λ (h : ℕ). record { block = headOf t .root; asked = Root (headOf t .root); lo = 0; hi = h }) hi

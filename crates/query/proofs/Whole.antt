@@ -118,8 +118,8 @@ module _ (t : List ℕ) (q : Query) where
 -- the walk from the root, as the code calls it
 pub at-root : (t : List ℕ) (q : Query) (span : Span) {z seen : List ℕ} {path : Path} {y r : Tally} {root level : ℕ} → headerOk (length t) (headOf t) ≡ true
     → root ≡ headOf t .root → level ≡ headOf t .levels → span .lo ≡ 0 → endOf span ≡ allKeys
-    → Counted t z seen (suc (level - 1)) q path (partOf root Root span) y r
+    → Counted t z seen (suc (level - 1)) q path (partOf root (Root root) span) y r
     → Counted t z seen (headOf t .levels) q path (whole (headOf t)) y r
 at-root t q span {z} {seen} {path} {y} {r} {root} {level} ok p l lo hi k =
     subst (λ (x : Part). Counted t z seen (headOf t .levels) q path x y r) (root-part t span p lo hi)
-    (subst (λ (n : ℕ). Counted t z seen n q path (partOf root Root span) y r) (levels-are t ok p l) k)
+    (subst (λ (n : ℕ). Counted t z seen n q path (partOf root (Root root) span) y r) (levels-are t ok p l) k)

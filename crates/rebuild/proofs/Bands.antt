@@ -10,13 +10,15 @@ use native.Mathlib.Omega.{arith}
 use lib.ListN.{length}
 use lib.Dec.{ltb, eqb}
 use borrow.Author.Tests.{ltb-true, eqb-true, lt-ltb, le-ltb, eq-eqb}
-use Rattle.octets.specs.Lists.{all, every, rest, rising, risingFrom, upTo}
+use Rattle.octets.specs.Lists.{all, every, rest, rising, risingFrom, distinct, upTo}
 use Rattle.octets.proofs.Tests.{all-cons, all-nil, and-both, every-imp, every-mem}
 use Rattle.octets.proofs.Order.{less-or-not, same-or-not}
 use Rattle.octets.proofs.Rising.{rising-distinct}
+use Rattle.octets.proofs.Sets.{distinct-cons}
+use Rattle.octets.proofs.UpTo.{upTo-from, upTo-distinct}
 use Rattle.spot.specs.declared.Spot.{Spot}
 use Rattle.spot.specs.Spots.{keys, find}
-use Rattle.spot.specs.Keys.{rankKey, within}
+use Rattle.spot.specs.Keys.{rankKey, allKeys, within}
 use Rattle.spot.proofs.Places.{within-yes, within-low, within-high, within-from, within-to}
 use Rattle.spot.proofs.Buffers.{keep-every, keep-pass}
 use Rattle.spot.proofs.Canon.{find-only, keep-rises}
@@ -25,13 +27,15 @@ use Rattle.block.specs.Node.{Node, Store}
 use Rattle.block.specs.Table.{blockOk}
 use Rattle.block.specs.declared.Asked.{Asked}
 use Rattle.block.specs.declared.Asked.the-variants.{Child}
-use Rattle.block.specs.NodeRules.{names, lows, zeroFirst, tops, nodeOk, childCountOk, childBlocksOk, buffersRise, namedOnce, lowsRise, pointsAbove, filled, lowest, leafBuffersEmpty, agrees}
+use Rattle.block.specs.NodeRules.{names, lows, zeroFirst, tops, nodeOk, childCountOk, childBlocksOk, buffersRise, namedOnce, lowsRise, pointsAbove, filled, lowest, leafBuffersEmpty, agrees, standsIn, childrenApart, entriesCredible}
 use Rattle.tree.specs.Part.{Part, parts, children, lowOf}
 use Rattle.tree.specs.Lookup.{orElse, down, lookup}
 use Rattle.tree.specs.Reach.{gather, reach, settled}
 use Rattle.tree.specs.Sound.{soundAt, inRange}
 use Rattle.tree.proofs.Entries.{not-below, agree-held, agree-top}
 use Rattle.tree.proofs.Below.{sizes-filled, sizes-lowest}
+use Rattle.tree.proofs.Ranges.{steps-make}
+use Rattle.tree.proofs.Credible.{lows-not-below, entries-credible, children-apart}
 use Rattle.rebuild.specs.Build.{band, builtNode, OwnBand, Built}
 
 -- the spots of a band: what is found there, their order, and what holds of them
@@ -170,15 +174,20 @@ module _ (room level : ℕ) (p : Part) (ys : List Spot) (t c : ℕ) (es : List E
   unfolding n builtNode
   node-level = eq-eqb level level refl
 
-  node-ok : (a : Asked) → childCountOk a n ≡ true → agrees a n ≡ true → lowOf a ≤ p .lo → nodeOk level a n ≡ true
+  lows-in : every (within (p .lo) (p .hi)) (rest (lows (n .entries))) ≡ true
+  unfolding n builtNode
+  lows-in = entries .inside
+
+  node-ok : (a : Asked) → childCountOk a n ≡ true → agrees a n ≡ true → lowOf a ≤ p .lo → childrenApart a n ≡ true → entriesCredible a n ≡ true → nodeOk level a n ≡ true
   unfolding nodeOk
-  node-ok a cc ag lo =
+  node-ok a cc ag lo off fine =
       all-cons _ _ node-laid (all-cons _ _ node-level (all-cons _ _ cc (all-cons _ _ rises (all-cons _ _ once (all-cons _ _ entries-up
-      (all-cons _ _ above (all-cons _ _ sizes (all-cons _ _ leaf-empty (all-cons _ _ ag (all-cons _ _ (not-below a (p .lo) (p .hi) n lo (λ k i. every-mem _ _ named-in i)) (all-cons _ _ blocks-ok all-nil)))))))))))
+      (all-cons _ _ above (all-cons _ _ sizes (all-cons _ _ leaf-empty (all-cons _ _ ag (all-cons _ _ (not-below a (p .lo) (p .hi) n lo (λ k i. every-mem _ _ named-in i)) (all-cons _ _ blocks-ok
+      (all-cons _ _ (lows-not-below a (p .lo) (p .hi) n lo lows-in) (all-cons _ _ off (all-cons _ _ fine all-nil))))))))))))))
 
   in-range : inRange p n ≡ true
   unfolding inRange n ps builtNode
-  in-range = all-cons _ _ named-in (all-cons _ _ (entries .inside) all-nil)
+  in-range = all-cons _ _ named-in (all-cons _ _ lows-in all-nil)
 
 -- nothing else is said
 pub or-none : (o : Option ℕ) → orElse o none ≡ o
@@ -220,17 +229,34 @@ module _ (room l : ℕ) (m : Store) (p : Part) (ys : List Spot) (t c w : ℕ) (e
   unfolding soundAt
   sound-here ok inside = rw (own .is) (all-cons _ _ ok (all-cons _ _ inside (all-cons _ _ sounds-here all-nil)))
 
+  -- no block is reached twice
+  reached-once : distinct (p .block ∷ gather (reach l m) (children p (builtNode room l es (band c t ys)))) ≡ true
+  unfolding builtNode
+  reached-once = rw (below .reacheds) (distinct-cons (p .block) (upTo (p .block + 1) w) (λ i. let z = upTo-from (p .block + 1) w i in omega (arith, z .0)) (upTo-distinct (p .block + 1) w))
+
+  kids-apart : standsIn (p .asked) ≡ p .block → childrenApart (p .asked) (builtNode room l es (band c t ys)) ≡ true
+  kids-apart at = children-apart l m (p .asked) (p .block) (p .lo) (p .hi) (builtNode room l es (band c t ys)) at sounds-here reached-once
+
+  kids-credible : lowOf (p .asked) ≤ p .lo → p .lo ≤ p .hi → p .hi ≤ allKeys → Entries room p c es → entriesCredible (p .asked) (builtNode room l es (band c t ys)) ≡ true
+  unfolding builtNode lowsRise
+  kids-credible lo order full entries =
+      entries-credible l m (p .asked) (p .lo) (p .hi) (builtNode room l es (band c t ys)) lo full (all-cons _ _ (entries .zero-first) (all-cons _ _ (entries .up) all-nil))
+      (steps-make es (p .lo) (p .hi) order (entries .up) (λ k i. every-mem _ _ (entries .inside) i)) (below .sounds)
+
   -- the node is as built
   pub node-good : rising (keys ys) ≡ true → every (within (p .lo) (p .hi)) (keys ys) ≡ true → Entries room p c es
       → childCountOk (p .asked) (builtNode room l es (band c t ys)) ≡ true
       → agrees (p .asked) (m (p .block)) ≡ true
       → lowOf (p .asked) ≤ p .lo
+      → standsIn (p .asked) ≡ p .block
+      → p .lo ≤ p .hi
+      → p .hi ≤ allKeys
       → Good (suc l) m p ys t (suc w)
   unfolding n ps
-  node-good up inside entries cc ag lo =
+  node-good up inside entries cc ag lo at order full =
       record {
         sound =
-            sound-here (node-ok room l p ys t c es up inside (own .most) (own .least) entries (p .asked) cc (rw (own .is) at ag) lo)
+            sound-here (node-ok room l p ys t c es up inside (own .most) (own .least) entries (p .asked) cc (rw (own .is) at ag) lo (kids-apart at) (kids-credible lo order full entries))
             (in-range room l p ys t c es up inside (own .most) (own .least) entries);
         look = look-here;
         reached = reached-here;

@@ -16,7 +16,7 @@ use Rattle.octets.proofs.Rising.{rising-rest, rising-make, rising-lower, rising
 use Rattle.octets.proofs.UpTo.{upTo-more}
 use Rattle.spot.specs.declared.Spot.{Spot}
 use Rattle.spot.specs.Spots.{keys, find}
-use Rattle.spot.specs.Keys.{rankKey, within}
+use Rattle.spot.specs.Keys.{rankKey, allKeys, within}
 use Rattle.spot.proofs.Places.{within-yes, within-low, within-from, within-to}
 use Rattle.spot.proofs.Buffers.{keys-append, find-fails}
 use Rattle.spot.proofs.Canon.{cond-none}
@@ -25,12 +25,13 @@ use Rattle.block.specs.Node.{Store}
 use Rattle.block.specs.Table.{blockOk}
 use Rattle.block.specs.declared.Asked.{Asked}
 use Rattle.block.specs.declared.Asked.the-variants.{Child}
-use Rattle.block.specs.NodeRules.{lows, tops, childCountOk, fewest, agrees}
+use Rattle.block.specs.NodeRules.{lows, tops, childCountOk, fewest, agrees, standsIn}
 use Rattle.tree.specs.Part.{Part, nextLow, parts, lowOf}
 use Rattle.tree.specs.Lookup.{down, lookup}
 use Rattle.tree.specs.Reach.{gather, reach, settled}
 use Rattle.tree.specs.Sound.{soundAt}
 use Rattle.tree.proofs.Says.{find-append}
+use Rattle.tree.proofs.Credible.{next-low}
 use Rattle.rebuild.specs.Build.{nodes, fansOk, band, builtNode, Starts, Shares, Built}
 use Rattle.rebuild.proofs.Bands.{topmost, points-band, entry-low, Good, AllGood, Entries, or-none, node-good}
 
@@ -81,14 +82,15 @@ some-within lo hi (s ∷ ss) e h =
     let w = and-left (within lo hi (s .key)) (every (within lo hi) (keys ss)) h in
     omega (arith, within-from lo hi (s .key) w, within-to lo hi (s .key) w)
 
+-- the entries left begin before the end
+starts-before : (es : List Entry) (hi : ℕ) (ss : List Spot) → Starts es ss → every (within (nextLow es hi) hi) (keys ss) ≡ true → nextLow es hi ≤ hi
+starts-before [] hi ss st h = omega arith
+starts-before (e ∷ es) hi ss st h = let z = some-within (e .low) hi ss (starts-some e es ss st) h in omega arith
+
 -- a tree has a node
 pub nodes-some : (fs : List ℕ) → 1 ≤ nodes fs
 nodes-some [] = omega arith
 nodes-some (f ∷ fs) = omega arith
-
-next-low : (es : List Entry) (hi : ℕ) → nextLow es (nextLow es hi) ≤ nextLow es hi
-next-low [] hi = omega arith
-next-low (e ∷ es) hi = omega arith
 
 block-ok : (room b : ℕ) → 1 ≤ b → b < room → blockOk room b ≡ true
 unfolding blockOk all
@@ -156,22 +158,25 @@ pub record Placed (fs : List ℕ) (room : ℕ) (m : Store) (p : Part) (ys : List
   pub inside : every (within (p .lo) (p .hi)) (keys ys) ≡ true
   pub agree : agrees (p .asked) (m (p .block)) ≡ true
   pub low : lowOf (p .asked) ≤ p .lo
+  pub own : standsIn (p .asked) ≡ p .block
+  pub order : p .lo ≤ p .hi
+  pub full : p .hi ≤ allKeys
   pub fans : fansOk (fewest (p .asked)) fs ≡ true
   pub first : 1 ≤ p .block
   pub last : p .block + nodes fs ≤ room
 
 module _ (fs : List ℕ) (room : ℕ) (m : Store) (c : ℕ) (fans : fansOk 4 fs ≡ true) (deeper : (p : Part) (ys : List Spot) → Built fs room m (p .block) ys c → Placed fs room m p ys → Good (suc (length fs)) m p ys c (nodes fs)) where
-  parts-good : (es : List Entry) (lo hi b : ℕ) (ys : List Spot) → Shares (λ b′ zs. Built fs room m b′ zs c) m (nodes fs) b es ys → nextLow es lo ≤ lo → rising (keys ys) ≡ true
+  parts-good : (es : List Entry) (lo hi b : ℕ) (ys : List Spot) → Shares (λ b′ zs. Built fs room m b′ zs c) m (nodes fs) b es ys → nextLow es lo ≤ lo → hi ≤ allKeys → rising (keys ys) ≡ true
       → every (within lo hi) (keys ys) ≡ true
       → 1 ≤ b
       → b + length es * nodes fs ≤ room
       → AllGood (suc (length fs)) m (parts lo hi es) ys c b (length es * nodes fs)
-  unfolding fewest
-  parts-good [] lo hi b ys sh fl up inside one fit =
+  unfolding fewest standsIn
+  parts-good [] lo hi b ys sh fl full up inside one fit =
       let z : 0 * nodes fs ≡ 0 = omega arith in
       record { sounds = refl; looks = λ k. rw sh (sym (cond-none (ltb (rankKey k) c))); reacheds = rw z; quiets = refl }
-  parts-good (e ∷ es) lo hi b ys sh fl up inside one fit =
-      join (parts-good es (nextLow es hi) hi (b + nodes fs) (sh .others) (sh .rest) (next-low es hi) (x .others-up) (x .others-in) (omega arith) (omega (arith, d, fit)))
+  parts-good (e ∷ es) lo hi b ys sh fl full up inside one fit =
+      join (parts-good es (nextLow es hi) hi (b + nodes fs) (sh .others) (sh .rest) (next-low es hi) full (x .others-up) (x .others-in) (omega arith) (omega (arith, d, fit)))
     where
       l : ℕ
       l = suc (length fs)
@@ -194,8 +199,10 @@ module _ (fs : List ℕ) (room : ℕ) (m : Store) (c : ℕ) (fans : fansOk 4 fs 
       here : Good (suc (length fs)) m q (sh .own) c (nodes fs)
       here =
           let at = sh .at in
+          let some = some-within lo mid (sh .own) (sh .some) (x .own-in) in
+          let end = starts-before es hi (sh .others) (sh .next) (x .others-in) in
           deeper q (sh .own) (sh .built)
-          (record { up = x .own-up; inside = x .own-in; agree = sh .agree; low = fl; fans = fans; first = omega arith; last = omega (arith, d, fit, at) })
+          (record { up = x .own-up; inside = x .own-in; agree = sh .agree; low = fl; own = refl; order = omega arith; full = omega arith; fans = fans; first = omega arith; last = omega (arith, d, fit, at) })
 
       Later : Type 0
       Later = AllGood (suc (length fs)) m (parts mid hi es) (sh .others) c (b + nodes fs) (length es * nodes fs)
@@ -239,6 +246,9 @@ built-good [] room m t p ys h pl =
     (leaf-count (p .asked) room (band 0 t ys))
     (pl .agree)
     (pl .low)
+    (pl .own)
+    (pl .order)
+    (pl .full)
 built-good (f ∷ fs) room m t p ys h pl =
     let fit : p .block + suc (f * nodes fs) ≤ room = pl .last in
     let one = pl .first in
@@ -256,6 +266,7 @@ built-good (f ∷ fs) room m t p ys h pl =
     ys
     (h .shares)
     (first-low (h .es) (h .first))
+    (pl .full)
     (pl .up)
     (pl .inside)
     (omega arith)
@@ -265,7 +276,10 @@ built-good (f ∷ fs) room m t p ys h pl =
     (entries (h .es) (h .first) (h .shares) fit′)
     (count-ok (p .asked) room (length fs) f fs (h .es) (band (h .c) t ys) n (pl .fans))
     (pl .agree)
-    (pl .low))
+    (pl .low)
+    (pl .own)
+    (pl .order)
+    (pl .full))
   where
     first-low : (es : List Entry) → nextLow es 0 ≡ 0 → nextLow es (p .lo) ≤ p .lo
     first-low [] z = omega arith

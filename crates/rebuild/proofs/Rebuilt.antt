@@ -26,7 +26,7 @@ use Rattle.block.specs.Header.{headOf}
 use Rattle.block.specs.Node.{storeOf}
 use Rattle.block.specs.Table.{mapBlocks, blocksOf}
 use Rattle.block.specs.declared.Asked.the-variants.{Root}
-use Rattle.block.specs.NodeRules.{agrees, fewest}
+use Rattle.block.specs.NodeRules.{agrees, fewest, standsIn}
 use Rattle.tree.specs.Part.{Part, whole}
 use Rattle.tree.specs.Lookup.{lookup, live, withKey, isLive}
 use Rattle.tree.specs.Reach.{reach, settled}
@@ -70,18 +70,18 @@ module _ (t : List ℕ) (ys : List Spot) (r : Rebuilt t ys) where
       shape-fits (length ys) (blocksOf (length t) - 1) (r .few) (omega (arith, header-least t (r .header))) (omega (arith, header-few t (r .header)))
 
   abbrev top : Part
-  top = record { block = 1; asked = Root; lo = 0; hi = allKeys }
+  top = record { block = 1; asked = Root 1; lo = 0; hi = allKeys }
 
   good : Good (suc (length (shape (length ys)))) (storeOf t) top ys allKeys (nodes (shape (length ys)))
-  unfolding agrees fewest
+  unfolding agrees fewest standsIn
   good =
       let f = fits .fits in
       let b = header-least t (r .header) in
       built-good (shape (length ys)) (blocksOf (length t)) (storeOf t) allKeys top ys (r .built)
-      (record { up = r .up; inside = r .keyed; agree = refl; low = omega arith; fans = fits .fans; first = omega arith; last = omega arith })
+      (record { up = r .up; inside = r .keyed; agree = refl; low = omega arith; own = refl; order = omega arith; full = omega arith; fans = fits .fans; first = omega arith; last = omega arith })
 
   is-top : whole (headOf t) ≡ top
-  is-top = λ i. record { block = r .root i; asked = Root; lo = 0; hi = allKeys }
+  is-top = λ i. record { block = r .root i; asked = Root (r .root i); lo = 0; hi = allKeys }
 
   tree-sound : soundAt (headOf t .levels) (storeOf t) (whole (headOf t)) ≡ true
   tree-sound = rw (is-top, r .levels) (good .sound)

@@ -9,49 +9,37 @@ use lib.ListN.{length, drop, length-append, length-drop}
 use lib.Seq.{drop-append-add, drop-drop}
 use borrow.Author.Tests.{not-true, not-false}
 use Rattle.octets.specs.Lists.{rising, risingFrom}
+use Rattle.octets.proofs.Tests.{refuted}
 use Rattle.spot.specs.Query.{everything}
 use Rattle.spot.specs.Spots.{keys, spotsBytes, spotsIn}
 use Rattle.spot.specs.declared.Spot.{Spot}
 use Rattle.spot.proofs.Buffers.{keys-records}
 use Rattle.spot.proofs.Stored.{length-spotsBytes}
 use Rattle.block.specs.Table.{capacity}
-use Rattle.block.specs.Header.{headOf}
 use Rattle.block.specs.Checks.{keysAt}
-use Rattle.block.proofs.Facts.{head-facts}
 use Rattle.tree.specs.Walk.{walkTable, isBroken, spots, liveSpots}
-use Rattle.tree.specs.Sound.{sound}
-use Rattle.tree.proofs.Tables.{sound-header, live-rises, count-finds, counted, live-walk}
+use Rattle.tree.proofs.Tables.{live-walk}
 use Rattle.query.specs.declared.Tally.{Tally}
-use Rattle.query.proofs.Gathered.{whole-header}
+use Rattle.renew.specs.Layable.{layable}
 use Rattle.renew.specs.Renewed.{Gathered}
+use Rattle.renew.proofs.Laying.{laid-whole, laid-rises, laid-few, laid-make}
 
--- stopped, which is so of no sound table
-gather-stops : (t w w′ : List ℕ) (r : Tally) → r .ok ≡ false → length w′ ≡ length w → drop (length t) w′ ≡ drop (length t) w → (sound t ≡ true → ⊥)
+-- stopped, where the spots can't be laid out anew
+gather-stops : (t w w′ : List ℕ) (r : Tally) → r .ok ≡ false → length w′ ≡ length w → drop (length t) w′ ≡ drop (length t) w
+    → (layable (length t) (walkTable t everything) ≡ true → ⊥)
     → Gathered t w w′ r
-gather-stops t w w′ r f l d no-sound =
-    record {
-      lent = l;
-      rest = d;
-      few = λ h. absurd (false≢true (sym f ∙ h));
-      holds = λ h. absurd (false≢true (sym f ∙ h));
-      rises = λ h. absurd (false≢true (sym f ∙ h));
-      whole = λ s. absurd (no-sound s);
-      header = λ h. f;
-    }
+gather-stops t w w′ r f l d never =
+    record { lent = l; rest = d; ok = f ∙ sym (refuted (layable (length t) (walkTable t everything)) never); holds = λ h. absurd (false≢true (sym f ∙ h)) }
 
 -- a rule is broken
 pub gather-broken : (t w : List ℕ) (r : Tally) (ok : Bool) → r .ok ≡ false → ok ≡ not (isBroken (walkTable t everything)) → ok ≡ false → Gathered t w w r
 gather-broken t w r ok f e h =
-    gather-stops t w w r f refl refl (λ s. true≢false (sym (not-false (isBroken (walkTable t everything)) (sym e ∙ h)) ∙ ap isBroken (count-finds t s .1)))
+    gather-stops t w w r f refl refl
+    (λ y. true≢false (sym (not-false (isBroken (walkTable t everything)) (sym e ∙ h)) ∙ laid-whole (length t) (walkTable t everything) y))
 
 -- there are more spots than the capacity
 pub gather-many : (t w : List ℕ) (r : Tally) (n : ℕ) → r .ok ≡ false → n ≡ length (spots (walkTable t everything)) → capacity (length t) < n → Gathered t w w r
-gather-many t w r n f e h = gather-stops t w w r f refl refl no-sound
-  where
-    no-sound : sound t ≡ true → ⊥
-    no-sound s =
-        let b = head-facts (length t) (headOf t) (sound-header t s) .bound-most in
-        omega (arith, counted t s, e, ap length (live-walk t))
+gather-many t w r n f e h = gather-stops t w w r f refl refl (λ y. omega (arith, e, h, laid-few (length t) (walkTable t everything) y))
 
 -- the spots are collected at the front of the scratch
 module _ (t w w′ : List ℕ) (all : Tally) (r : ℕ) (few : all .spots ≤ capacity (length t)) (told : all .ok ≡ not (isBroken (walkTable t everything)))
@@ -89,16 +77,16 @@ module _ (t w w′ : List ℕ) (all : Tally) (r : ℕ) (few : all .spots ≤ cap
 
   -- an identity stands there twice
   pub gather-twice : (q : Tally) (b : Bool) → q .ok ≡ false → b ≡ risingFrom 0 (keysAt w′ 12 (all .spots) 0) → b ≡ false → Gathered t w w′ q
-  gather-twice q b f e h = gather-stops t w w′ q f lent-is rest-is (λ s. true≢false (sym (live-rises t s) ∙ sym rises-are ∙ sym e ∙ h))
+  gather-twice q b f e h = gather-stops t w w′ q f lent-is rest-is (λ y. true≢false (sym (laid-rises (length t) (walkTable t everything) y) ∙ ap (λ (ss : List Spot). rising (keys ss)) (live-walk t) ∙ sym rises-are ∙ sym e ∙ h))
 
   pub gather-all : (b : Bool) → b ≡ risingFrom 0 (keysAt w′ 12 (all .spots) 0) → b ≡ true → Gathered t w w′ all
   gather-all b e h =
       record {
         lent = lent-is;
         rest = rest-is;
-        few = λ y. few;
+        ok =
+            right
+            ∙ sym (laid-make (length t) (walkTable t everything) (not-true (isBroken (walkTable t everything)) (sym told ∙ right))
+            (ap (λ (ss : List Spot). rising (keys ss)) (live-walk t) ∙ sym rises-are ∙ sym e ∙ h) (omega (arith, count, few)));
         holds = λ y. list-is;
-        rises = λ y. sym rises-are ∙ sym e ∙ h;
-        whole = λ s. right;
-        header = λ y. absurd (true≢false (sym (whole-header t everything (not-true (isBroken (walkTable t everything)) (sym told ∙ right))) ∙ y));
       }

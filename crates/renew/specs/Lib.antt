@@ -1,1 +1,2 @@
+pub mod Layable
 pub mod Renewed

@@ -2,39 +2,31 @@
 -- and t′ after, w the scratch before and w′ after.
 -- Assumes nothing.
 use mathlib.Core.Path.{_≡_}
-use Prim.Native.Nat.{ℕ, _≤_}
-use mathlib.Core.Bool.{Bool, true, false}
+use Prim.Native.Nat.{ℕ}
+use mathlib.Core.Bool.{Bool, true, false, _&&_}
 use mathlib.Core.List.{List}
 use lib.ListN.{length, drop}
-use Rattle.octets.specs.Lists.{rising}
-use Rattle.spot.specs.Spots.{keys, spotsIn}
+use Rattle.spot.specs.Query.{everything}
+use Rattle.spot.specs.Spots.{spotsIn}
 use Rattle.spot.specs.declared.Spot.{Spot}
-use Rattle.block.specs.Table.{capacity}
-use Rattle.block.specs.Header.{headOf}
-use Rattle.block.specs.HeaderRules.{headerOk}
-use Rattle.tree.specs.Walk.{liveSpots}
-use Rattle.tree.specs.Sound.{sound}
+use Rattle.tree.specs.Walk.{walkTable, liveSpots}
 use Rattle.query.specs.declared.Tally.{Tally}
 use Rattle.rebuild.specs.Build.{Rebuilt}
+use Rattle.renew.specs.Layable.{layable}
 
--- where r is ok, the live spots rise, are within the capacity, and stand at the front of the scratch
+-- r is ok exactly where the live spots can be laid out anew, and then they stand at the front of the scratch
 pub record Gathered (t w w′ : List ℕ) (r : Tally) : Type 0 where
   pub lent : length w′ ≡ length w
   -- only the first bytes of the scratch are written, no more than the table has
   pub rest : drop (length t) w′ ≡ drop (length t) w
-  pub few : r .ok ≡ true → r .spots ≤ capacity (length t)
+  pub ok : r .ok ≡ layable (length t) (walkTable t everything)
   pub holds : r .ok ≡ true → spotsIn w′ (r .spots) ≡ liveSpots t
-  pub rises : r .ok ≡ true → rising (keys (liveSpots t)) ≡ true
-  -- a sound table is never found broken, and a broken header always
-  pub whole : sound t ≡ true → r .ok ≡ true
-  pub header : headerOk (length t) (headOf t) ≡ false → r .ok ≡ false
 
--- the table holds these spots, or is as it was; `fits` says whether a sound table always takes them
+-- the table holds these spots, or is as it was; `fits` says whether they are no more than the capacity
 pub record Renewed (t t′ w w′ : List ℕ) (after : List Spot) (fits r : Bool) : Type 0 where
   pub sized : length t′ ≡ length t
   pub lent : length w′ ≡ length w
   pub rest : drop (length t) w′ ≡ drop (length t) w
+  pub is : r ≡ fits && layable (length t) (walkTable t everything)
   pub kept : r ≡ false → t′ ≡ t
   pub built : r ≡ true → Rebuilt t′ after
-  pub whole : sound t ≡ true → fits ≡ true → r ≡ true
-  pub header : headerOk (length t) (headOf t) ≡ false → r ≡ false

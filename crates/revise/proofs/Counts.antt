@@ -14,7 +14,7 @@ use Rattle.octets.specs.Lists.{rising}
 use Rattle.octets.proofs.Order.{same-or-not}
 use Rattle.spot.specs.declared.Spot.{Spot}
 use Rattle.spot.specs.Spots.{keys, find, put, without}
-use Rattle.spot.proofs.Canon.{canon, find-without, without-rises, length-put, length-without}
+use Rattle.spot.proofs.Canon.{canon, find-without, without-rises, length-put}
 use Rattle.block.specs.Table.{capacity}
 use Rattle.block.specs.Header.{headOf}
 use Rattle.tree.specs.Lookup.{orElse, live, withKey}
@@ -71,15 +71,22 @@ says-out j before e f k = ap₂ (λ ss ks. batchSays ss ks k (before k)) e f ∙
 
 -- ---- how many they are
 
+-- a key's word is known
+same-word : (k : ℕ) (o : Option ℕ) (xs : List Spot) → find k xs ≡ o → (j : ℕ) → find j xs ≡ cond (eqb j k) o (find j xs)
+same-word k o xs e j =
+    ⊎-elim (λ (g : j ≡ k). ap (λ (i : ℕ). find i xs) g ∙ e ∙ sym (rw (eq-eqb j k g))) (λ (g : j ≡ k → ⊥). rw (ne-eqb j k g)) (same-or-not j k)
+
 -- a key that is there is one of them
 out-fewer : (k a : ℕ) (xs : List Spot) → rising (keys xs) ≡ true → find k xs ≡ some a → length xs ≡ suc (length (without k xs))
 out-fewer k a xs u e =
     let s : Spot = record { key = k; track = a } in
-    let same : (j : ℕ) → find j xs ≡ cond (eqb j k) (some a) (find j xs) =
-    λ j. ⊎-elim (λ (g : j ≡ k). ap (λ (i : ℕ). find i xs) g ∙ e ∙ sym (rw (eq-eqb j k g))) (λ (g : j ≡ k → ⊥). rw (ne-eqb j k g)) (same-or-not j k) in
-    ap length (canon 0 xs (put s (without k xs)) u (replaced-rises s xs u) (λ j. same j ∙ sym (find-replaced j s xs))) ∙ length-put s (without k xs)
+    ap length (canon 0 xs (put s (without k xs)) u (replaced-rises s xs u) (λ j. same-word k (some a) xs e j ∙ sym (find-replaced j s xs))) ∙ length-put s (without k xs)
 
-live-are : (t : List ℕ) → liveCount t ≡ length (liveSpots t)
+-- one that is not is none of them
+out-none : (k : ℕ) (xs : List Spot) → rising (keys xs) ≡ true → find k xs ≡ none → without k xs ≡ xs
+out-none k xs u e = canon 0 (without k xs) xs (without-rises 0 k xs u) u (λ j. find-without j k xs ∙ sym (same-word k none xs e j))
+
+pub live-are : (t : List ℕ) → liveCount t ≡ length (liveSpots t)
 unfolding liveCount
 live-are t = refl
 
@@ -88,16 +95,17 @@ module _ (t : List ℕ) (h : sound t ≡ true) where
   count-most = omega (arith, live-are t, counted t h)
 
   module _ (s : Spot) where
-    pub put-most : length (put s (without (s .key) (liveSpots t))) ≤ liveCount t + 1
-    put-most = omega (arith, live-are t, length-put s (without (s .key) (liveSpots t)), length-without (s .key) (liveSpots t))
+    pub put-new : live t (s .key) ≡ none → length (put s (without (s .key) (liveSpots t))) ≡ liveCount t + 1
+    put-new e =
+        omega (arith, live-are t, length-put s (without (s .key) (liveSpots t)), ap length (out-none (s .key) (liveSpots t) (live-rises t h) (live-finds t h (s .key) ∙ e)))
 
     pub put-same : {a : ℕ} → live t (s .key) ≡ some a → length (put s (without (s .key) (liveSpots t))) ≡ liveCount t
     put-same {a} e =
         omega (arith, live-are t, length-put s (without (s .key) (liveSpots t)), out-fewer (s .key) a (liveSpots t) (live-rises t h) (live-finds t h (s .key) ∙ e))
 
   module _ (k : ℕ) where
-    pub out-less : {a : ℕ} → live t k ≡ some a → length (without k (liveSpots t)) + 1 ≤ liveCount t
-    out-less {a} e = omega (arith, live-are t, out-fewer k a (liveSpots t) (live-rises t h) (live-finds t h k ∙ e))
+    pub out-one : {a : ℕ} → live t k ≡ some a → length (without k (liveSpots t)) + 1 ≡ liveCount t
+    out-one {a} e = omega (arith, live-are t, out-fewer k a (liveSpots t) (live-rises t h) (live-finds t h k ∙ e))
 
 -- ---- the number of Add
 

@@ -17,17 +17,26 @@ use Rattle.tree.specs.Lookup.{live, withKey}
 use Rattle.tree.specs.Sound.{sound}
 use Rattle.tree.specs.Walk.{liveSpots}
 use Rattle.tree.proofs.Tables.{sound-from}
-use Rattle.rebuild.proofs.Rebuilt.{rebuilt-live, rebuilt-sound}
+use Rattle.rebuild.proofs.Rebuilt.{rebuilt-live, rebuilt-spots, rebuilt-sound}
 use Rattle.batch.specs.Batches.{batchSays}
 use Rattle.change.specs.Changing.{ChangedBy}
+use Rattle.change.specs.declared.Outcome.{Outcome}
+use Rattle.change.specs.declared.Outcome.the-variants.{Done, NoRoom, Broken}
 use Rattle.renew.specs.Renewed.{Renewed}
+use Rattle.renew.proofs.Renewing.{renewed-whole}
 use Rattle.revise.specs.Revising.{Lent, Leaves, Within}
-use Rattle.revise.proofs.Counts.{Planned, planned-put, planned-out, spots-are, says-put, says-out}
+use Rattle.revise.proofs.Counts.{Planned, planned-put, planned-out, spots-are, live-are, says-put, says-out}
 
-module _ {t t₁ w w₁ : List ℕ} {ss : List Spot} {ks : List ℕ} {bound : ℕ} {r : Bool} (g : ChangedBy t t₁ w w₁ ss ks bound r) {ys : List Spot} {after : ℕ → Option ℕ}
+no-room-not-done : {r : Outcome} → r ≡ NoRoom → r ≡ Done → ⊥
+no-room-not-done e d = let z : _≡_ {A = ℕ} 0 1 = cc in omega arith
+
+broken-not-done : {r : Outcome} → r ≡ Broken → r ≡ Done → ⊥
+broken-not-done e d = let z : _≡_ {A = ℕ} 0 1 = cc in omega arith
+
+module _ {t t₁ w w₁ : List ℕ} {ss : List Spot} {ks : List ℕ} {bound : ℕ} {r : Outcome} (g : ChangedBy t t₁ w w₁ ss ks bound r) {ys : List Spot} {after : ℕ → Option ℕ}
     (p : Planned t ys after) where
   -- the tree took it
-  pub within-tree : r ≡ true → ((k : ℕ) → batchSays ss ks k (live t k) ≡ after k) → Within t t₁ w w₁ bound (length ys) after 0
+  pub within-tree : r ≡ Done → ((k : ℕ) → batchSays ss ks k (live t k) ≡ after k) → Within t t₁ w w₁ bound (length ys) after 0
   within-tree e says =
       record {
         leaves =
@@ -43,6 +52,7 @@ module _ {t t₁ w w₁ : List ℕ} {ss : List Spot} {ks : List ℕ} {bound : �
         accepted = λ s f. refl;
         staysSound = λ s f. sound-from t₁ (g .shaped e s) (omega (arith, f, ap length (spots s), g .boundIs e));
         liveAfter = λ s f. lives s;
+        exact = λ s f. g .boundIs e ∙ sym f ∙ sym (live-are t₁ ∙ ap length (spots s));
       }
     where
       lives : sound t ≡ true → (k : ℕ) → live t₁ k ≡ after k
@@ -51,8 +61,28 @@ module _ {t t₁ w w₁ : List ℕ} {ss : List Spot} {ks : List ℕ} {bound : �
       spots : sound t ≡ true → liveSpots t₁ ≡ ys
       spots s = spots-are p s (g .shaped e s) (lives s)
 
-  -- it did not, and the table is as it was
-  module _ (e : r ≡ false) {t₂ w₂ : List ℕ} {fits q : Bool} (a : Renewed t t₂ w₁ w₂ ys fits q) where
+  -- a block that it read breaks a rule
+  pub within-lost : r ≡ Broken → Within t t₁ w w₁ bound (length ys) after 3
+  within-lost e =
+      record {
+        leaves =
+            record {
+              sized = g .sized;
+              lentLength = g .lentLength;
+              rest = g .rest;
+              kept = λ n. g .kept (broken-not-done e);
+              untouched = λ n. let z : ⊥ = omega arith in absurd z;
+              light = λ s y. g .light y;
+            };
+        numbers = refl;
+        accepted = λ s f. absurd (g .whole s e);
+        staysSound = λ s f. absurd (g .whole s e);
+        liveAfter = λ s f. absurd (g .whole s e);
+        exact = λ s f. absurd (g .whole s e);
+      }
+
+  -- it had no room, and the table is as it was
+  module _ (e : r ≡ NoRoom) {t₂ w₂ : List ℕ} {fits q : Bool} (a : Renewed t t₂ w₁ w₂ ys fits q) where
     leaves-anew : {n : ℕ} → (n ≢ 0 → t₂ ≡ t) → n ≢ 4 → Leaves t t₂ w w₂ n
     leaves-anew k d =
         record {
@@ -61,7 +91,7 @@ module _ {t t₁ w w₁ : List ℕ} {ss : List Spot} {ks : List ℕ} {bound : �
           rest = a .rest ∙ g .rest;
           kept = k;
           untouched = λ n. absurd (d n);
-          light = λ s y. absurd (true≢false (sym (g .ready s y) ∙ e));
+          light = λ s y. absurd (no-room-not-done e (g .ready s y));
         }
 
     pub within-anew : q ≡ true → Within t t₂ w w₂ bound (length ys) after 0
@@ -72,6 +102,7 @@ module _ {t t₁ w w₁ : List ℕ} {ss : List Spot} {ks : List ℕ} {bound : �
           accepted = λ s f. refl;
           staysSound = λ s f. rebuilt-sound t₂ ys (a .built y);
           liveAfter = λ s f k. rebuilt-live t₂ ys (a .built y) k ∙ p .finds s k;
+          exact = λ s f. a .built y .bound ∙ sym (live-are t₂ ∙ ap length (rebuilt-spots t₂ ys (a .built y)));
         }
 
     pub within-broken : q ≡ false → (length ys ≤ bound → fits ≡ true) → Within t t₂ w w₂ bound (length ys) after 3
@@ -82,13 +113,14 @@ module _ {t t₁ w w₁ : List ℕ} {ss : List Spot} {ks : List ℕ} {bound : �
           accepted = λ s f. absurd (stuck s f);
           staysSound = λ s f. absurd (stuck s f);
           liveAfter = λ s f. absurd (stuck s f);
+          exact = λ s f. absurd (stuck s (omega (arith, f)));
         }
       where
         stuck : sound t ≡ true → length ys ≤ bound → ⊥
-        stuck s f = true≢false (sym (a .whole s (room f)) ∙ y)
+        stuck s f = true≢false (sym (renewed-whole a s (room f)) ∙ y)
 
 -- the change may be followed by a renewal
-pub lent-again : {t t₁ w w₁ : List ℕ} {ss : List Spot} {ks : List ℕ} {bound : ℕ} {r : Bool} → Lent t w → ChangedBy t t₁ w w₁ ss ks bound r
+pub lent-again : {t t₁ w w₁ : List ℕ} {ss : List Spot} {ks : List ℕ} {bound : ℕ} {r : Outcome} → Lent t w → ChangedBy t t₁ w w₁ ss ks bound r
     → (tableSized (length t₁) ≡ true) × (length t₁ ≤ length w₁)
 lent-again l g = (ap tableSized (g .sized) ∙ l .sized, omega (arith, g .sized, g .lentLength, l .room))
 
@@ -100,13 +132,16 @@ withSpot s t = put s (without (s .key) (liveSpots t))
 abbrev pub PutWithin : List ℕ → List ℕ → List ℕ → List ℕ → Spot → ℕ → ℕ → Type 0
 PutWithin t t′ w w′ s bound n = Within t t′ w w′ bound (length (put s (without (s .key) (liveSpots t)))) (withKey (s .key) (some (s .track)) (live t)) n
 
-module _ {t t₁ w w₁ : List ℕ} {ss : List Spot} {ks : List ℕ} {bound : ℕ} {r : Bool} (s : Spot) (g : ChangedBy t t₁ w w₁ ss ks bound r) where
-  pub put-tree : ss ≡ s ∷ [] → ks ≡ [] → r ≡ true → PutWithin t t₁ w w₁ s bound 0
+module _ {t t₁ w w₁ : List ℕ} {ss : List Spot} {ks : List ℕ} {bound : ℕ} {r : Outcome} (s : Spot) (g : ChangedBy t t₁ w w₁ ss ks bound r) where
+  pub put-tree : ss ≡ s ∷ [] → ks ≡ [] → r ≡ Done → PutWithin t t₁ w w₁ s bound 0
   put-tree e f y = within-tree g (planned-put t s) y (says-put s (live t) e f)
 
-  module _ (n : r ≡ false) {t₂ w₂ : List ℕ} {q : Bool} (a : Renewed t₁ t₂ w₁ w₂ (withSpot s t₁) (leb (length (withSpot s t₁)) (capacity (length t₁))) q) where
+  pub put-lost : r ≡ Broken → PutWithin t t₁ w w₁ s bound 3
+  put-lost y = within-lost g (planned-put t s) y
+
+  module _ (n : r ≡ NoRoom) {t₂ w₂ : List ℕ} {q : Bool} (a : Renewed t₁ t₂ w₁ w₂ (withSpot s t₁) (leb (length (withSpot s t₁)) (capacity (length t₁))) q) where
     as-was : Renewed t t₂ w₁ w₂ (withSpot s t) (leb (length (withSpot s t)) (capacity (length t))) q
-    as-was = subst (λ (x : List ℕ). Renewed x t₂ w₁ w₂ (withSpot s x) (leb (length (withSpot s x)) (capacity (length x))) q) (g .kept n) a
+    as-was = subst (λ (x : List ℕ). Renewed x t₂ w₁ w₂ (withSpot s x) (leb (length (withSpot s x)) (capacity (length x))) q) (g .kept (no-room-not-done n)) a
 
     pub put-anew : q ≡ true → PutWithin t t₂ w w₂ s bound 0
     put-anew y = within-anew g (planned-put t s) n as-was y
@@ -119,13 +154,16 @@ module _ {t t₁ w w₁ : List ℕ} {ss : List Spot} {ks : List ℕ} {bound : �
 abbrev pub OutWithin : List ℕ → List ℕ → List ℕ → List ℕ → ℕ → ℕ → ℕ → Type 0
 OutWithin t t′ w w′ k bound n = Within t t′ w w′ bound (length (without k (liveSpots t))) (withKey k none (live t)) n
 
-module _ {t t₁ w w₁ : List ℕ} {ss : List Spot} {ks : List ℕ} {bound : ℕ} {r : Bool} (k : ℕ) (g : ChangedBy t t₁ w w₁ ss ks bound r) where
-  pub out-tree : ss ≡ [] → ks ≡ k ∷ [] → r ≡ true → OutWithin t t₁ w w₁ k bound 0
+module _ {t t₁ w w₁ : List ℕ} {ss : List Spot} {ks : List ℕ} {bound : ℕ} {r : Outcome} (k : ℕ) (g : ChangedBy t t₁ w w₁ ss ks bound r) where
+  pub out-tree : ss ≡ [] → ks ≡ k ∷ [] → r ≡ Done → OutWithin t t₁ w w₁ k bound 0
   out-tree e f y = within-tree g (planned-out t k) y (says-out k (live t) e f)
 
-  module _ (n : r ≡ false) {t₂ w₂ : List ℕ} {q : Bool} (a : Renewed t₁ t₂ w₁ w₂ (without k (liveSpots t₁)) true q) where
+  pub out-lost : r ≡ Broken → OutWithin t t₁ w w₁ k bound 3
+  out-lost y = within-lost g (planned-out t k) y
+
+  module _ (n : r ≡ NoRoom) {t₂ w₂ : List ℕ} {q : Bool} (a : Renewed t₁ t₂ w₁ w₂ (without k (liveSpots t₁)) true q) where
     out-was : Renewed t t₂ w₁ w₂ (without k (liveSpots t)) true q
-    out-was = subst (λ (x : List ℕ). Renewed x t₂ w₁ w₂ (without k (liveSpots x)) true q) (g .kept n) a
+    out-was = subst (λ (x : List ℕ). Renewed x t₂ w₁ w₂ (without k (liveSpots x)) true q) (g .kept (no-room-not-done n)) a
 
     pub out-anew : q ≡ true → OutWithin t t₂ w w₂ k bound 0
     out-anew y = within-anew g (planned-out t k) n out-was y

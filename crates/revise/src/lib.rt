@@ -1,4 +1,4 @@
-// One spot put in or taken out: first in the tree, and where that does not go, by laying the live spots out anew.
+// One spot put in or taken out: first in the tree, and where that has no room, by laying the live spots out anew.
 ghost use mathlib.Core.Path.{_≡_};
 ghost use mathlib.Core.Bool.{true};
 ghost use mathlib.Core.List.{[], _∷_};
@@ -12,6 +12,8 @@ ghost use Rattle.block.specs.HeaderRules.{headerOk};
 ghost use Rattle.revise.specs.Numbers.{addNumber};
 ghost use Rattle.tree.specs.Lookup.{live, isLive, withKey};
 ghost use Rattle.tree.specs.Walk.{liveSpots, liveCount};
+ghost use Rattle.lookup.specs.Answers.{lookedUp};
+ghost use Rattle.lookup.specs.declared.Looked.the-variants.{Nothing};
 ghost use Rattle.revise.specs.Revising.{Lent, Within, Revised};
 
 // The spot put in, where the live spots are then no more than the bound.
@@ -21,19 +23,22 @@ fn put_within(table: &mut [u8], scratch: &mut [u8], s: spot::Spot, bound: u64) -
 {
     let one = buffer::push(buffer::empty(), s);
     let none = buffer::empty_keys();
-    if change::change(table, scratch, one, none, bound) {
-        return 0;
+    match change::change(table, scratch, one, none, bound) {
+        change::Outcome::Done => 0,
+        change::Outcome::Broken => 3,
+        change::Outcome::NoRoom => {
+            if renew::with_spot(table, scratch, s) {
+                return 0;
+            }
+            3
+        }
     }
-    if renew::with_spot(table, scratch, s) {
-        return 0;
-    }
-    3
 }
 
 // The spot put in, where the bound is at capacity and its key is not live: the live spots are counted.
 fn put_counted(table: &mut [u8], scratch: &mut [u8], s: spot::Spot) -> u32
-    requires { ⌜ Lent (now table) (now scratch) × (headerOk (length (now table)) (headOf (now table)) ≡ true) × (live (now table) (s .key) ≡ none) ⌝ }
-    ensures { λ r. ⌜ Revised (now (table .entry)) (now (table .exit)) (now (scratch .entry)) (now (scratch .exit)) (addNumber (length (now (table .entry))) (liveCount (now (table .entry))) (isLive (live (now (table .entry)) (s .key)))) (0 ∷ 3 ∷ 4 ∷ []) (withKey (s .key) (some (s .track)) (live (now (table .entry)))) r ⌝ }
+    requires { ⌜ Lent (now table) (now scratch) × (headerOk (length (now table)) (headOf (now table)) ≡ true) × (lookedUp (now table) (s .key) ≡ Nothing) ⌝ }
+    ensures { λ r. ⌜ Revised (now (table .entry)) (now (table .exit)) (now (scratch .entry)) (now (scratch .exit)) (s .key) (addNumber (length (now (table .entry))) (liveCount (now (table .entry))) (isLive (live (now (table .entry)) (s .key)))) (0 ∷ 3 ∷ 4 ∷ []) (withKey (s .key) (some (s .track)) (live (now (table .entry)))) r ⌝ }
 {
     let mut seen = [0u8; 512];
     let everything = spot::Query {
@@ -55,14 +60,14 @@ fn put_counted(table: &mut [u8], scratch: &mut [u8], s: spot::Spot) -> u32
 // the number of live spots, and whether the table is full is counted only where it is at capacity.
 pub fn put_spot(table: &mut [u8], scratch: &mut [u8], s: spot::Spot) -> u32
     requires { ⌜ Lent (now table) (now scratch) ⌝ }
-    ensures { λ r. ⌜ Revised (now (table .entry)) (now (table .exit)) (now (scratch .entry)) (now (scratch .exit)) (addNumber (length (now (table .entry))) (liveCount (now (table .entry))) (isLive (live (now (table .entry)) (s .key)))) (0 ∷ 3 ∷ 4 ∷ []) (withKey (s .key) (some (s .track)) (live (now (table .entry)))) r ⌝ }
+    ensures { λ r. ⌜ Revised (now (table .entry)) (now (table .exit)) (now (scratch .entry)) (now (scratch .exit)) (s .key) (addNumber (length (now (table .entry))) (liveCount (now (table .entry))) (isLive (live (now (table .entry)) (s .key)))) (0 ∷ 3 ∷ 4 ∷ []) (withKey (s .key) (some (s .track)) (live (now (table .entry)))) r ⌝ }
 {
     if !block::header_ok(table) {
         return 3;
     }
     let bound = block::bound_of(table);
     match lookup::look_up(table, s.key) {
-        lookup::Looked::Broken => 3,
+        lookup::Looked::Broken => 3, // whether the key is live can't be said
         lookup::Looked::Live(_) => put_within(table, scratch, s, bound),
         lookup::Looked::Nothing => {
             if bound < block::capacity_of(table.len()) as u64 {
@@ -80,19 +85,22 @@ fn take_within(table: &mut [u8], scratch: &mut [u8], k: u64, bound: u64) -> u32
 {
     let none = buffer::empty();
     let one = buffer::push_key(buffer::empty_keys(), k);
-    if change::change(table, scratch, none, one, bound) {
-        return 0;
+    match change::change(table, scratch, none, one, bound) {
+        change::Outcome::Done => 0,
+        change::Outcome::Broken => 3,
+        change::Outcome::NoRoom => {
+            if renew::without_key(table, scratch, k) {
+                return 0;
+            }
+            3
+        }
     }
-    if renew::without_key(table, scratch, k) {
-        return 0;
-    }
-    3
 }
 
 // Withdraw: nothing is written where the key is not live. The bound falls with one that is, so that it stays the number of live spots; it is 0 there only if it was wrong before.
 pub fn take_key(table: &mut [u8], scratch: &mut [u8], k: u64) -> u32
     requires { ⌜ Lent (now table) (now scratch) ⌝ }
-    ensures { λ r. ⌜ Revised (now (table .entry)) (now (table .exit)) (now (scratch .entry)) (now (scratch .exit)) 0 (0 ∷ 3 ∷ []) (withKey k none (live (now (table .entry)))) r ⌝ }
+    ensures { λ r. ⌜ Revised (now (table .entry)) (now (table .exit)) (now (scratch .entry)) (now (scratch .exit)) k 0 (0 ∷ 3 ∷ []) (withKey k none (live (now (table .entry)))) r ⌝ }
 {
     if !block::header_ok(table) {
         return 3;

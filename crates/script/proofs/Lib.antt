@@ -1,4 +1,5 @@
 pub mod Cases
+pub mod Fronts
 pub mod Turns
 pub mod Logs
 pub mod Whole

@@ -10,8 +10,9 @@ use Rattle.tree.specs.Sound.{sound}
 use Rattle.table.specs.Calls.{Call, format, add, withdraw, report, top, count, check, rebuild, Lengths}
 use Rattle.table.specs.Model.{PlainSpot, Reply, takenOut, broughtIn, asBytes, outputAfter, refuse, accept, badTable, shortScratch, full, reply, fourBytes}
 use Rattle.table.specs.History.{Event, History, AllAgreed, isQuery, replyIn}
-use Rattle.script.specs.Script.{logAfter}
-use Rattle.script.specs.Run.{entry, Held, heldAfter, passed, InTurn, AllInTurn, callsMade, entries}
+use Rattle.script.specs.Script.{Step, lentTo, logAfter}
+use Rattle.script.specs.Run.{entry, Held, heldAfter, passed, outputOf, InTurn, AllInTurn, entries}
+use Rattle.script.proofs.Fronts.{drop-lent}
 
 -- ---- a call that is no query hands out nothing
 
@@ -52,9 +53,11 @@ output-stays r out e = ap (λ (g : List PlainSpot). asBytes g ++ drop (12 * leng
 -- ---- each event of a run
 
 module _ (l : Lengths) where
-  pub history-of : (h : Held) (es : List Event) → AllInTurn l h es → History (h .table) es
-  history-of h [] a = tt
-  history-of h (e ∷ es) a = (a .0 .called .fit, a .0 .called .met, history-of (passed (l .output) h e) es (a .1))
+  pub history-of : (h : Held) (cs : List Step) (es : List Event) → AllInTurn l h cs es → History (h .table) es
+  history-of h [] [] a = tt
+  history-of h [] (e ∷ es) a = absurd a
+  history-of h (c ∷ cs) [] a = absurd a
+  history-of h (c ∷ cs) (e ∷ es) a = (a .0 .called .fit, a .0 .called .met, history-of (passed (l .output) h e) cs es (a .1))
 
   -- the last table is sound
   pub ends-sound : (h : Held) (ss : List PlainSpot) (es : List Event) → sound (h .table) ≡ true → AllAgreed (h .table) ss es
@@ -62,9 +65,9 @@ module _ (l : Lengths) where
   ends-sound h ss [] s g = s
   ends-sound h ss (e ∷ es) s g = ends-sound (passed (l .output) h e) (replyIn (e .call) (h .table) ss e .next) es (g .0 .staysSound) (g .3)
 
-  module _ (h : Held) (ss : List PlainSpot) (e : Event) (i : InTurn l h e) where
-    reply-is : replyIn (e .call) (h .table) ss e ≡ reply l (e .call) ss
-    reply-is = ap (λ (k : Lengths). reply k (e .call) ss) (i .lent)
+  module _ (h : Held) (ss : List PlainSpot) (c : Step) (e : Event) (i : InTurn l h c e) where
+    reply-is : replyIn (e .call) (h .table) ss e ≡ reply (lentTo c l) (c .call) ss
+    reply-is = ap₂ (λ (k : Lengths) (x : Call). reply k x ss) (i .lent) (i .call)
 
     -- the output of any call is left as the model says
     output-left : (isQuery (e .call) ≡ true → e .output′ ≡ outputAfter (replyIn (e .call) (h .table) ss e) (e .output))
@@ -75,29 +78,36 @@ module _ (l : Lengths) where
         go true q = p q
         go false q = i .called .outputKept q ∙ sym (output-stays (replyIn (e .call) (h .table) ss e) (e .output) (hands-none _ (e .call) ss q))
 
-    -- the model's entry for its call
+    -- the model's entry for its step
     due : List ℕ
     due =
-        let r = reply l (e .call) ss in
-        fourBytes (r .answer .number) ++ fourBytes (r .answer .detail) ++ outputAfter r (take (l .output) (drop 8 (h .log)))
+        let r = reply (lentTo c l) (c .call) ss in
+        fourBytes (r .answer .number) ++ fourBytes (r .answer .detail) ++
+        (outputAfter r (take (c .output) (outputOf (l .output) h)) ++ drop (c .output) (outputOf (l .output) h))
+
+    -- the bytes behind what was lent
+    rest-is : drop (length (e .output)) (outputOf (l .output) h) ≡ drop (c .output) (outputOf (l .output) h)
+    rest-is = ap (λ (x : List ℕ). drop (length x) (outputOf (l .output) h)) (i .output) ∙ drop-lent (c .output) (outputOf (l .output) h)
 
     entry-due : e .answer ≡ replyIn (e .call) (h .table) ss e .answer → e .output′ ≡ outputAfter (replyIn (e .call) (h .table) ss e) (e .output)
-        → entry e ≡ due
+        → entry (outputOf (l .output) h) e ≡ due
     unfolding due
     entry-due p o =
         ap₂ (λ (a : Answer) (x : List ℕ). fourBytes (a .number) ++ fourBytes (a .detail) ++ x)
         (p ∙ ap (λ (r : Reply). r .answer) reply-is)
-        (o ∙ ap₂ (λ (r : Reply) (x : List ℕ). outputAfter r x) reply-is (i .output))
+        (ap₂ (λ (x y : List ℕ). x ++ y) (o ∙ ap₂ (λ (r : Reply) (x : List ℕ). outputAfter r x) reply-is (i .output)) rest-is)
 
   -- a run whose events all agree with the model writes the model's log
-  pub as-model : (h : Held) (ss : List PlainSpot) (es : List Event) → AllInTurn l h es → AllAgreed (h .table) ss es
-      → entries es ++ heldAfter (l .output) h es .log ≡ logAfter l (callsMade es) ss (h .log)
+  pub as-model : (h : Held) (ss : List PlainSpot) (cs : List Step) (es : List Event) → AllInTurn l h cs es → AllAgreed (h .table) ss es
+      → entries (l .output) h es ++ heldAfter (l .output) h es .log ≡ logAfter l cs ss (h .log)
   unfolding due
-  as-model h ss [] a g = refl
-  as-model h ss (e ∷ es) a g =
+  as-model h ss [] [] a g = refl
+  as-model h ss [] (e ∷ es) a g = absurd a
+  as-model h ss (c ∷ cs) [] a g = absurd a
+  as-model h ss (c ∷ cs) (e ∷ es) a g =
       let room : ℕ = 8 + l .output in
       let rest : Held = passed (l .output) h e in
-      append-assoc (entry e) (entries es) (heldAfter (l .output) rest es .log)
-      ∙ ap₂ (λ (x y : List ℕ). x ++ y) (entry-due h ss e (a .0) (g .0 .answer) (output-left h ss e (a .0) (g .0 .output)))
-      (as-model rest (replyIn (e .call) (h .table) ss e .next) es (a .1) (g .3)
-      ∙ ap (λ (r : Reply). logAfter l (callsMade es) (r .next) (drop room (h .log))) (reply-is h ss e (a .0)))
+      append-assoc (entry (outputOf (l .output) h) e) (entries (l .output) rest es) (heldAfter (l .output) rest es .log)
+      ∙ ap₂ (λ (x y : List ℕ). x ++ y) (entry-due h ss c e (a .0) (g .0 .answer) (output-left h ss c e (a .0) (g .0 .output)))
+      (as-model rest (replyIn (e .call) (h .table) ss e .next) cs es (a .1) (g .3)
+      ∙ ap (λ (r : Reply). logAfter l cs (r .next) (drop room (h .log))) (reply-is h ss c e (a .0)))

@@ -2,14 +2,14 @@
 -- Assumes nothing.
 use mathlib.Core.Path.{_≡_, refl, sym, ap, ap₂, subst, _∙_}
 use mathlib.Core.List.{List, [], _∷_, _++_, append-assoc, append-nil}
-use Prim.Native.Nat.{ℕ, zero, suc, _+_, _-_, _*_, _≤_, _<_}
+use Prim.Native.Nat.{ℕ, zero, suc, _+_, _-_, _*_, _≤_, _<_, min}
 use native.Mathlib.Nat.{zero-add, suc-add}
 use native.Mathlib.Numerals.{add-one}
 use native.Mathlib.Omega.{arith}
 use lib.ListN.{length, take, drop, length-append, length-take, length-drop}
 use lib.Seq.{take-at, drop-at, take-all, take-nil, drop-length, length-take-le}
 use borrow.Rule.Slice.PartMut.{midOf, postOf, putMid, same-len-mid}
-use Rattle.octets.specs.Bytes.{putBe, bytesOf}
+use Rattle.octets.specs.Bytes.{be, putBe, bytesOf}
 use Rattle.octets.proofs.Bytes.{put-eq, put-length, drop-put-be, length-bytesOf}
 use Rattle.octets.proofs.Order.{stride}
 use Rattle.octets.proofs.Records.{records-more}
@@ -18,8 +18,9 @@ use Rattle.table.specs.Calls.{Call, Lengths}
 use Rattle.table.specs.Model.{fourBytes}
 use Rattle.table.specs.History.{Event}
 use Rattle.table.proofs.Orders.{four-bytes}
-use Rattle.script.specs.Script.{callAt, callsOf}
-use Rattle.script.specs.Run.{Called, eventOf, entry, Turned, Held, held, passed, heldAfter, InTurn, AllInTurn, callsMade, entries, Run, lengthsIn}
+use Rattle.script.specs.Script.{Step, callAt, stepAt, stepsOf, lentTo}
+use Rattle.script.specs.Run.{Called, eventOf, eventIn, Lent, entry, Turned, Held, held, outputOf, passed, heldAfter, InTurn, AllInTurn, entries, Run, lengthsIn}
+use Rattle.script.proofs.Fronts.{put-back, front-lent, front-left, rest-left}
 
 -- ---- one event more at the end
 
@@ -27,18 +28,28 @@ one-held : (room : ℕ) (h : Held) (es : List Event) (e : Event) → heldAfter r
 one-held room h [] e = refl
 one-held room h (x ∷ es) e = one-held room (passed room h x) es e
 
-one-in-turn : (l : Lengths) (h : Held) (es : List Event) (e : Event) → AllInTurn l h es → InTurn l (heldAfter (l .output) h es) e
-    → AllInTurn l h (es ++ (e ∷ []))
-one-in-turn l h [] e a p = (p, tt)
-one-in-turn l h (x ∷ es) e a p = (a .0, one-in-turn l (passed (l .output) h x) es e (a .1) p)
+one-in-turn : (l : Lengths) (h : Held) (cs : List Step) (es : List Event) (c : Step) (e : Event) → AllInTurn l h cs es
+    → InTurn l (heldAfter (l .output) h es) c e
+    → AllInTurn l h (cs ++ (c ∷ [])) (es ++ (e ∷ []))
+one-in-turn l h [] [] c e a p = (p, tt)
+one-in-turn l h [] (x ∷ es) c e a p = absurd a
+one-in-turn l h (b ∷ cs) [] c e a p = absurd a
+one-in-turn l h (b ∷ cs) (x ∷ es) c e a p = (a .0, one-in-turn l (passed (l .output) h x) cs es c e (a .1) p)
 
-one-made : (es : List Event) (e : Event) → callsMade (es ++ (e ∷ [])) ≡ callsMade es ++ (e .call ∷ [])
-one-made [] e = refl
-one-made (x ∷ es) e = ap (λ (cs : List Call). x .call ∷ cs) (one-made es e)
+one-entry : (room : ℕ) (h : Held) (es : List Event) (e : Event)
+    → entries room h (es ++ (e ∷ [])) ≡ entries room h es ++ entry (outputOf room (heldAfter room h es)) e
+one-entry room h [] e = append-nil (entry (outputOf room h) e)
+one-entry room h (x ∷ es) e =
+    let after : Held = heldAfter room (passed room h x) es in
+    ap (λ (l : List ℕ). entry (outputOf room h) x ++ l) (one-entry room (passed room h x) es e)
+    ∙ sym (append-assoc (entry (outputOf room h) x) (entries room (passed room h x) es) (entry (outputOf room after) e))
 
-one-entry : (es : List Event) (e : Event) → entries (es ++ (e ∷ [])) ≡ entries es ++ entry e
-one-entry [] e = append-nil (entry e)
-one-entry (x ∷ es) e = ap (λ (l : List ℕ). entry x ++ l) (one-entry es e) ∙ sym (append-assoc (entry x) (entries es) (entry e))
+-- one step more
+one-step : (script : List ℕ) (i : ℕ) → stepsOf script i ++ (stepAt script (28 * i) ∷ []) ≡ stepsOf script (i + 1)
+one-step script i =
+    ap (λ (n : ℕ). stepsOf script i ++ (stepAt script n ∷ [])) (sym (zero-add (28 * i)))
+    ∙ sym (records-more (stepAt script) 28 i 0)
+    ∙ ap (stepsOf script) (sym (add-one i))
 
 -- ---- parts of lists
 
@@ -75,9 +86,45 @@ module _ (p o : List ℕ) (h : 8 ≤ length p) where
   put-long : length o ≡ length (midOf 8 (length p - 8) p) → 8 ≤ length (putMid 8 (length p - 8) p o)
   put-long e = omega (arith, same-len-mid 8 (length p - 8) p o e)
 
--- one turn: the call, on what lies behind the answer's place, and then the answer
-pub turned : (c : Call) (t w m p : List ℕ) (r : Answer) (t′ w′ m′ o u v : List ℕ) → 8 ≤ length p → length o ≡ length (midOf 8 (length p - 8) p)
-    → Called t (eventOf c w m (midOf 8 (length p - 8) p) r t′ w′ m′ o)
+same-event : (c : Call) (r : Answer) (t′ w m out w′ m′ out′ a b d a′ b′ d′ : List ℕ) → w ≡ a → m ≡ b → out ≡ d → w′ ≡ a′ → m′ ≡ b′ → out′ ≡ d′
+    → eventOf c w m out r t′ w′ m′ out′ ≡ eventOf c a b d r t′ a′ b′ d′
+same-event c r t′ w m out w′ m′ out′ a b d a′ b′ d′ ea eb ed ea′ eb′ ed′ = rw (ea, eb, ed, ea′, eb′, ed′)
+
+-- one step: the call, lent the first i bytes of the scratch, j of the read map and k of the output
+pub lent : (s : List ℕ) (at : ℕ) (t w m out : List ℕ) (r : Answer) (t′ w′ m′ out′ : List ℕ) (i j k : ℕ) → i ≡ min (be 4 s (at + 24)) (length w)
+    → j ≡ min (be 4 s (at + 20)) (length m)
+    → k ≡ min (be 4 s (at + 16)) (length out)
+    → length w′ ≡ length (take i w)
+    → length m′ ≡ length (take j m)
+    → length out′ ≡ length (take k out)
+    → Called t (eventOf (callAt s at) (take i w) (take j m) (take k out) r t′ w′ m′ out′)
+    → Lent (stepAt s at) t w m out r t′ (w′ ++ drop i w) (m′ ++ drop j m) (out′ ++ drop k out)
+unfolding stepAt
+lent s at t w m out r t′ w′ m′ out′ i j k ei ej ek nw nm nout c =
+    let a : ℕ = be 4 s (at + 24) in
+    let b : ℕ = be 4 s (at + 20) in
+    let d : ℕ = be 4 s (at + 16) in
+    record {
+      called =
+          subst (Called t)
+          (same-event (callAt s at) r t′ (take i w) (take j m) (take k out) w′ m′ out′ (take a w) (take b m) (take d out) (take a (w′ ++ drop i w))
+          (take b (m′ ++ drop j m))
+          (take d (out′ ++ drop k out))
+          (front-lent a i w w′ ei nw)
+          (front-lent b j m m′ ej nm)
+          (front-lent d k out out′ ek nout)
+          (sym (front-left a i w w′ ei nw))
+          (sym (front-left b j m m′ ej nm))
+          (sym (front-left d k out out′ ek nout)))
+          c;
+      scratchRest = rest-left a i w w′ ei nw;
+      mapRest = rest-left b j m m′ ej nm;
+      outputRest = rest-left d k out out′ ek nout;
+    }
+
+-- one turn: the step, on what lies behind the answer's place, and then the answer
+pub turned : (c : Step) (t w m p : List ℕ) (r : Answer) (t′ w′ m′ o u v : List ℕ) → 8 ≤ length p → length o ≡ length (midOf 8 (length p - 8) p)
+    → Lent c t w m (midOf 8 (length p - 8) p) r t′ w′ m′ o
     → u ≡ putBe 4 (putMid 8 (length p - 8) p o) 0 (r .number)
     → v ≡ putBe 4 u 4 (r .detail)
     → Turned c t w m p t′ w′ m′ v
@@ -85,7 +132,7 @@ turned c t w m p r t′ w′ m′ o u v h n k eu ev =
     record {
       answer = r;
       output′ = o;
-      called = subst (λ (x : List ℕ). Called t (eventOf c w m x r t′ w′ m′ o)) (behind p o h) k;
+      lent = subst (λ (x : List ℕ). Lent c t w m x r t′ w′ m′ o) (behind p o h) k;
       written =
           ev ∙ ap (λ (x : List ℕ). putBe 4 x 4 (r .detail)) eu
           ∙ answer-written (putMid 8 (length p - 8) p o) (r .number) (r .detail) (put-long p o h n)
@@ -97,7 +144,7 @@ turned c t w m p r t′ w′ m′ o u v h n k eu ev =
 -- a run that has come to the place `at` of the log, with the lengths as they were
 pub record Going (script : List ℕ) (l : Lengths) (h : Held) (t w m log : List ℕ) (i at : ℕ) : Type 0 where
   pub run : Run script i l h t w m log
-  pub place : length (entries (run .events)) ≡ at
+  pub place : length (entries (l .output) h (run .events)) ≡ at
   pub table : length t ≡ l .table
   pub scratch : length w ≡ l .scratch
   pub readMap : length m ≡ l .readMap
@@ -110,7 +157,7 @@ part-fits part i n at bytes h e l = omega (arith, stride part h)
 pub start : (script t w m log : List ℕ) (part : ℕ) → Going script (lengthsIn t w m part) (held t w m log) t w m log 0 0
 start script t w m log part =
     record {
-      run = record { events = []; calls = refl; inTurn = tt; table = refl; scratch = refl; readMap = refl; log = refl };
+      run = record { events = []; inTurn = tt; table = refl; scratch = refl; readMap = refl; log = refl };
       place = refl;
       table = refl;
       scratch = refl;
@@ -138,68 +185,104 @@ module _ (script : List ℕ) (l : Lengths) (h : Held) (t w m log : List ℕ) (i 
   -- what lies behind the place is as it was lent
   rest : drop at log ≡ x .log
   unfolding es x
-  rest = ap (drop at) (g .run .log) ∙ drop-at (entries es) (x .log) at (g .place)
+  rest = ap (drop at) (g .run .log) ∙ drop-at (entries (l .output) h es) (x .log) at (g .place)
 
-  done : take at log ≡ entries es
+  done : take at log ≡ entries (l .output) h es
   unfolding es x
-  done = ap (take at) (g .run .log) ∙ take-at (entries es) (x .log) at (g .place)
+  done = ap (take at) (g .run .log) ∙ take-at (entries (l .output) h es) (x .log) at (g .place)
 
   module _ (k : ℕ) (size : k ≡ 8 + l .output) (room : at + k ≤ length log) (t′ w′ m′ p : List ℕ)
-      (u : Turned (callAt script (16 * i)) t w m (midOf at k log) t′ w′ m′ p) where
-    e : Event
-    e = eventOf (callAt script (16 * i)) w m (drop 8 (midOf at k log)) (u .answer) t′ w′ m′ (u .output′)
+      (u : Turned (stepAt script (28 * i)) t w m (midOf at k log) t′ w′ m′ p) where
+    c : Step
+    c = stepAt script (28 * i)
 
-    output-is : drop 8 (midOf at k log) ≡ take (l .output) (drop 8 (x .log))
-    unfolding x es
+    out : List ℕ
+    out = drop 8 (midOf at k log)
+
+    e : Event
+    e = eventIn c w m out (u .answer) t′ w′ m′ (u .output′)
+
+    output-is : out ≡ outputOf (l .output) x
+    unfolding x es out
     output-is = ap₂ (λ (n : ℕ) (r : List ℕ). drop 8 (take n r)) size rest ∙ drop-take 8 (l .output) (x .log)
 
-    output-long : length (drop 8 (midOf at k log)) ≡ l .output
+    output-long : length out ≡ l .output
+    unfolding out
     output-long = omega (arith, length-drop 8 (midOf at k log), length-take k (drop at log), length-drop at log)
 
-    in-turn : InTurn l x e
-    unfolding e x es
+    -- so many bytes are lent of a list of the length n
+    some : (n j : ℕ) (s : List ℕ) → length s ≡ n → length (take j s) ≡ min j n
+    some n j s q = length-take j s ∙ ap (min j) q
+
+    in-turn : InTurn l x c e
+    unfolding e x es c out
     in-turn =
         record {
-          called = subst (λ (y : List ℕ). Called y e) (g .run .table) (u .called);
-          scratch = g .run .scratch;
-          readMap = g .run .readMap;
-          output = output-is;
+          call = refl;
+          called = subst (λ (y : List ℕ). Called y e) (g .run .table) (u .lent .called);
+          scratch = ap (take (c .scratch)) (g .run .scratch);
+          readMap = ap (take (c .readMap)) (g .run .readMap);
+          output = ap (take (c .output)) output-is;
           lent =
-              same-lengths l (length (x .table)) (length (drop 8 (midOf at k log))) (length m) (length w) (ap length (sym (g .run .table)) ∙ g .table) output-long
-              (g .readMap)
-              (g .scratch);
+              same-lengths (lentTo c l) (length (x .table)) (length (take (c .output) out)) (length (take (c .readMap) m)) (length (take (c .scratch) w))
+              (ap length (sym (g .run .table)) ∙ g .table)
+              (some (l .output) (c .output) out output-long)
+              (some (l .readMap) (c .readMap) m (g .readMap))
+              (some (l .scratch) (c .scratch) w (g .scratch));
         }
 
-    log-is : putMid at k log p ≡ entries (es ++ (e ∷ [])) ++ drop (8 + l .output) (x .log)
-    unfolding e x es
+    -- the part is the entry of its event
+    entry-is : p ≡ entry (outputOf (l .output) x) e
+    unfolding e x es c out
+    entry-is =
+        u .written
+        ∙ ap (λ (y : List ℕ). fourBytes (u .answer .number) ++ fourBytes (u .answer .detail) ++ y)
+        (put-back (c .output) out (u .output′) (u .lent .outputRest)
+        ∙ ap (λ (y : List ℕ). take (c .output) (u .output′) ++ drop (length (take (c .output) out)) y) output-is)
+
+    log-is : putMid at k log p ≡ entries (l .output) h (es ++ (e ∷ [])) ++ drop (8 + l .output) (x .log)
+    unfolding x es
     log-is =
         ap₂ (λ (y z : List ℕ). y ++ (p ++ z)) done (ap₂ (λ (n : ℕ) (r : List ℕ). drop n r) size rest)
-        ∙ sym (append-assoc (entries es) p (drop (8 + l .output) (x .log)))
-        ∙ ap (λ (y : List ℕ). y ++ drop (8 + l .output) (x .log)) (ap (λ (y : List ℕ). entries es ++ y) (u .written) ∙ sym (one-entry es e))
+        ∙ sym (append-assoc (entries (l .output) h es) p (drop (8 + l .output) (x .log)))
+        ∙ ap (λ (y : List ℕ). y ++ drop (8 + l .output) (x .log))
+        (ap (λ (y : List ℕ). entries (l .output) h es ++ y) entry-is ∙ sym (one-entry (l .output) h es e))
 
-    -- and one call more
+    -- scratch and read map: what the call left, and behind it what was there
+    scratch-is : w′ ≡ passed (l .output) x e .scratch
+    unfolding e x es c
+    scratch-is =
+        put-back (c .scratch) w w′ (u .lent .scratchRest)
+        ∙ ap (λ (y : List ℕ). take (c .scratch) w′ ++ drop (length (take (c .scratch) w)) y) (g .run .scratch)
+
+    map-is : m′ ≡ passed (l .output) x e .readMap
+    unfolding e x es c
+    map-is =
+        put-back (c .readMap) m m′ (u .lent .mapRest)
+        ∙ ap (λ (y : List ℕ). take (c .readMap) m′ ++ drop (length (take (c .readMap) m)) y) (g .run .readMap)
+
+    -- and one step more
     pub next : (end : ℕ) → end ≡ at + k → length p ≡ length (midOf at k log) → length t′ ≡ length t → length w′ ≡ length w → length m′ ≡ length m
         → Going script l h t′ w′ m′ (putMid at k log p) (i + 1) end
-    unfolding e x es
+    unfolding e x es c
     next end ee np nt nw nm =
         record {
           run =
               record {
                 events = es ++ (e ∷ []);
-                calls =
-                    one-made es e ∙ ap₂ (λ (cs : List Call) (n : ℕ). cs ++ (callAt script n ∷ [])) (g .run .calls) (sym (zero-add (16 * i)))
-                    ∙ sym (records-more (callAt script) 16 i 0)
-                    ∙ ap (callsOf script) (sym (add-one i));
-                inTurn = one-in-turn l h es e (g .run .inTurn) in-turn;
+                inTurn =
+                    subst (λ (cs : List Step). AllInTurn l h cs (es ++ (e ∷ []))) (one-step script i)
+                    (one-in-turn l h (stepsOf script i) es c e (g .run .inTurn) in-turn);
                 table = sym (ap (λ (y : Held). y .table) (one-held (l .output) h es e));
-                scratch = sym (ap (λ (y : Held). y .scratch) (one-held (l .output) h es e));
-                readMap = sym (ap (λ (y : Held). y .readMap) (one-held (l .output) h es e));
-                log = log-is ∙ ap (λ (y : Held). entries (es ++ (e ∷ [])) ++ y .log) (sym (one-held (l .output) h es e));
+                scratch = scratch-is ∙ sym (ap (λ (y : Held). y .scratch) (one-held (l .output) h es e));
+                readMap = map-is ∙ sym (ap (λ (y : Held). y .readMap) (one-held (l .output) h es e));
+                log =
+                    log-is ∙ ap (λ (y : Held). entries (l .output) h (es ++ (e ∷ [])) ++ y .log) (sym (one-held (l .output) h es e));
               };
           place =
-              ap length (one-entry es e) ∙ length-append (entries es) (entry e)
+              ap length (one-entry (l .output) h es e) ∙ length-append (entries (l .output) h es) (entry (outputOf (l .output) x) e)
               ∙ ap₂ (λ (a b : ℕ). a + b) (g .place)
-              (ap length (sym (u .written)) ∙ np ∙ omega (arith, length-take k (drop at log), length-drop at log))
+              (ap length (sym entry-is) ∙ np ∙ omega (arith, length-take k (drop at log), length-drop at log))
               ∙ sym ee;
           table = nt ∙ g .table;
           scratch = nw ∙ g .scratch;

@@ -14,10 +14,10 @@ use Rattle.block.specs.Table.{tableSized}
 use Rattle.block.specs.Fresh.{formatted}
 use Rattle.tree.specs.Sound.{sound}
 use Rattle.tree.proofs.Fresh.{fresh-sized, fresh-sound}
-use Rattle.table.specs.Calls.{Call, Lengths}
+use Rattle.table.specs.Calls.{Lengths}
 use Rattle.table.specs.History.{History}
 use Rattle.table.proofs.Demand.{demand3}
-use Rattle.script.specs.Script.{callsIn, partOf, logAfter}
+use Rattle.script.specs.Script.{callsIn, stepsOf, partOf}
 use Rattle.script.specs.Run.{Held, held, Run, lengthsIn, partIn, Happened, Ran}
 use Rattle.script.proofs.Logs.{history-of, ends-sound, as-model}
 
@@ -65,7 +65,7 @@ module _ (script t w m log t′ w′ m′ log′ : List ℕ) (sized : tableSized
       (ap₂ (λ (bytes p : ℕ). record { table = bytes; output = p - 8; readMap = length m; scratch = length w }) (fresh-sized (length t) sized) ep)
       (subst (λ (x : List ℕ). Run script (callsIn script) (lengthsIn x w m part) (held x w m log) t′ w′ m′ log′) eu r)
       in
-      let past : History (formatted (length t)) (run .events) = history-of l h (run .events) (run .inTurn) in
+      let past : History (formatted (length t)) (run .events) = history-of l h (stepsOf script (callsIn script)) (run .events) (run .inTurn) in
       record { run = run; history = past; agreed = demand3 (length t) sized (run .events) past }
 
   pub says-run : (part : ℕ) (u : List ℕ) → part ≡ partIn script log → 8 ≤ part → u ≡ cond (tableSized (length t)) (formatted (length t)) t
@@ -84,9 +84,7 @@ module _ (script t w m log t′ w′ m′ log′ : List ℕ) (sized : tableSized
       record {
         runs = sym (and-both (tableSized (length t)) (leb 8 (partIn script log)) sized (ap (leb 8) (sym ep) ∙ le-leb 8 part p));
         refused = λ e. absurd (true≢false e);
-        answers =
-            λ e. k .run .log ∙ as-model l h [] (k .run .events) (k .run .inTurn) (k .agreed)
-            ∙ ap (λ (cs : List Call). logAfter l cs [] log) (k .run .calls);
+        answers = λ e. k .run .log ∙ as-model l h [] (stepsOf script (callsIn script)) (k .run .events) (k .run .inTurn) (k .agreed);
         staysSound = λ e. ap sound (k .run .table) ∙ ends-sound l h [] (k .run .events) (fresh-sound (length t) sized) (k .agreed);
         sameLengths = (nt, nw, nm, nl);
         happened = λ e. k;

@@ -14,7 +14,7 @@ use Rattle.table.specs.Calls.{Call, format, add, withdraw, report, top, count, 
 use Rattle.table.specs.Answers.{lengths}
 use Rattle.table.specs.Model.{fourBytes}
 use Rattle.table.specs.History.{Event, MetBy, History, AllAgreed, isQuery}
-use Rattle.script.specs.Script.{callsIn, callsOf, partOf, logAfter}
+use Rattle.script.specs.Script.{Step, callsIn, stepsOf, lentTo, partOf, logAfter}
 
 -- the calls that are lent the scratch
 abbrev pub takesScratch : Call → Bool
@@ -32,7 +32,7 @@ abbrev pub eventOf : Call → List ℕ → List ℕ → List ℕ → Answer → 
 eventOf c w m out r t′ w′ m′ out′ =
     record { call = c; output = out; readMap = m; scratch = w; answer = r; output′ = out′; readMap′ = m′; scratch′ = w′; table′ = t′ }
 
--- the call of an event met its post-condition on the table t, with arguments that fit, and what it isn't lent stayed as it was
+-- the call of an event met its post-condition on the table t, with arguments that fit, and what it has no use for stayed as it was
 pub record Called (t : List ℕ) (e : Event) : Type 0 where
   pub fit : argumentsFit (e .call) ≡ true
   pub met : MetBy (e .call) t e
@@ -40,16 +40,25 @@ pub record Called (t : List ℕ) (e : Event) : Type 0 where
   pub mapKept : isQuery (e .call) ≡ false → e .readMap′ ≡ e .readMap
   pub scratchKept : takesScratch (e .call) ≡ false → e .scratch′ ≡ e .scratch
 
--- what an event writes into its part of the log
-abbrev pub entry : Event → List ℕ
-entry e = fourBytes (e .answer .number) ++ fourBytes (e .answer .detail) ++ e .output′
+-- the event of a step, which is lent the first bytes of scratch, read map and output
+abbrev pub eventIn : Step → List ℕ → List ℕ → List ℕ → Answer → List ℕ → List ℕ → List ℕ → List ℕ → Event
+eventIn c w m out r t′ w′ m′ out′ =
+    eventOf (c .call) (take (c .scratch) w) (take (c .readMap) m) (take (c .output) out) r t′ (take (c .scratch) w′) (take (c .readMap) m′)
+    (take (c .output) out′)
 
--- one turn: the call c, and its part of the log as lent and as left
-pub record Turned (c : Call) (t w m part t′ w′ m′ part′ : List ℕ) : Type 0 where
+-- the call of a step; the bytes that it isn't lent stayed as they were
+pub record Lent (c : Step) (t w m out : List ℕ) (r : Answer) (t′ w′ m′ out′ : List ℕ) : Type 0 where
+  pub called : Called t (eventIn c w m out r t′ w′ m′ out′)
+  pub scratchRest : drop (c .scratch) w′ ≡ drop (c .scratch) w
+  pub mapRest : drop (c .readMap) m′ ≡ drop (c .readMap) m
+  pub outputRest : drop (c .output) out′ ≡ drop (c .output) out
+
+-- one turn: the step c, and its part of the log as lent and as left
+pub record Turned (c : Step) (t w m part t′ w′ m′ part′ : List ℕ) : Type 0 where
   pub answer : Answer
   pub output′ : List ℕ
-  pub called : Called t (eventOf c w m (drop 8 part) answer t′ w′ m′ output′)
-  pub written : part′ ≡ entry (eventOf c w m (drop 8 part) answer t′ w′ m′ output′)
+  pub lent : Lent c t w m (drop 8 part) answer t′ w′ m′ output′
+  pub written : part′ ≡ fourBytes (answer .number) ++ fourBytes (answer .detail) ++ output′
 
 -- what a run has between two calls: table, scratch and read map as the last call left them, and the rest of the log as it was lent
 pub record Held : Type 0 where
@@ -62,50 +71,57 @@ pub record Held : Type 0 where
 abbrev pub held : List ℕ → List ℕ → List ℕ → List ℕ → Held
 held t w m log = record { table = t; scratch = w; readMap = m; log = log }
 
--- after an event, where the parts of the log have room for an output of so many bytes
+-- the output of the next call, where the parts of the log have room for one of so many bytes
+abbrev pub outputOf : ℕ → Held → List ℕ
+outputOf room h = take room (drop 8 (h .log))
+
+-- after an event; the bytes that it wasn't lent stayed as they were
 abbrev pub passed : ℕ → Held → Event → Held
-passed room h e = held (e .table′) (e .scratch′) (e .readMap′) (drop (8 + room) (h .log))
+passed room h e =
+    held (e .table′) (e .scratch′ ++ drop (length (e .scratch)) (h .scratch)) (e .readMap′ ++ drop (length (e .readMap)) (h .readMap))
+    (drop (8 + room) (h .log))
 
 -- after one event and then the next
 abbrev pub heldAfter : ℕ → Held → List Event → Held
 heldAfter room h [] = h
 heldAfter room h (e ∷ es) = heldAfter room (passed room h e) es
 
--- an event of a run: it is lent what the run has, and the output of its part of the log
-pub record InTurn (l : Lengths) (h : Held) (e : Event) : Type 0 where
+-- an event of a run: it is the call of its step, lent the first bytes of what the run has and of the output in its part of the log
+pub record InTurn (l : Lengths) (h : Held) (c : Step) (e : Event) : Type 0 where
+  pub call : e .call ≡ c .call
   pub called : Called (h .table) e
-  pub scratch : e .scratch ≡ h .scratch
-  pub readMap : e .readMap ≡ h .readMap
-  pub output : e .output ≡ take (l .output) (drop 8 (h .log))
+  pub scratch : e .scratch ≡ take (c .scratch) (h .scratch)
+  pub readMap : e .readMap ≡ take (c .readMap) (h .readMap)
+  pub output : e .output ≡ take (c .output) (outputOf (l .output) h)
   -- "the lengths of table, output, read map and work area"
-  pub lent : lengths (h .table) (e .output) (e .readMap) (e .scratch) ≡ l
+  pub lent : lengths (h .table) (e .output) (e .readMap) (e .scratch) ≡ lentTo c l
 
--- so is each, and gets what the last one left
-abbrev pub AllInTurn : Lengths → Held → List Event → Type 0
-AllInTurn l h [] = Unit {0}
-AllInTurn l h (e ∷ es) = InTurn l h e × AllInTurn l (passed (l .output) h e) es
+-- so is each, an event for each step, and gets what the last one left
+abbrev pub AllInTurn : Lengths → Held → List Step → List Event → Type 0
+AllInTurn l h [] [] = Unit {0}
+AllInTurn l h [] (e ∷ es) = ⊥
+AllInTurn l h (c ∷ cs) [] = ⊥
+AllInTurn l h (c ∷ cs) (e ∷ es) = InTurn l h c e × AllInTurn l (passed (l .output) h e) cs es
 
--- their calls
-abbrev pub callsMade : List Event → List Call
-callsMade [] = []
-callsMade (e ∷ es) = e .call ∷ callsMade es
+-- what an event leaves in its part of the log, where the output was so
+abbrev pub entry : List ℕ → Event → List ℕ
+entry output e = fourBytes (e .answer .number) ++ fourBytes (e .answer .detail) ++ (e .output′ ++ drop (length (e .output)) output)
 
--- what the events of a run write
-abbrev pub entries : List Event → List ℕ
-entries [] = []
-entries (e ∷ es) = entry e ++ entries es
+-- what the events of a run do
+abbrev pub entries : ℕ → Held → List Event → List ℕ
+entries room h [] = []
+entries room h (e ∷ es) = entry (outputOf room h) e ++ entries room (passed room h e) es
 
--- the first n calls of the script were made, and led from h to what is left
+-- the first n steps of the script were made, and led from h to what is left
 pub record Run (script : List ℕ) (n : ℕ) (l : Lengths) (h : Held) (t′ w′ m′ log′ : List ℕ) : Type 0 where
   pub events : List Event
-  pub calls : callsMade events ≡ callsOf script n
-  pub inTurn : AllInTurn l h events
+  pub inTurn : AllInTurn l h (stepsOf script n) events
   pub table : t′ ≡ heldAfter (l .output) h events .table
   pub scratch : w′ ≡ heldAfter (l .output) h events .scratch
   pub readMap : m′ ≡ heldAfter (l .output) h events .readMap
-  pub log : log′ ≡ entries events ++ heldAfter (l .output) h events .log
+  pub log : log′ ≡ entries (l .output) h events ++ heldAfter (l .output) h events .log
 
--- the lengths that every call of a run is lent, where a part of the log has so many bytes
+-- the lengths that a run has, where a part of the log has so many bytes
 abbrev pub lengthsIn : List ℕ → List ℕ → List ℕ → ℕ → Lengths
 lengthsIn t w m part = record { table = length t; output = part - 8; readMap = length m; scratch = length w }
 
@@ -124,7 +140,7 @@ pub record Happened (script t w m log t′ w′ m′ log′ : List ℕ) : Type 0
 pub record Ran (script t w m log t′ w′ m′ log′ : List ℕ) (r : Bool) : Type 0 where
   pub runs : r ≡ (tableSized (length t) && leb 8 (partIn script log))
   pub refused : r ≡ false → (t′ ≡ t) × (w′ ≡ w) × (m′ ≡ m) × (log′ ≡ log)
-  pub answers : r ≡ true → log′ ≡ logAfter (lengthsIn t w m (partIn script log)) (callsOf script (callsIn script)) [] log
+  pub answers : r ≡ true → log′ ≡ logAfter (lengthsIn t w m (partIn script log)) (stepsOf script (callsIn script)) [] log
   pub staysSound : r ≡ true → sound t′ ≡ true
   pub sameLengths : (length t′ ≡ length t) × (length w′ ≡ length w) × (length m′ ≡ length m) × (length log′ ≡ length log)
   pub happened : r ≡ true → Happened script t w m log t′ w′ m′ log′

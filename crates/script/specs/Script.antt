@@ -1,6 +1,6 @@
 -- A script: calls in bytes, one after the other; and the log that the model has of it.
 -- Assumes nothing.
-use Prim.Native.Nat.{ℕ, zero, suc, _+_, _/_}
+use Prim.Native.Nat.{ℕ, zero, suc, _+_, _/_, min}
 use mathlib.Core.Bool.{cond}
 use mathlib.Core.List.{List, [], _∷_, _++_}
 use lib.ListN.{length, take, drop}
@@ -12,9 +12,9 @@ use Rattle.octets.specs.Lists.{records}
 use Rattle.table.specs.Calls.{Call, format, add, withdraw, report, top, count, check, rebuild, Lengths}
 use Rattle.table.specs.Model.{PlainSpot, reply, outputAfter, fourBytes}
 
--- a call is 16 bytes; fewer at the end are no call
+-- a call is 28 bytes; fewer at the end are no call
 abbrev pub callsIn : List ℕ → ℕ
-callsIn s = length s / 16
+callsIn s = length s / 28
 
 -- the call of a number and three arguments. Signed arguments are in two's complement; those that a call has no use for may be anything.
 unfoldable pub callOf : ℕ → ℕ → ℕ → ℕ → Call
@@ -31,20 +31,37 @@ callOf (suc (suc (suc (suc (suc (suc (suc n))))))) a b c = rebuild
 unfoldable pub callAt : List ℕ → ℕ → Call
 callAt s at = callOf (be 4 s at) (be 4 s (at + 4)) (be 4 s (at + 8)) (be 4 s (at + 12))
 
--- the first n calls
-abbrev pub callsOf : List ℕ → ℕ → List Call
-callsOf s n = records (callAt s) 16 n 0
+-- a step of a script: a call, and how many bytes it is lent of the output, of the read map and of the scratch; all of them where there are fewer
+pub record Step : Type 0 where
+  pub call : Call
+  pub output : ℕ
+  pub readMap : ℕ
+  pub scratch : ℕ
 
--- the log has an equal part for each call, in order: 8 bytes for the answer, and the output lent to the call. Where there is no call the log may be of any
+-- the step that begins at a byte: its call and then the three numbers, 4 bytes each, big-endian
+unfoldable pub stepAt : List ℕ → ℕ → Step
+stepAt s at = record { call = callAt s at; output = be 4 s (at + 16); readMap = be 4 s (at + 20); scratch = be 4 s (at + 24) }
+
+-- the first n steps
+abbrev pub stepsOf : List ℕ → ℕ → List Step
+stepsOf s n = records (stepAt s) 28 n 0
+
+-- the lengths that a step is lent of those that the run has
+abbrev pub lentTo : Step → Lengths → Lengths
+lentTo c l =
+    record { table = l .table; output = min (c .output) (l .output); readMap = min (c .readMap) (l .readMap); scratch = min (c .scratch) (l .scratch) }
+
+-- the log has an equal part for each call, in order: 8 bytes for the answer, and the output. Where there is no call the log may be of any
 -- length.
 unfoldable pub partOf : ℕ → ℕ → ℕ
 partOf bytes n = cond (eqb n 0) 8 (bytes / n)
 
--- the model's log of these calls, begun with the spots ss: in each part the answer's number and detail, then the output as the call leaves it. Every call is
--- lent the same lengths; that of the output is the part's without the answer.
-abbrev pub logAfter : Lengths → List Call → List PlainSpot → List ℕ → List ℕ
+-- the model's log of these steps, begun with the spots ss, where the run has the lengths l: in each part the answer's number and detail, then the output as the
+-- call leaves it; the bytes of the part that it isn't lent stay as they were
+abbrev pub logAfter : Lengths → List Step → List PlainSpot → List ℕ → List ℕ
 logAfter l [] ss log = log
 logAfter l (c ∷ cs) ss log =
-    let r = reply l c ss in
-    fourBytes (r .answer .number) ++ fourBytes (r .answer .detail) ++ outputAfter r (take (l .output) (drop 8 log)) ++
+    let r = reply (lentTo c l) (c .call) ss in
+    let output = take (l .output) (drop 8 log) in
+    fourBytes (r .answer .number) ++ fourBytes (r .answer .detail) ++ (outputAfter r (take (c .output) output) ++ drop (c .output) output) ++
     logAfter l cs (r .next) (drop (8 + l .output) log)

@@ -1,11 +1,11 @@
 // A script of calls, run over a table that is formatted first; what the calls answer and hand out goes into a log.
 ghost use mathlib.Core.Path.{_≡_};
-ghost use Prim.Native.Nat.{_+_, _*_, _≤_};
+ghost use Prim.Native.Nat.{_+_, _*_, _≤_, min};
 ghost use lib.ListN.{length};
-ghost use Rattle.script.specs.Script.{callAt, partOf};
-ghost use Rattle.script.specs.Run.{Called, eventOf, Turned, Run, held, lengthsIn, Ran};
+ghost use Rattle.script.specs.Script.{callAt, stepAt, partOf};
+ghost use Rattle.script.specs.Run.{Called, eventOf, Lent, Turned, Run, held, lengthsIn, Ran};
 
-// Makes the call that begins at a byte of the script.
+// Makes the call that begins at a byte of the script, with all that is lent.
 fn call(
     script: &[u8],
     at: usize,
@@ -46,7 +46,41 @@ fn call(
     table::rebuild(table, scratch)
 }
 
-// Makes a call and fills its part of the log.
+fn smaller(a: usize, b: usize) -> usize
+    ensures { λ r. ⌜ r ≡ min a b ⌝ }
+{
+    if a < b {
+        return a;
+    }
+    b
+}
+
+// Makes the call that begins at a byte of the script, with the first bytes of output, read map and scratch, as many as it says.
+fn step(
+    script: &[u8],
+    at: usize,
+    table: &mut [u8],
+    scratch: &mut [u8],
+    read_map: &mut [u8],
+    output: &mut [u8],
+) -> block::Answer
+    requires { ⌜ at + 28 ≤ length (now script) ⌝ }
+    ensures { λ r. ⌜ Lent (stepAt (now (script .entry)) at) (now (table .entry)) (now (scratch .entry)) (now («read_map» .entry)) (now (output .entry)) r (now (table .exit)) (now (scratch .exit)) (now («read_map» .exit)) (now (output .exit)) ⌝ }
+{
+    let a = smaller(octets::read32(script, at + 16) as usize, output.len());
+    let b = smaller(octets::read32(script, at + 20) as usize, read_map.len());
+    let c = smaller(octets::read32(script, at + 24) as usize, scratch.len());
+    call(
+        script,
+        at,
+        table,
+        &mut scratch[..c],
+        &mut read_map[..b],
+        &mut output[..a],
+    )
+}
+
+// Makes a step and fills its part of the log.
 fn turn(
     script: &[u8],
     at: usize,
@@ -55,15 +89,15 @@ fn turn(
     read_map: &mut [u8],
     part: &mut [u8],
 )
-    requires { ⌜ (at + 16 ≤ length (now script)) × (8 ≤ length (now part)) ⌝ }
-    ensures { λ _. ⌜ Turned (callAt (now (script .entry)) at) (now (table .entry)) (now (scratch .entry)) (now («read_map» .entry)) (now (part .entry)) (now (table .exit)) (now (scratch .exit)) (now («read_map» .exit)) (now (part .exit)) ⌝ }
+    requires { ⌜ (at + 28 ≤ length (now script)) × (8 ≤ length (now part)) ⌝ }
+    ensures { λ _. ⌜ Turned (stepAt (now (script .entry)) at) (now (table .entry)) (now (scratch .entry)) (now («read_map» .entry)) (now (part .entry)) (now (table .exit)) (now (scratch .exit)) (now («read_map» .exit)) (now (part .exit)) ⌝ }
 {
-    let a = call(script, at, table, scratch, read_map, &mut part[8..]);
+    let a = step(script, at, table, scratch, read_map, &mut part[8..]);
     octets::write32(part, 0, a.number as u64);
     octets::write32(part, 4, a.detail as u64);
 }
 
-// Makes the first n calls; each part of the log has `part` bytes.
+// Makes the first n steps; each part of the log has `part` bytes.
 fn make_calls(
     script: &[u8],
     n: usize,
@@ -73,14 +107,14 @@ fn make_calls(
     log: &mut [u8],
     part: usize,
 )
-    requires { ⌜ (16 * n ≤ length (now script)) × (8 ≤ part) × (part * n ≤ length (now log)) ⌝ }
+    requires { ⌜ (28 * n ≤ length (now script)) × (8 ≤ part) × (part * n ≤ length (now log)) ⌝ }
     ensures { λ _. ⌜ Run (now (script .entry)) n (lengthsIn (now (table .entry)) (now (scratch .entry)) (now («read_map» .entry)) part) (held (now (table .entry)) (now (scratch .entry)) (now («read_map» .entry)) (now (log .entry))) (now (table .exit)) (now (scratch .exit)) (now («read_map» .exit)) (now (log .exit)) ⌝ }
 {
     let mut i = 0;
     let mut at = 0;
     while i < n {
         let end = at + part;
-        turn(script, 16 * i, table, scratch, read_map, &mut log[at..end]);
+        turn(script, 28 * i, table, scratch, read_map, &mut log[at..end]);
         at = end;
         i += 1;
     }
@@ -106,7 +140,7 @@ pub fn run(
 ) -> bool
     ensures { λ r. ⌜ Ran (now (script .entry)) (now (table .entry)) (now (scratch .entry)) (now («read_map» .entry)) (now (log .entry)) (now (table .exit)) (now (scratch .exit)) (now («read_map» .exit)) (now (log .exit)) r ⌝ }
 {
-    let n = script.len() / 16;
+    let n = script.len() / 28;
     let part = part_of(log.len(), n);
     if !block::sized(table.len()) {
         return false;

@@ -52,7 +52,7 @@ use Rattle.batch.specs.Batches.{batchSays, Parted, byInserts, byDeletes, Pickin
 use Rattle.batch.proofs.Opened.{child-range}
 use Rattle.settle.specs.declared.Settled.{Settled}
 use Rattle.settle.specs.declared.Worked.{Worked}
-use Rattle.settle.specs.Settling.{LowsFit, Opened, WorkedTo, Pushable, WorkPost, SettledTo, SettlePost}
+use Rattle.settle.specs.Settling.{LowsFit, Opened, WorkedTo, Pushable, WorkPost, SettledTo, OnSound, SettlePost}
 use Rattle.settle.proofs.Lows.{zero-put, lows-one, lows-both}
 
 -- the answer, in other words
@@ -62,9 +62,9 @@ work-as {t} {t′} {s′} {map′} {level} {n} {spare} {left} e p = subst⁻¹ (
 -- ---- nothing was handed down
 
 -- it failed
-pub push-fails : {t s map t′ s′ map′ : List ℕ} {level : ℕ} {n : NodeValue} {spare : Spare} {left : ℕ} (left′ : ℕ) → Pushable t s map n level spare left → Kept t s map t′ s′ map′ → left′ ≤ left
-    → WorkPost t t′ s′ map′ level n spare left (record { ok = false; node = n; left = left′ })
-push-fails left′ w k h =
+pub push-fails : {t s map t′ s′ map′ : List ℕ} {level : ℕ} {n : NodeValue} {spare : Spare} {left : ℕ} (broken : Bool) (left′ : ℕ) → Pushable t s map n level spare left → Kept t s map t′ s′ map′ → left′ ≤ left
+    → ((lo hi : ℕ) (f : ℕ → Option ℕ) → Opened (storeOf t) level lo hi n spare left f → broken ≡ false) → WorkPost t t′ s′ map′ level n spare left (record { ok = false; broken = broken; node = n; left = left′ })
+push-fails broken left′ w k h whole =
     record {
       works = work-kept (w .works) k;
       fewer = h;
@@ -74,11 +74,12 @@ push-fails left′ w k h =
       mostD = omega arith;
       leaf = λ o. absurd (false≢true o);
       done = λ o. absurd (false≢true o);
+      whole = whole;
     }
 
 -- nothing is too large
 pub push-none : {t s map : List ℕ} {level : ℕ} {n : NodeValue} {spare : Spare} {left : ℕ} → Pushable t s map n level spare left
-    → WorkPost t t s map level n spare left (record { ok = true; node = n; left = left })
+    → WorkPost t t s map level n spare left (record { ok = true; broken = false; node = n; left = left })
 push-none {t} {level = level} {n = n} {spare = spare} {left = left} w =
     record {
       works = w .works;
@@ -94,6 +95,7 @@ push-none {t} {level = level} {n = n} {spare = spare} {left = left} w =
             going = going-start level lo hi (storeOf t) (spareOf spare left) (o .rank) (entriesOf (n .entries)) (heldIn n) f (o .node) (o .free);
             lowsFit = o .lowsFit;
           };
+      whole = λ lo hi f o. refl;
     }
 
 -- ---- one entry became one or two
@@ -140,10 +142,9 @@ lows-put false lo hi us vs e f g h a w z = lows-one lo hi us e f vs h z
 
 -- ---- the node over them
 
--- the child of n at e was settled over the level l with what was picked, by the store y, and its entries put back in m
-module _ (t t₁ : List ℕ) (l : ℕ) (n m : NodeValue) (p : Picked) (e : Entry) (r : Settled) (spare : Spare) (left : ℕ) (a : EntryAt (entriesOf (n .entries)) (p .child) e) (pk : Picking n p)
-    (sp : SettlePost t t₁ l (e .block) (Child e) (held (p .inserts)) (named (p .deletes)) spare left r) (ok : r .ok ≡ true) (same : heldIn m ≡ heldIn (p .node))
-    (back : entriesOf (m .entries) ≡ take (p .child) (entriesOf (n .entries)) ++ ((r .first ∷ cond (r .two) (r .second ∷ []) []) ++ drop (suc (p .child)) (entriesOf (n .entries)))) where
+-- the child of n at e is handed what was picked, over the level l
+module _ (t : List ℕ) (l : ℕ) (n : NodeValue) (p : Picked) (e : Entry) (spare : Spare) (left : ℕ) (a : EntryAt (entriesOf (n .entries)) (p .child) e) (pk : Picking n p)
+    (lo hi : ℕ) (f : ℕ → Option ℕ) (o : Opened (storeOf t) (suc l) lo hi n spare left f) where
   abbrev us : List Entry
   us = take (p .child) (entriesOf (n .entries))
 
@@ -153,63 +154,73 @@ module _ (t t₁ : List ℕ) (l : ℕ) (n m : NodeValue) (p : Picked) (e : Entry
   abbrev x : Store
   x = storeOf t
 
-  abbrev y : Store
-  y = storeOf t₁
-
   abbrev S : List ℕ
   S = spareOf spare left
 
-  abbrev S′ : List ℕ
-  S′ = spareOf spare (r .left)
+  abbrev c₀ : Part
+  c₀ = childAt lo hi us vs e
 
-  abbrev fs : List Entry
-  fs = cond (r .two) (r .second ∷ []) []
+  node : Open (suc l) x lo hi (o .rank) (us ++ (e ∷ vs)) (heldIn n) f
+  node = subst (λ (es : List Entry). Open (suc l) x lo hi (o .rank) es (heldIn n) f) (a .split) (o .node)
 
-  low : r .first .low ≡ e .low
-  low = sp .low ok
+  free : Apart S (reaches (suc l) x (parts lo hi (us ++ (e ∷ vs))))
+  free = subst (λ (es : List Entry). Apart S (reaches (suc l) x (parts lo hi es))) (a .split) (o .free)
 
-  module _ (lo hi : ℕ) (f : ℕ → Option ℕ) (o : Opened (storeOf t) (suc l) lo hi n spare left f) where
-    abbrev c₀ : Part
-    c₀ = childAt lo hi us vs e
+  lowsFit : LowsFit lo hi (us ++ (e ∷ vs))
+  lowsFit = subst (λ (es : List Entry). LowsFit lo hi es) (a .split) (o .lowsFit)
 
-    node : Open (suc l) x lo hi (o .rank) (us ++ (e ∷ vs)) (heldIn n) f
-    node = subst (λ (es : List Entry). Open (suc l) x lo hi (o .rank) es (heldIn n) f) (a .split) (o .node)
+  start-going : Going (suc l) lo hi x S (us ++ (e ∷ vs)) x S (o .rank) (us ++ (e ∷ vs)) (heldIn n) f
+  start-going = going-start (suc l) lo hi x S (o .rank) (us ++ (e ∷ vs)) (heldIn n) f node free
 
-    free : Apart S (reaches (suc l) x (parts lo hi (us ++ (e ∷ vs))))
-    free = subst (λ (es : List Entry). Apart S (reaches (suc l) x (parts lo hi es))) (a .split) (o .free)
+  child : Sound (suc l) x (c₀ ∷ []) × Apart S (reaches (suc l) x (c₀ ∷ []))
+  child = going-child (suc l) lo hi x S (us ++ (e ∷ vs)) x S (o .rank) us vs e (heldIn n) f start-going
 
-    lowsFit : LowsFit lo hi (us ++ (e ∷ vs))
-    lowsFit = subst (λ (es : List Entry). LowsFit lo hi es) (a .split) (o .lowsFit)
+  bounds : (lo ≤ c₀ .lo) × (c₀ .hi ≤ hi) × (c₀ .lo ≤ c₀ .hi)
+  bounds =
+      part-bounds lo hi (us ++ (e ∷ vs)) (node .steps)
+      (subst⁻¹ (λ (ps : List Part). List·Memᴰ c₀ ps) (parts-one (suc l) (λ z. ⊥) x x lo hi us vs e e [] (λ k. none)) (Memᴰ·append-right (parts lo (e .low) us) (List·Memᴰ·head refl)))
 
-    start-going : Going (suc l) lo hi x S (us ++ (e ∷ vs)) x S (o .rank) (us ++ (e ∷ vs)) (heldIn n) f
-    start-going = going-start (suc l) lo hi x S (o .rank) (us ++ (e ∷ vs)) (heldIn n) f node free
+  -- the batch lies in the child's range
+  batch-I : (k : ℕ) → List·Memᴰ k (keys (held (p .inserts))) → within (c₀ .lo) (c₀ .hi) k ≡ true
+  batch-I k i = child-range lo hi (entriesOf (n .entries)) k (p .child) e (pk .forI k i) a (inside (pk .parted))
+    where
+      inside : Parted n p → within lo hi k ≡ true
+      inside (byInserts stay h d b) = node .ready .inI k (only-mem (λ j. not (stay j)) (held (n .inserts)) (subst (λ (ss : List Spot). List·Memᴰ k (keys ss)) h i) .0)
+      inside (byDeletes stay d h b) = absurd (List·Memᴰ·not-nil (subst (λ (ss : List Spot). List·Memᴰ k (keys ss)) h i))
 
-    child : Sound (suc l) x (c₀ ∷ []) × Apart S (reaches (suc l) x (c₀ ∷ []))
-    child = going-child (suc l) lo hi x S (us ++ (e ∷ vs)) x S (o .rank) us vs e (heldIn n) f start-going
+  batch-D : (k : ℕ) → List·Memᴰ k (named (p .deletes)) → within (c₀ .lo) (c₀ .hi) k ≡ true
+  batch-D k i = child-range lo hi (entriesOf (n .entries)) k (p .child) e (pk .forD k i) a (inside (pk .parted))
+    where
+      inside : Parted n p → within lo hi k ≡ true
+      inside (byInserts stay h d b) = absurd (List·Memᴰ·not-nil (subst (λ (ks : List ℕ). List·Memᴰ k ks) d i))
+      inside (byDeletes stay d h b) = node .ready .inD k (keep-mem (λ j. not (stay j)) (named (n .deletes)) (subst (λ (ks : List ℕ). List·Memᴰ k ks) d i) .0)
 
-    bounds : (lo ≤ c₀ .lo) × (c₀ .hi ≤ hi) × (c₀ .lo ≤ c₀ .hi)
-    bounds =
-        part-bounds lo hi (us ++ (e ∷ vs)) (node .steps)
-        (subst⁻¹ (λ (ps : List Part). List·Memᴰ c₀ ps) (parts-one (suc l) (λ z. ⊥) x x lo hi us vs e e [] (λ k. none)) (Memᴰ·append-right (parts lo (e .low) us) (List·Memᴰ·head refl)))
+  -- it is sound, and what holds then holds of it
+  at-child : (Then : ℕ → ℕ → Type 0) → OnSound t l (e .block) (Child e) (held (p .inserts)) (named (p .deletes)) spare left Then → Then (c₀ .lo) (c₀ .hi)
+  at-child Then h =
+      h (c₀ .lo) (c₀ .hi) (bounds .2) (let v = bounds .1 in let z = o .full in omega arith) (first-low lo us vs e (lowsFit .zero)) batch-I batch-D (child .0) (child .1)
 
-    -- the batch lies in the child's range
-    batch-I : (k : ℕ) → List·Memᴰ k (keys (held (p .inserts))) → within (c₀ .lo) (c₀ .hi) k ≡ true
-    batch-I k i = child-range lo hi (entriesOf (n .entries)) k (p .child) e (pk .forI k i) a (inside (pk .parted))
-      where
-        inside : Parted n p → within lo hi k ≡ true
-        inside (byInserts stay h d b) = node .ready .inI k (only-mem (λ j. not (stay j)) (held (n .inserts)) (subst (λ (ss : List Spot). List·Memᴰ k (keys ss)) h i) .0)
-        inside (byDeletes stay d h b) = absurd (List·Memᴰ·not-nil (subst (λ (ss : List Spot). List·Memᴰ k (keys ss)) h i))
+  pub child-whole : {t₁ : List ℕ} {r : Settled} → SettlePost t t₁ l (e .block) (Child e) (held (p .inserts)) (named (p .deletes)) spare left r → r .broken ≡ false
+  child-whole {r = r} sp = at-child (λ a b. r .broken ≡ false) (sp .whole)
 
-    batch-D : (k : ℕ) → List·Memᴰ k (named (p .deletes)) → within (c₀ .lo) (c₀ .hi) k ≡ true
-    batch-D k i = child-range lo hi (entriesOf (n .entries)) k (p .child) e (pk .forD k i) a (inside (pk .parted))
-      where
-        inside : Parted n p → within lo hi k ≡ true
-        inside (byInserts stay h d b) = absurd (List·Memᴰ·not-nil (subst (λ (ks : List ℕ). List·Memᴰ k ks) d i))
-        inside (byDeletes stay d h b) = node .ready .inD k (keep-mem (λ j. not (stay j)) (named (n .deletes)) (subst (λ (ks : List ℕ). List·Memᴰ k ks) d i) .0)
+  -- it was settled by the store y, and its entries put back in m
+  module _ (t₁ : List ℕ) (m : NodeValue) (r : Settled) (sp : SettlePost t t₁ l (e .block) (Child e) (held (p .inserts)) (named (p .deletes)) spare left r) (ok : r .ok ≡ true)
+      (same : heldIn m ≡ heldIn (p .node))
+      (back : entriesOf (m .entries) ≡ take (p .child) (entriesOf (n .entries)) ++ ((r .first ∷ cond (r .two) (r .second ∷ []) []) ++ drop (suc (p .child)) (entriesOf (n .entries)))) where
+    abbrev y : Store
+    y = storeOf t₁
+
+    abbrev S′ : List ℕ
+    S′ = spareOf spare (r .left)
+
+    abbrev fs : List Entry
+    fs = cond (r .two) (r .second ∷ []) []
+
+    low : r .first .low ≡ e .low
+    low = sp .low ok
 
     settled : SettledTo x y l (e .block) (Child e) (c₀ .lo) (c₀ .hi) (held (p .inserts)) (named (p .deletes)) spare left r
-    settled =
-        sp .done ok (c₀ .lo) (c₀ .hi) (bounds .2) (let v = bounds .1 in let z = o .full in omega arith) (first-low lo us vs e (lowsFit .zero)) batch-I batch-D (child .0) (child .1)
+    settled = at-child (λ a b. SettledTo x y l (e .block) (Child e) a b (held (p .inserts)) (named (p .deletes)) spare left r) (sp .done ok)
 
     steps : Steps (c₀ .lo) (c₀ .hi) (r .first ∷ fs)
     steps = steps-put (r .two) (c₀ .lo) (c₀ .hi) e (r .first) (r .second) (bounds .2) (settled .apart)
@@ -257,6 +268,18 @@ module _ (t t₁ : List ℕ) (l : ℕ) (n m : NodeValue) (p : Picked) (e : Entry
 
 -- ---- what push promises
 
+deeper : (level : ℕ) → (level ≡ 0 → ⊥) → level ≡ suc (level - 1)
+deeper level inner = omega (arith, inner)
+
+-- the child could not be settled
+pub push-stops : {t s map t₁ s₁ map₁ : List ℕ} {level : ℕ} {n : NodeValue} {p : Picked} {e : Entry} {r : Settled} {spare : Spare} {left : ℕ} → Pushable t s map n level spare left
+    → Kept t s map t₁ s₁ map₁ → (level ≡ 0 → ⊥) → EntryAt (entriesOf (n .entries)) (p .child) e → Picking n p
+    → SettlePost t t₁ (level - 1) (e .block) (Child e) (held (p .inserts)) (named (p .deletes)) spare left r
+    → WorkPost t t₁ s₁ map₁ level n spare left (record { ok = false; broken = r .broken; node = n; left = r .left })
+push-stops {t} {level = level} {n = n} {p = p} {e = e} {r = r} {spare = spare} {left = left} w k inner a pk sp =
+    push-fails (r .broken) (r .left) w k (sp .fewer)
+    (λ lo hi f. subst⁻¹ (λ (v : ℕ). Opened (storeOf t) v lo hi n spare left f → r .broken ≡ false) (deeper level inner) (λ o. child-whole t (level - 1) n p e spare left a pk lo hi f o sp))
+
 few-backs : (b : Bool) (f g : Entry) → length (cond b (f ∷ g ∷ []) (f ∷ [])) ≤ 2
 few-backs true f g = omega arith
 few-backs false f g = omega arith
@@ -285,9 +308,6 @@ module _ {t s map t₁ s₁ map₁ : List ℕ} {level : ℕ} {n m : NodeValue} {
 
   held-back : heldIn m ≡ heldIn (p .node)
   held-back = λ i. record { points = held (pb .points i); inserts = held (pb .inserts i); deletes = named (pb .deletes i) }
-
-  deeper : level ≡ suc (level - 1)
-  deeper = omega (arith, inner)
 
   -- what holds of the entries before and of the new ones holds of all
   each-back : (P : Entry → Type 0) → ((d : Entry) → List·Memᴰ d ds → P d) → P (r .first) → (r .two ≡ true → P (r .second)) → (d : Entry) → List·Memᴰ d (entriesOf (m .entries)) → P d
@@ -318,7 +338,7 @@ module _ {t s map t₁ s₁ map₁ : List ℕ} {level : ℕ} {n m : NodeValue} {
         deletes = let z : m .deletes .n ≡ p .node .deletes .n = ap (λ (q : KeyBuffer). q .n) (pb .deletes) in omega (arith, pk .mostD, v .deletes);
       }
 
-  pub push-done : WorkPost t t₁ s₁ map₁ level n spare left (record { ok = true; node = m; left = r .left })
+  pub push-done : WorkPost t t₁ s₁ map₁ level n spare left (record { ok = true; broken = false; node = m; left = r .left })
   push-done =
       record {
         works = works-back;
@@ -329,6 +349,7 @@ module _ {t s map t₁ s₁ map₁ : List ℕ} {level : ℕ} {n m : NodeValue} {
         mostD = let z : m .deletes .n ≡ p .node .deletes .n = ap (λ (q : KeyBuffer). q .n) (pb .deletes) in omega (arith, pk .mostD);
         leaf = λ o z. absurd (inner z);
         done = λ o lo hi f.
-            subst⁻¹ (λ (v : ℕ). Opened (storeOf t) v lo hi n spare left f → WorkedTo (storeOf t) (storeOf t₁) v lo hi n m spare left (r .left) f) deeper
-            (pushed t t₁ (level - 1) n m p e r spare left a pk sp ok held-back entries-back lo hi f);
+            subst⁻¹ (λ (v : ℕ). Opened (storeOf t) v lo hi n spare left f → WorkedTo (storeOf t) (storeOf t₁) v lo hi n m spare left (r .left) f) (deeper level inner)
+            (λ o. pushed t (level - 1) n p e spare left a pk lo hi f o t₁ m r sp ok held-back entries-back);
+        whole = λ lo hi f o. refl;
       }

@@ -56,14 +56,14 @@ module _ {t t₁ s₁ map₁ t₂ s₂ map₂ : List ℕ} {level : ℕ} {n : Nod
   same-length : length (entriesOf (r .node .entries)) ≡ length (entriesOf (w .node .entries))
   same-length = sym (length-lows (entriesOf (r .node .entries))) ∙ ap length (q .sameLows) ∙ length-lows (entriesOf (w .node .entries))
 
-  module _ (o : ok ≡ true) (lo hi : ℕ) (f : ℕ → Option ℕ) (before : Opened (storeOf t) level lo hi n spare left f) where
+  module _ (lo hi : ℕ) (f : ℕ → Option ℕ) (before : Opened (storeOf t) level lo hi n spare left f) where
     pushed : WorkedTo (storeOf t) (storeOf t₁) level lo hi n (w .node) spare left (w .left) f
     pushed = p .done went lo hi f before
 
-    filled : FilledBy (storeOf t₁) (storeOf t₂) level (w .node) (r .node) lo hi f
-    filled = q .done (all o .0) lo hi (pushed .rank) f (before .full) (p .zero went) (pushed .going .node)
+    filled : ok ≡ true → FilledBy (storeOf t₁) (storeOf t₂) level (w .node) (r .node) lo hi f
+    filled o = q .done (all o .0) lo hi (pushed .rank) f (before .full) (p .zero went) (pushed .going .node)
 
-  pub refine-done : RefinePost t t₂ s₂ map₂ level n spare left (record { ok = ok; node = r .node; left = w .left })
+  pub refine-done : RefinePost t t₂ s₂ map₂ level n spare left (record { ok = ok; broken = r .broken; node = r .node; left = w .left })
   refine-done =
       record {
         work = record {
@@ -75,16 +75,17 @@ module _ {t t₁ s₁ map₁ t₂ s₂ map₂ : List ℕ} {level : ℕ} {n : Nod
           mostD = omega (arith, q .deletes, p .mostD);
           leaf = λ o z. same-length ∙ p .leaf went z;
           done = λ o lo hi f before.
-              let a = pushed o lo hi f before in
-              let b = filled o lo hi f before in
+              let a = pushed lo hi f before in
+              let b = filled lo hi f before o in
               record {
                 rank = b .rank;
                 going = going-further level lo hi (storeOf t) (spareOf spare left) (entriesOf (n .entries)) (storeOf t₁) (spareOf spare (w .left)) (a .rank) (entriesOf (w .node .entries)) (heldIn (w .node)) f
                     (storeOf t₂) (b .rank) (entriesOf (r .node .entries)) (heldIn (r .node)) (a .going) (b .loop .going);
                 lowsFit = lows-as lo hi (entriesOf (w .node .entries)) (entriesOf (r .node .entries)) (q .sameLows) (a .lowsFit);
               };
+          whole = λ lo hi f before. let a = pushed lo hi f before in q .whole lo hi (a .rank) f (before .full) (p .zero went) (a .going .node);
         };
         fewI = λ o. all o .1;
         fewD = λ o. all o .2;
-        full = λ o lo hi f before. filled o lo hi f before .full;
+        full = λ o lo hi f before. filled lo hi f before o .full;
       }

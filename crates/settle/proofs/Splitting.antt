@@ -2,7 +2,7 @@
 -- Assumes nothing.
 use mathlib.Core.Path.{_≡_, refl, ap, sym, _∙_, subst, subst⁻¹}
 use mathlib.Core.Logic.{_⊎_, inl, inr, ⊎-elim}
-use mathlib.Core.Bool.{Bool, true, cond}
+use mathlib.Core.Bool.{Bool, true, false, cond}
 use mathlib.Core.List.{List, [], _∷_, _++_, List·Memᴰ, List·Memᴰ·head, List·Memᴰ·tail, Memᴰ·append-left}
 use mathlib.Core.Option.{Option}
 use Prim.Native.Nat.{ℕ, zero, suc, _-_, _/_, _≤_, _<_}
@@ -16,7 +16,7 @@ use Rattle.block.specs.declared.Asked.{Asked}
 use Rattle.block.specs.declared.Asked.the-variants.{Child}
 use Rattle.block.specs.Table.{blocksOf}
 use Rattle.block.specs.Node.{Store, storeOf, openBelow, firstOpen}
-use Rattle.block.specs.NodeRules.{fewest}
+use Rattle.block.specs.NodeRules.{fewest, standsIn}
 use Rattle.tree.specs.Part.{Part, parts, lowOf}
 use Rattle.tree.specs.Reach.{reach}
 use Rattle.tree.proofs.Gather.{gather-append}
@@ -210,68 +210,56 @@ module _ {t s map : List ℕ} {b level : ℕ} {asked : Asked} {n : NodeValue} {h
         leafD = λ z. let i = st .leafD z in let y = hv .right .deletes in omega arith;
       }
 
--- ---- both halves worked on and stored: the right one in the last of the spare blocks
-module _ {t s map t₁ s₁ map₁ t₂ s₂ map₂ t₃ : List ℕ} {b level : ℕ} {asked : Asked} {n : NodeValue} {h : Halves} {spare : Spare} {left c : ℕ} {w₁ w₂ : Worked} {r : Settled}
-    (st : Standing t s map b level asked n spare left) (some : 0 < left) (last : spareOf spare left ≡ spareOf spare (left - 1) ++ (c ∷ [])) (cuts : Cuttable level n) (hv : Halved n (n .entries .n / 2) h)
-    (p₁ : RefinePost t t₁ s₁ map₁ level (h .left) spare (left - 1) w₁) (ok₁ : w₁ .ok ≡ true) (k₁ : length t₁ ≡ length t)
-    (p₂ : RefinePost t₁ t₂ s₂ map₂ level (h .right) spare (w₁ .left) w₂) (ok₂ : w₂ .ok ≡ true) (k₂ : length t₂ ≡ length t₁)
-    (q : StoredTwo t₂ t₃ b (lowOf asked) c (h .sep) (w₁ .node) (w₂ .node) (w₂ .left) r) where
-  new : List·Memᴰ c (spareOf spare left) × (List·Memᴰ c (spareOf spare (left - 1)) → ⊥)
-  new = last-new spare left c some (st .less) (st .spares .once) last
+-- ---- both halves worked on, the left first
+module _ {t s map : List ℕ} {b level : ℕ} {asked : Asked} {n : NodeValue} {h : Halves} {spare : Spare} {left : ℕ}
+    (st : Standing t s map b level asked n spare left) (cuts : Cuttable level n) (hv : Halved n (n .entries .n / 2) h)
+    (lo hi : ℕ) (f : ℕ → Option ℕ) (o : Opened (storeOf t) level lo hi n spare left f) where
+  abbrev sep : ℕ
+  sep = h .sep
 
-  less₁ : Within (spareOf spare (w₁ .left)) (spareOf spare (left - 1))
-  less₁ = spare-less spare (w₁ .left) (left - 1) (p₁ .work .fewer)
-
-  less₂ : Within (spareOf spare (w₂ .left)) (spareOf spare (w₁ .left))
-  less₂ = spare-less spare (w₂ .left) (w₁ .left) (p₂ .work .fewer)
+  abbrev S : List ℕ
+  S = spareOf spare (left - 1)
 
   less₀ : Within (spareOf spare (left - 1)) (spareOf spare left)
   less₀ = spare-less spare (left - 1) left (omega arith)
 
-  module _ (lo hi : ℕ) (f : ℕ → Option ℕ) (low : lowOf asked ≤ lo) (sound : Sound (suc level) (storeOf t) (part b asked lo hi ∷ []))
-      (apart : Apart (spareOf spare left) (reaches (suc level) (storeOf t) (part b asked lo hi ∷ []))) (o : Opened (storeOf t) level lo hi n spare left f) where
-    abbrev sep : ℕ
-    sep = h .sep
+  u : CutIn (storeOf t) level lo (h .sep) hi (spareOf spare (left - 1)) (entriesOf (n .entries)) (entriesOf (h .left .entries)) (entriesOf (h .right .entries)) (heldIn (h .left)) (heldIn (h .right)) f
+  u = cut-of st hv cuts (storeOf t) lo hi f (spareOf spare (left - 1)) o
 
-    abbrev S : List ℕ
-    S = spareOf spare (left - 1)
+  -- the children of each half
+  abbrev A : List Part
+  A = parts lo sep (entriesOf (h .left .entries))
 
+  abbrev C : List Part
+  C = parts sep hi (entriesOf (h .right .entries))
+
+  free : Apart S (reaches level (storeOf t) (A ++ C))
+  free z i j = ⊎-elim (λ v. o .free z (less₀ z i) v) (λ v. v .1 (v .0)) (u .cut .reached z j)
+
+  -- the left half
+  left-open : Opened (storeOf t) level lo sep (h .left) spare (left - 1) f
+  left-open =
+      record {
+        order = let z = u .low in omega arith;
+        full = let z = u .high in let y = o .full in omega arith;
+        rank = u .rank;
+        node = u .openL;
+        lowsFit = u .lowsL;
+        free = λ z i j. free z i (rw (gather-append (reach level (storeOf t)) A C) (Memᴰ·append-left (reaches level (storeOf t) C) j));
+      }
+
+  pub left-whole : {t₁ s₁ map₁ : List ℕ} {w₁ : Worked} → RefinePost t t₁ s₁ map₁ level (h .left) spare (left - 1) w₁ → w₁ .broken ≡ false
+  left-whole p₁ = p₁ .work .whole lo sep f left-open
+
+  module _ {t₁ s₁ map₁ : List ℕ} {w₁ : Worked} (p₁ : RefinePost t t₁ s₁ map₁ level (h .left) spare (left - 1) w₁) (ok₁ : w₁ .ok ≡ true) where
     abbrev S₁ : List ℕ
     S₁ = spareOf spare (w₁ .left)
-
-    abbrev S₂ : List ℕ
-    S₂ = spareOf spare (w₂ .left)
-
-    u : CutIn (storeOf t) level lo (h .sep) hi (spareOf spare (left - 1)) (entriesOf (n .entries)) (entriesOf (h .left .entries)) (entriesOf (h .right .entries)) (heldIn (h .left)) (heldIn (h .right)) f
-    u = cut-of st hv cuts (storeOf t) lo hi f (spareOf spare (left - 1)) o
-
-    -- the children of each half, before and after
-    abbrev A : List Part
-    A = parts lo sep (entriesOf (h .left .entries))
-
-    abbrev C : List Part
-    C = parts sep hi (entriesOf (h .right .entries))
 
     abbrev A′ : List Part
     A′ = parts lo sep (entriesOf (w₁ .node .entries))
 
-    abbrev C′ : List Part
-    C′ = parts sep hi (entriesOf (w₂ .node .entries))
-
-    free : Apart S (reaches level (storeOf t) (A ++ C))
-    free z i j = ⊎-elim (λ v. o .free z (less₀ z i) v) (λ v. v .1 (v .0)) (u .cut .reached z j)
-
-    -- the left half
-    left-open : Opened (storeOf t) level lo sep (h .left) spare (left - 1) f
-    left-open =
-        record {
-          order = let z = u .low in omega arith;
-          full = let z = u .high in let y = o .full in omega arith;
-          rank = u .rank;
-          node = u .openL;
-          lowsFit = u .lowsL;
-          free = λ z i j. free z i (rw (gather-append (reach level (storeOf t)) A C) (Memᴰ·append-left (reaches level (storeOf t) C) j));
-        }
+    less₁ : Within (spareOf spare (w₁ .left)) (spareOf spare (left - 1))
+    less₁ = spare-less spare (w₁ .left) (left - 1) (p₁ .work .fewer)
 
     one : WorkedTo (storeOf t) (storeOf t₁) level lo sep (h .left) (w₁ .node) spare (left - 1) (w₁ .left) f
     one = p₁ .work .done ok₁ lo sep f left-open
@@ -289,65 +277,91 @@ module _ {t s map t₁ s₁ map₁ t₂ s₂ map₂ t₃ : List ℕ} {b level : 
           free = right-free level S S₁ (storeOf t) (storeOf t₁) A A′ C _ (u .cut .sound) free less₁ (one .going .changed);
         }
 
-    two : WorkedTo (storeOf t₁) (storeOf t₂) level sep hi (h .right) (w₂ .node) spare (w₁ .left) (w₂ .left) f
-    two = p₂ .work .done ok₂ sep hi f right-open
+    pub right-whole : {t₂ s₂ map₂ : List ℕ} {w₂ : Worked} → RefinePost t₁ t₂ s₂ map₂ level (h .right) spare (w₁ .left) w₂ → w₂ .broken ≡ false
+    right-whole p₂ = p₂ .work .whole sep hi f right-open
 
-    stays : Open level (storeOf t₂) lo sep (one .rank) (entriesOf (w₁ .node .entries)) (heldIn (w₁ .node)) f
-    stays =
-        open-frame level (storeOf t₁) (storeOf t₂) lo sep (one .rank) (entriesOf (w₁ .node .entries)) (heldIn (w₁ .node)) f
-        (left-same level S S₁ (storeOf t) (storeOf t₁) A A′ C _ (u .cut .sound) free less₁ (one .going .changed) S₂ (storeOf t₂) C′ _ less₂ (two .going .changed)) (one .going .node)
+    -- and stored: the right one in the last of the spare blocks
+    module _ {t₂ s₂ map₂ t₃ : List ℕ} {c : ℕ} {w₂ : Worked} {r : Settled} (some : 0 < left) (last : spareOf spare left ≡ spareOf spare (left - 1) ++ (c ∷ []))
+        (p₂ : RefinePost t₁ t₂ s₂ map₂ level (h .right) spare (w₁ .left) w₂) (ok₂ : w₂ .ok ≡ true) (k₂ : length t₂ ≡ length t₁)
+        (q : StoredTwo t₂ t₃ b (lowOf asked) c (h .sep) (w₁ .node) (w₂ .node) (w₂ .left) r) (low : lowOf asked ≤ lo) (sound : Sound (suc level) (storeOf t) (part b asked lo hi ∷ []))
+        (apart : Apart (spareOf spare left) (reaches (suc level) (storeOf t) (part b asked lo hi ∷ []))) where
+      abbrev S₂ : List ℕ
+      S₂ = spareOf spare (w₂ .left)
 
-    -- the children of both
-    abbrev word : ℕ → Option ℕ
-    word = within-both level S S₁ (storeOf t) (storeOf t₁) A A′ C (under level (storeOf t₁) lo sep (entriesOf (w₁ .node .entries))) (u .cut .sound) free less₁ (one .going .changed) S₂ (storeOf t₂) C′
-        (under level (storeOf t₂) sep hi (entriesOf (w₂ .node .entries))) less₂ (two .going .changed)
+      abbrev C′ : List Part
+      C′ = parts sep hi (entriesOf (w₂ .node .entries))
 
-    kids : Changed level (Taken S S₂) (storeOf t) (parts lo hi (storeOf t b .entries)) (storeOf t₂) (A′ ++ C′) word
-    kids =
-        subst (λ (es : List Entry). Changed level (Taken S S₂) (storeOf t) (parts lo hi es) (storeOf t₂) (A′ ++ C′) word) (st .same)
-        (changed-trans level (Taken S S) (Taken S S₂) (Taken S S₂) (storeOf t) (parts lo hi (entriesOf (n .entries))) (storeOf t) (A ++ C) (storeOf t₂) (A′ ++ C′) (u .word) word
-        (λ z v. absurd (v .1 (v .0))) (λ z v. v) (λ z v. inr v) (u .cut)
-        (halves level S S₁ (storeOf t) (storeOf t₁) A A′ C _ (u .cut .sound) free less₁ (one .going .changed) S₂ (storeOf t₂) C′ _ less₂ (two .going .changed)))
+      new : List·Memᴰ c (spareOf spare left) × (List·Memᴰ c (spareOf spare (left - 1)) → ⊥)
+      new = last-new spare left c some (st .less) (st .spares .once) last
 
-    -- the new block is not the old
-    other : b ≡ c → ⊥
-    other e =
-        apart c (new .0)
-        (Memᴰ·append-left [] (subst⁻¹ (λ (bs : List ℕ). List·Memᴰ c bs) (reach-step level (storeOf t) (part b asked lo hi)) (List·Memᴰ·head (sym e))))
+      less₂ : Within (spareOf spare (w₂ .left)) (spareOf spare (w₁ .left))
+      less₂ = spare-less spare (w₂ .left) (w₁ .left) (p₂ .work .fewer)
 
-    changed : Changed (suc level) (Taken (spareOf spare left) S₂) (storeOf t) (part b asked lo hi ∷ []) (storeOf t₃) (part b (Child (r .first)) lo sep ∷ part c (Child (r .second)) sep hi ∷ []) f
-    changed =
-        settle-two level (Taken S S₂) (Taken (spareOf spare left) S₂) (storeOf t) (storeOf t₂) (storeOf t₃) (part b asked lo hi) (Child (r .first)) (Child (r .second)) (one .rank) (two .rank)
-        (nodeIn (blocksOf (length t₁)) (w₁ .node)) (nodeIn (blocksOf (length t₂)) (w₂ .node)) c sep f word sound
-        (λ z v i. apart z (v .0) (Memᴰ·append-left [] i)) (λ z v. (less₀ z (v .0), v .1)) (λ z v. ⊎-elim (λ j. inl (j, v .1)) inr (spare-step spare left c some (st .less) (st .spares .once) last z (v .0)))
-        (new .0, λ i. new .1 (less₁ c (less₂ c i))) (λ v. new .1 (v .0)) (let z = u .low in omega arith) (let z = u .high in omega arith) kids
-        stays
-        (refined-shape (Child (r .first)) (ground-left st hv cuts (r .first)) p₁ ok₁ lo sep (one .lowsFit) (p₁ .full ok₁ lo sep f left-open) (let z = q .first .low in omega arith) (q .first .agree (blocksOf (length t₁))))
-        (two .going .node)
-        (refined-shape (Child (r .second)) (ground-right st hv cuts (r .second)) p₂ ok₂ sep hi (two .lowsFit) (p₂ .full ok₂ sep hi f right-open) (let z = q .second .low in omega arith) (q .second .agree (blocksOf (length t₂))))
-        (q .here other ∙ ap (λ (v : ℕ). nodeIn (blocksOf v) (w₁ .node)) k₂)
-        (q .there)
-        (q .else)
+      two : WorkedTo (storeOf t₁) (storeOf t₂) level sep hi (h .right) (w₂ .node) spare (w₁ .left) (w₂ .left) f
+      two = p₂ .work .done ok₂ sep hi f right-open
 
-    placed : PlacedTo (storeOf t) (storeOf t₃) level b asked lo hi spare left r f
-    placed =
-        record {
-          changed = subst⁻¹ (λ (v : ℕ). Changed (suc level) (Taken (spareOf spare left) (spareOf spare v)) (storeOf t) (part b asked lo hi ∷ []) (storeOf t₃) (became b asked lo hi r) f) (q .spare)
-              (subst⁻¹ (λ (d : Bool). Changed (suc level) (Taken (spareOf spare left) S₂) (storeOf t) (part b asked lo hi ∷ []) (storeOf t₃)
-              (cond d (part b (Child (r .first)) lo (r .second .low) ∷ part (r .second .block) (Child (r .second)) (r .second .low) hi ∷ []) (part b (again asked (r .first)) lo hi ∷ [])) f) (q .two)
-              (subst⁻¹ (λ (v : ℕ). Changed (suc level) (Taken (spareOf spare left) S₂) (storeOf t) (part b asked lo hi ∷ []) (storeOf t₃) (part b (Child (r .first)) lo v ∷ part (r .second .block) (Child (r .second)) v hi ∷ []) f) (q .second .low)
-              (subst⁻¹ (λ (v : ℕ). Changed (suc level) (Taken (spareOf spare left) S₂) (storeOf t) (part b asked lo hi ∷ []) (storeOf t₃) (part b (Child (r .first)) lo sep ∷ part v (Child (r .second)) sep hi ∷ []) f) (q .second .block) changed)));
-          apart = λ e. let z = q .second .low in (let a = u .low in omega arith, let a = u .high in omega arith);
-        }
+      stays : Open level (storeOf t₂) lo sep (one .rank) (entriesOf (w₁ .node .entries)) (heldIn (w₁ .node)) f
+      stays =
+          open-frame level (storeOf t₁) (storeOf t₂) lo sep (one .rank) (entriesOf (w₁ .node .entries)) (heldIn (w₁ .node)) f
+          (left-same level S S₁ (storeOf t) (storeOf t₁) A A′ C _ (u .cut .sound) free less₁ (one .going .changed) S₂ (storeOf t₂) C′ _ less₂ (two .going .changed)) (one .going .node)
 
-  pub place-two : PlacePost t t₃ level b asked n spare left r
-  place-two =
-      let i = st .spares .inside c (spare-less spare left (spare .n) (st .less) c (new .0)) in
-      record {
-        fewer = let z = q .spare in omega (arith, p₁ .work .fewer, p₂ .work .fewer);
-        block = λ e. q .first .block;
-        low = λ e. q .first .low;
-        fits = λ e. q .first .fits (block-few (st .undoable) (st .inside));
-        second = λ e g. let z = q .second .block in (omega (arith, i .0), omega (arith, i .1), q .second .fits (block-few (st .undoable) (i .1)));
-        done = λ e lo hi f low sound apart o. placed lo hi f low sound apart o;
-      }
+      -- the children of both
+      abbrev word : ℕ → Option ℕ
+      word = within-both level S S₁ (storeOf t) (storeOf t₁) A A′ C (under level (storeOf t₁) lo sep (entriesOf (w₁ .node .entries))) (u .cut .sound) free less₁ (one .going .changed) S₂ (storeOf t₂) C′
+          (under level (storeOf t₂) sep hi (entriesOf (w₂ .node .entries))) less₂ (two .going .changed)
+
+      kids : Changed level (Taken S S₂) (storeOf t) (parts lo hi (storeOf t b .entries)) (storeOf t₂) (A′ ++ C′) word
+      kids =
+          subst (λ (es : List Entry). Changed level (Taken S S₂) (storeOf t) (parts lo hi es) (storeOf t₂) (A′ ++ C′) word) (st .same)
+          (changed-trans level (Taken S S) (Taken S S₂) (Taken S S₂) (storeOf t) (parts lo hi (entriesOf (n .entries))) (storeOf t) (A ++ C) (storeOf t₂) (A′ ++ C′) (u .word) word
+          (λ z v. absurd (v .1 (v .0))) (λ z v. v) (λ z v. inr v) (u .cut)
+          (halves level S S₁ (storeOf t) (storeOf t₁) A A′ C _ (u .cut .sound) free less₁ (one .going .changed) S₂ (storeOf t₂) C′ _ less₂ (two .going .changed)))
+
+      -- the new block is not the old
+      other : b ≡ c → ⊥
+      other e =
+          apart c (new .0)
+          (Memᴰ·append-left [] (subst⁻¹ (λ (bs : List ℕ). List·Memᴰ c bs) (reach-step level (storeOf t) (part b asked lo hi)) (List·Memᴰ·head (sym e))))
+
+      changed : Changed (suc level) (Taken (spareOf spare left) S₂) (storeOf t) (part b asked lo hi ∷ []) (storeOf t₃) (part b (Child (r .first)) lo sep ∷ part c (Child (r .second)) sep hi ∷ []) f
+      unfolding standsIn
+      changed =
+          settle-two level (Taken S S₂) (Taken (spareOf spare left) S₂) (storeOf t) (storeOf t₂) (storeOf t₃) (part b asked lo hi) (Child (r .first)) (Child (r .second)) (one .rank) (two .rank)
+          (nodeIn (blocksOf (length t₁)) (w₁ .node)) (nodeIn (blocksOf (length t₂)) (w₂ .node)) c sep f word sound
+          (λ z v i. apart z (v .0) (Memᴰ·append-left [] i)) (λ z v. (less₀ z (v .0), v .1)) (λ z v. ⊎-elim (λ j. inl (j, v .1)) inr (spare-step spare left c some (st .less) (st .spares .once) last z (v .0)))
+          (new .0, λ i. new .1 (less₁ c (less₂ c i))) (λ v. new .1 (v .0)) (let z = u .low in omega arith) (let z = u .high in omega arith) kids
+          stays
+          (refined-shape (Child (r .first)) (ground-left st hv cuts (r .first)) p₁ ok₁ b lo sep (q .first .block) (left-open .full) (one .lowsFit) (p₁ .full ok₁ lo sep f left-open) (let z = q .first .low in omega arith) (q .first .agree (blocksOf (length t₁))))
+          (two .going .node)
+          (refined-shape (Child (r .second)) (ground-right st hv cuts (r .second)) p₂ ok₂ c sep hi (q .second .block) (o .full) (two .lowsFit) (p₂ .full ok₂ sep hi f right-open) (let z = q .second .low in omega arith) (q .second .agree (blocksOf (length t₂))))
+          (q .here other ∙ ap (λ (v : ℕ). nodeIn (blocksOf v) (w₁ .node)) k₂)
+          (q .there)
+          (q .else)
+
+      placed : PlacedTo (storeOf t) (storeOf t₃) level b asked lo hi spare left r f
+      placed =
+          record {
+            changed = subst⁻¹ (λ (v : ℕ). Changed (suc level) (Taken (spareOf spare left) (spareOf spare v)) (storeOf t) (part b asked lo hi ∷ []) (storeOf t₃) (became b asked lo hi r) f) (q .spare)
+                (subst⁻¹ (λ (d : Bool). Changed (suc level) (Taken (spareOf spare left) S₂) (storeOf t) (part b asked lo hi ∷ []) (storeOf t₃)
+                (cond d (part b (Child (r .first)) lo (r .second .low) ∷ part (r .second .block) (Child (r .second)) (r .second .low) hi ∷ []) (part b (again asked (r .first)) lo hi ∷ [])) f) (q .two)
+                (subst⁻¹ (λ (v : ℕ). Changed (suc level) (Taken (spareOf spare left) S₂) (storeOf t) (part b asked lo hi ∷ []) (storeOf t₃) (part b (Child (r .first)) lo v ∷ part (r .second .block) (Child (r .second)) v hi ∷ []) f) (q .second .low)
+                (subst⁻¹ (λ (v : ℕ). Changed (suc level) (Taken (spareOf spare left) S₂) (storeOf t) (part b asked lo hi ∷ []) (storeOf t₃) (part b (Child (r .first)) lo sep ∷ part v (Child (r .second)) sep hi ∷ []) f) (q .second .block) changed)));
+            apart = λ e. let z = q .second .low in (let a = u .low in omega arith, let a = u .high in omega arith);
+          }
+
+pub place-two : {t s map t₁ s₁ map₁ t₂ s₂ map₂ t₃ : List ℕ} {b level : ℕ} {asked : Asked} {n : NodeValue} {h : Halves} {spare : Spare} {left c : ℕ} {w₁ w₂ : Worked} {r : Settled}
+    → Standing t s map b level asked n spare left → Cuttable level n → Halved n (n .entries .n / 2) h
+    → RefinePost t t₁ s₁ map₁ level (h .left) spare (left - 1) w₁ → w₁ .ok ≡ true → 0 < left → spareOf spare left ≡ spareOf spare (left - 1) ++ (c ∷ [])
+    → RefinePost t₁ t₂ s₂ map₂ level (h .right) spare (w₁ .left) w₂ → w₂ .ok ≡ true → length t₂ ≡ length t₁
+    → StoredTwo t₂ t₃ b (lowOf asked) c (h .sep) (w₁ .node) (w₂ .node) (w₂ .left) r → PlacePost t t₃ level b asked n spare left r
+place-two {spare = spare} {left = left} {c = c} st cuts hv p₁ ok₁ some last p₂ ok₂ k₂ q =
+    let i = st .spares .inside c (spare-less spare left (spare .n) (st .less) c (last-new spare left c some (st .less) (st .spares .once) last .0)) in
+    record {
+      fewer = let z = q .spare in omega (arith, p₁ .work .fewer, p₂ .work .fewer);
+      block = λ e. q .first .block;
+      low = λ e. q .first .low;
+      fits = λ e. q .first .fits (block-few (st .undoable) (st .inside));
+      second = λ e g. let z = q .second .block in (omega (arith, i .0), omega (arith, i .1), q .second .fits (block-few (st .undoable) (i .1)));
+      done = λ e lo hi f low sound apart o. placed st cuts hv lo hi f o p₁ ok₁ some last p₂ ok₂ k₂ q low sound apart;
+      whole = λ lo hi f low sound apart o. q .whole;
+    }

@@ -24,15 +24,16 @@ split-inner n more z =
     record { must = λ e. inr (z, leb-true 8 (n .entries .n) (and-left (leb 8 (n .entries .n)) more e)); fits = λ e h. absurd (z h) }
 
 pub store-one : {t t′ : List ℕ} {b low floor : ℕ} {n : NodeValue} {e : Entry} (left : ℕ) → Stored t t′ b n → low ≡ floor → EntryFor b low n e
-    → StoredOne t t′ b floor n left (record { ok = true; two = false; first = e; second = e; left = left })
+    → StoredOne t t′ b floor n left (record { ok = true; broken = false; two = false; first = e; second = e; left = left })
 store-one {b = b} {n = n} {e = e} left st same made =
-    record { ok = refl; one = refl; spare = refl; first = subst (λ (v : ℕ). EntryFor b v n e) same made; stored = st }
+    record { ok = refl; whole = refl; one = refl; spare = refl; first = subst (λ (v : ℕ). EntryFor b v n e) same made; stored = st }
 
 pub store-two : {t t₁ t₂ : List ℕ} {b c low floor sep : ℕ} {n m : NodeValue} {d e : Entry} (left : ℕ) → Stored t t₁ b n → Stored t₁ t₂ c m → low ≡ floor → EntryFor b low n d → EntryFor c sep m e
-    → StoredTwo t t₂ b floor c sep n m left (record { ok = true; two = true; first = d; second = e; left = left })
+    → StoredTwo t t₂ b floor c sep n m left (record { ok = true; broken = false; two = true; first = d; second = e; left = left })
 store-two {t} {t₁} {t₂} {b = b} {c = c} {n = n} {m = m} {d = d} left p q same first second =
     record {
       ok = refl;
+      whole = refl;
       two = refl;
       spare = refl;
       first = subst (λ (v : ℕ). EntryFor b v n d) same first;

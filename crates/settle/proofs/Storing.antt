@@ -21,7 +21,7 @@ use Rattle.block.specs.declared.Asked.{Asked}
 use Rattle.block.specs.declared.Asked.the-variants.{Root, Child}
 use Rattle.block.specs.Table.{blocksOf, blockOk}
 use Rattle.block.specs.Node.{Node, storeOf}
-use Rattle.block.specs.NodeRules.{lows, agrees, fewest, filled, lowest, childCountOk, childBlocksOk, lowsRise, leafBuffersEmpty}
+use Rattle.block.specs.NodeRules.{nodeOk, lows, agrees, fewest, filled, lowest, childCountOk, childBlocksOk, lowsRise, leafBuffersEmpty, standsIn}
 use Rattle.tree.specs.Part.{parts, lowOf}
 use Rattle.tree.specs.Lookup.{lookup}
 use Rattle.tree.specs.Sound.{inRange}
@@ -45,7 +45,7 @@ use Rattle.spare.specs.Spares.{spareOf}
 use Rattle.batch.specs.Batches.{batchSays}
 use Rattle.settle.specs.declared.Settled.{Settled}
 use Rattle.settle.specs.declared.Worked.{Worked}
-use Rattle.settle.specs.Settling.{again, became, LowsFit, Opened, WorkedTo, RefinePost, Standing, PlacedTo, PlacePost, StoredOne, SettlePost}
+use Rattle.settle.specs.Settling.{again, became, LowsFit, Opened, WorkedTo, RefinePost, Standing, PlacedTo, OnOpen, PlacePost, StoredOne, SettlePost}
 
 -- ---- the shape of a node that was worked on
 
@@ -94,10 +94,10 @@ module _ {t t′ s′ map′ : List ℕ} {level : ℕ} {n : NodeValue} {spare : 
       sizes-filled (nodeIn room m) h (omega (arith, p .work .works .points)) (omega (arith, p .fewI ok)) (omega (arith, p .fewD ok))
   sizes (inr h) = sizes-lowest (nodeIn room m) (h .0) (h .1) (h .2) (h .3)
 
-  pub refined-shape : (lo hi : ℕ) → LowsFit lo hi (entriesOf (w .node .entries)) → Full (entriesOf (w .node .entries)) (heldIn (w .node)) → lowOf a ≤ lo
-      → agrees a (nodeIn (blocksOf (length t′)) (w .node)) ≡ true → Shape level a lo hi (nodeIn (blocksOf (length t′)) (w .node))
+  pub refined-shape : (b lo hi : ℕ) → standsIn a ≡ b → hi ≤ allKeys → LowsFit lo hi (entriesOf (w .node .entries)) → Full (entriesOf (w .node .entries)) (heldIn (w .node)) → lowOf a ≤ lo
+      → agrees a (nodeIn (blocksOf (length t′)) (w .node)) ≡ true → Shape level b a lo hi (nodeIn (blocksOf (length t′)) (w .node))
   unfolding lowsRise childBlocksOk blockOk
-  refined-shape lo hi l full low agree =
+  refined-shape b lo hi own most l full low agree =
       record {
         laid = refl;
         level = eq-eqb (m .level) level (p .work .works .level);
@@ -109,23 +109,30 @@ module _ {t t′ s′ map′ : List ℕ} {level : ℕ} {n : NodeValue} {spare : 
         agree = agree;
         low = low;
         blocks = every-make _ (entriesOf (m .entries)) (λ e i. let z = p .work .works .inside e i in all-cons _ _ (le-leb 1 (e .block) (z .0)) (all-cons _ _ (lt-ltb (e .block) room (z .1)) all-nil));
+        own = own;
+        full = most;
       }
 
 -- ---- what leads to a part that was settled as one
 
 again-fewest : (a : Asked) (e : Entry) → fewest (again a e) ≡ fewest a
 unfolding fewest
-again-fewest Root e = refl
+again-fewest (Root b) e = refl
 again-fewest (Child d) e = refl
 
 again-agrees : (a : Asked) (e : Entry) (n : Node) → agrees (Child e) n ≡ true → agrees (again a e) n ≡ true
 unfolding agrees
-again-agrees Root e n h = refl
+again-agrees (Root b) e n h = refl
 again-agrees (Child d) e n h = h
 
 again-low : (a : Asked) (e : Entry) (lo : ℕ) → e .low ≡ lowOf a → lowOf a ≤ lo → lowOf (again a e) ≤ lo
-again-low Root e lo h g = g
+again-low (Root b) e lo h g = g
 again-low (Child d) e lo h g = omega arith
+
+again-own : (a : Asked) (e : Entry) (b : ℕ) → e .block ≡ b → standsIn a ≡ b → standsIn (again a e) ≡ b
+unfolding standsIn
+again-own (Root c) e b h g = g
+again-own (Child d) e b h g = h
 
 -- ---- stored as one
 
@@ -134,8 +141,9 @@ pub block-few : {t s map : List ℕ} {b : ℕ} → Undoable t s map → b < bloc
 block-few u h = omega (arith, u .most)
 
 -- it failed
-pub place-fails : {t t′ : List ℕ} {level b : ℕ} {asked : Asked} {n : NodeValue} {spare : Spare} {left : ℕ} {r : Settled} → r .ok ≡ false → r .left ≤ left → PlacePost t t′ level b asked n spare left r
-place-fails e h =
+pub place-fails : {t t′ : List ℕ} {level b : ℕ} {asked : Asked} {n : NodeValue} {spare : Spare} {left : ℕ} {r : Settled} {broken : Bool} → r .ok ≡ false → r .left ≤ left → r .broken ≡ broken
+    → OnOpen t level b asked n spare left (λ lo hi f. broken ≡ false) → PlacePost t t′ level b asked n spare left r
+place-fails e h said whole =
     record {
       fewer = h;
       block = λ o. absurd (true≢false (sym o ∙ e));
@@ -143,6 +151,7 @@ place-fails e h =
       fits = λ o. absurd (true≢false (sym o ∙ e));
       second = λ o. absurd (true≢false (sym o ∙ e));
       done = λ o. absurd (true≢false (sym o ∙ e));
+      whole = λ lo hi f low sound apart o. said ∙ whole lo hi f low sound apart o;
     }
 
 -- the node n that stands for block b became w .node, and was stored there
@@ -167,7 +176,7 @@ module _ {t s map t₁ s₁ map₁ t₂ : List ℕ} {level b : ℕ} {asked : Ask
         going-done level (storeOf t) (storeOf t₁) (storeOf t₂) (part b asked lo hi) (again asked (r .first)) (spareOf spare left) (spareOf spare (w .left)) (worked .rank) (nodeIn (blocksOf (length t₁)) (w .node)) f sound
         (λ z i j. apart z i (Memᴰ·append-left [] j))
         (subst (λ (es : List Entry). Going level lo hi (storeOf t) (spareOf spare left) es (storeOf t₁) (spareOf spare (w .left)) (worked .rank) (entriesOf (w .node .entries)) (heldIn (w .node)) f) (st .same) (worked .going))
-        (refined-shape (again asked (r .first)) ground p ok lo hi (worked .lowsFit) (p .full ok lo hi f o) (again-low asked (r .first) lo (q .first .low) low)
+        (refined-shape (again asked (r .first)) ground p ok b lo hi (again-own asked (r .first) b (q .first .block) (opened level (storeOf t) (part b asked lo hi) sound .own)) (o .full) (worked .lowsFit) (p .full ok lo hi f o) (again-low asked (r .first) lo (q .first .low) low)
         (again-agrees asked (r .first) (nodeIn (blocksOf (length t₁)) (w .node)) (q .first .agree (blocksOf (length t₁)))))
         (q .stored .here)
         (stored-else t₁ t₂ b (w .node) (q .stored))
@@ -190,14 +199,15 @@ module _ {t s map t₁ s₁ map₁ t₂ : List ℕ} {level b : ℕ} {asked : Ask
         fits = λ e. q .first .fits (block-few (st .undoable) (st .inside));
         second = λ e g. absurd (true≢false (sym g ∙ q .one));
         done = λ e lo hi f low sound apart o. placed lo hi f low sound apart o;
+        whole = λ lo hi f low sound apart o. q .whole;
       }
 
 -- ---- what settle promises
 
--- it failed
-pub settle-fails : {t t′ : List ℕ} {level b : ℕ} {asked : Asked} {ss : List Spot} {ks : List ℕ} {spare : Spare} {left : ℕ} {r : Settled} → r .ok ≡ false → r .left ≤ left
-    → SettlePost t t′ level b asked ss ks spare left r
-settle-fails e h =
+-- the block breaks a rule: then the part was not sound
+pub settle-refused : {t t′ : List ℕ} {level b : ℕ} {asked : Asked} {ss : List Spot} {ks : List ℕ} {spare : Spare} {left : ℕ} {r : Settled} → r .ok ≡ false → r .left ≤ left
+    → nodeOk level asked (storeOf t b) ≡ false → SettlePost t t′ level b asked ss ks spare left r
+settle-refused {t} {level = level} {b = b} {asked = asked} e h refused =
     record {
       fewer = h;
       block = λ o. absurd (true≢false (sym o ∙ e));
@@ -205,6 +215,7 @@ settle-fails e h =
       fits = λ o. absurd (true≢false (sym o ∙ e));
       second = λ o. absurd (true≢false (sym o ∙ e));
       done = λ o. absurd (true≢false (sym o ∙ e));
+      whole = λ lo hi order full low inI inD sound apart. absurd (true≢false (sym (opened level (storeOf t) (part b asked lo hi) sound .ok) ∙ refused));
     }
 
 -- what a node in memory finds that took in a batch, in the range [lo, hi)
@@ -233,7 +244,7 @@ standing-open {t} {b = b} {level = level} {asked = asked} {spare = spare} {left 
 -- the node was stored
 pub settle-placed : {t s map t′ : List ℕ} {b level : ℕ} {asked : Asked} {ss : List Spot} {ks : List ℕ} {n : NodeValue} {spare : Spare} {left : ℕ} {r : Settled} → Standing t s map b level asked n spare left
     → Received t level b asked ss ks n → PlacePost t t′ level b asked n spare left r → SettlePost t t′ level b asked ss ks spare left r
-settle-placed {t} {b = b} {level = level} {asked = asked} {ss = ss} {ks = ks} st rec p =
+settle-placed {t} {b = b} {level = level} {asked = asked} {ss = ss} {ks = ks} {n = n} {spare = spare} {left = left} st rec p =
     record {
       fewer = p .fewer;
       block = p .block;
@@ -241,8 +252,12 @@ settle-placed {t} {b = b} {level = level} {asked = asked} {ss = ss} {ks = ks} st
       fits = p .fits;
       second = p .second;
       done = λ ok lo hi order full low inI inD sound apart.
-          let o = rec lo hi order full inI inD sound in
-          let d = p .done ok lo hi (λ k. batchSays ss ks k (lookup (suc level) (storeOf t) k (part b asked lo hi))) low sound apart
-          (standing-open st lo hi (o .0) (λ k. batchSays ss ks k (lookup (suc level) (storeOf t) k (part b asked lo hi))) order full sound apart (o .1)) in
+          let d = p .done ok lo hi (λ k. batchSays ss ks k (lookup (suc level) (storeOf t) k (part b asked lo hi))) low sound apart (stood lo hi order full inI inD sound apart) in
           record { changed = d .changed; apart = d .apart };
+      whole = λ lo hi order full low inI inD sound apart. p .whole lo hi (λ k. batchSays ss ks k (lookup (suc level) (storeOf t) k (part b asked lo hi))) low sound apart (stood lo hi order full inI inD sound apart);
     }
+  where
+    stood : (lo hi : ℕ) → lo ≤ hi → hi ≤ allKeys → ((k : ℕ) → List·Memᴰ k (keys ss) → within lo hi k ≡ true) → ((k : ℕ) → List·Memᴰ k ks → within lo hi k ≡ true)
+        → Sound (suc level) (storeOf t) (part b asked lo hi ∷ []) → Apart (spareOf spare left) (reaches (suc level) (storeOf t) (part b asked lo hi ∷ []))
+        → Opened (storeOf t) level lo hi n spare left (λ k. batchSays ss ks k (lookup (suc level) (storeOf t) k (part b asked lo hi)))
+    stood lo hi order full inI inD sound apart = let o = rec lo hi order full inI inD sound in standing-open st lo hi (o .0) (λ k. batchSays ss ks k (lookup (suc level) (storeOf t) k (part b asked lo hi))) order full sound apart (o .1)

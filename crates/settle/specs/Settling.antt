@@ -1,6 +1,6 @@
 -- What settle, push and the functions between them are handed and hand back. They answer `ok` only where all went well; then, where the part was sound, the
--- one or two parts that it became are sound, and say of every key what the batch says, else what was said before. Whatever they answer, the journal can
--- still tell what was.
+-- one or two parts that it became are sound, and say of every key what the batch says, else what was said before. Where the part was sound they never answer
+-- `broken` (`whole`). Whatever they answer, the journal can still tell what was.
 -- Assumes nothing.
 use mathlib.Core.Path.{_≡_}
 use Prim.Native.Nat.{ℕ, suc, _≤_, _<_}
@@ -40,7 +40,7 @@ use Rattle.settle.specs.declared.Worked.{Worked}
 
 -- what leads to a part that was settled as one: the root stays the root
 abbrev pub again : Asked → Entry → Asked
-again Root e = Root
+again (Root b) e = Root b
 again (Child d) e = Child e
 
 -- what the part at block b with the range [lo, hi) became: itself again, or two, apart at the low of the second
@@ -67,16 +67,22 @@ pub record Settleable (t s map : List ℕ) (b level : ℕ) (ni nd : ℕ) (spare 
   pub spares : SpareFits t spare
   pub less : left ≤ spare .n
 
+-- what holds where the part is sound, the batch lies in its range, and it reaches no spare block
+abbrev pub OnSound : List ℕ → ℕ → ℕ → Asked → List Spot → List ℕ → Spare → ℕ → (ℕ → ℕ → Type 0) → Type 0
+OnSound t level b asked ss ks spare left Then =
+    (lo hi : ℕ) → lo ≤ hi → hi ≤ allKeys → lowOf asked ≤ lo
+    → ((k : ℕ) → List·Memᴰ k (keys ss) → within lo hi k ≡ true) → ((k : ℕ) → List·Memᴰ k ks → within lo hi k ≡ true)
+    → Sound (suc level) (storeOf t) (part b asked lo hi ∷ []) → Apart (spareOf spare left) (reaches (suc level) (storeOf t) (part b asked lo hi ∷ []))
+    → Then lo hi
+
 pub record SettlePost (t t′ : List ℕ) (level b : ℕ) (asked : Asked) (ss : List Spot) (ks : List ℕ) (spare : Spare) (left : ℕ) (r : Settled) : Type 0 where
   pub fewer : r .left ≤ left
   pub block : r .ok ≡ true → r .first .block ≡ b
   pub low : r .ok ≡ true → r .first .low ≡ lowOf asked
   pub fits : r .ok ≡ true → EntryFits (r .first)
   pub second : r .ok ≡ true → r .two ≡ true → (1 ≤ r .second .block) × (r .second .block < blocksOf (length t)) × EntryFits (r .second)
-  pub done : r .ok ≡ true → (lo hi : ℕ) → lo ≤ hi → hi ≤ allKeys → lowOf asked ≤ lo
-      → ((k : ℕ) → List·Memᴰ k (keys ss) → within lo hi k ≡ true) → ((k : ℕ) → List·Memᴰ k ks → within lo hi k ≡ true)
-      → Sound (suc level) (storeOf t) (part b asked lo hi ∷ []) → Apart (spareOf spare left) (reaches (suc level) (storeOf t) (part b asked lo hi ∷ []))
-      → SettledTo (storeOf t) (storeOf t′) level b asked lo hi ss ks spare left r
+  pub done : r .ok ≡ true → OnSound t level b asked ss ks spare left (λ lo hi. SettledTo (storeOf t) (storeOf t′) level b asked lo hi ss ks spare left r)
+  pub whole : OnSound t level b asked ss ks spare left (λ lo hi. r .broken ≡ false)
 
 -- the lows of a node's entries: the first's is 0, the others rise within the range
 pub record LowsFit (lo hi : ℕ) (es : List Entry) : Type 0 where
@@ -118,6 +124,7 @@ pub record WorkPost (t t′ s′ map′ : List ℕ) (level : ℕ) (n : NodeValue
   pub leaf : r .ok ≡ true → level ≡ 0 → length (entriesOf (r .node .entries)) ≡ length (entriesOf (n .entries))
   pub done : r .ok ≡ true → (lo hi : ℕ) (f : ℕ → Option ℕ) → Opened (storeOf t) level lo hi n spare left f
       → WorkedTo (storeOf t) (storeOf t′) level lo hi n (r .node) spare left (r .left) f
+  pub whole : (lo hi : ℕ) (f : ℕ → Option ℕ) → Opened (storeOf t) level lo hi n spare left f → r .broken ≡ false
 
 -- refine: the sizes are right then, and P is filled, or nothing is left below
 pub record RefinePost (t t′ s′ map′ : List ℕ) (level : ℕ) (n : NodeValue) (spare : Spare) (left : ℕ) (r : Worked) : Type 0 where
@@ -163,19 +170,26 @@ pub record PlacedTo (x y : Store) (level b : ℕ) (asked : Asked) (lo hi : ℕ) 
   pub changed : Changed (suc level) (Taken (spareOf spare left) (spareOf spare (r .left))) x (part b asked lo hi ∷ []) y (became b asked lo hi r) f
   pub apart : r .two ≡ true → (lo < r .second .low) × (r .second .low < hi)
 
+-- what holds where the part is sound and the node that stands for it is open
+abbrev pub OnOpen : List ℕ → ℕ → ℕ → Asked → NodeValue → Spare → ℕ → (ℕ → ℕ → (ℕ → Option ℕ) → Type 0) → Type 0
+OnOpen t level b asked n spare left Then =
+    (lo hi : ℕ) (f : ℕ → Option ℕ) → lowOf asked ≤ lo → Sound (suc level) (storeOf t) (part b asked lo hi ∷ [])
+    → Apart (spareOf spare left) (reaches (suc level) (storeOf t) (part b asked lo hi ∷ [])) → Opened (storeOf t) level lo hi n spare left f
+    → Then lo hi f
+
 pub record PlacePost (t t′ : List ℕ) (level b : ℕ) (asked : Asked) (n : NodeValue) (spare : Spare) (left : ℕ) (r : Settled) : Type 0 where
   pub fewer : r .left ≤ left
   pub block : r .ok ≡ true → r .first .block ≡ b
   pub low : r .ok ≡ true → r .first .low ≡ lowOf asked
   pub fits : r .ok ≡ true → EntryFits (r .first)
   pub second : r .ok ≡ true → r .two ≡ true → (1 ≤ r .second .block) × (r .second .block < blocksOf (length t)) × EntryFits (r .second)
-  pub done : r .ok ≡ true → (lo hi : ℕ) (f : ℕ → Option ℕ) → lowOf asked ≤ lo → Sound (suc level) (storeOf t) (part b asked lo hi ∷ [])
-      → Apart (spareOf spare left) (reaches (suc level) (storeOf t) (part b asked lo hi ∷ [])) → Opened (storeOf t) level lo hi n spare left f
-      → PlacedTo (storeOf t) (storeOf t′) level b asked lo hi spare left r f
+  pub done : r .ok ≡ true → OnOpen t level b asked n spare left (λ lo hi f. PlacedTo (storeOf t) (storeOf t′) level b asked lo hi spare left r f)
+  pub whole : OnOpen t level b asked n spare left (λ lo hi f. r .broken ≡ false)
 
 -- a node was stored in block b, and this is its entry
 pub record StoredOne (t t′ : List ℕ) (b floor : ℕ) (n : NodeValue) (left : ℕ) (r : Settled) : Type 0 where
   pub ok : r .ok ≡ true
+  pub whole : r .broken ≡ false
   pub one : r .two ≡ false
   pub spare : r .left ≡ left
   pub first : EntryFor b floor n (r .first)
@@ -184,6 +198,7 @@ pub record StoredOne (t t′ : List ℕ) (b floor : ℕ) (n : NodeValue) (left :
 -- two were stored, in the blocks b and c
 pub record StoredTwo (t t′ : List ℕ) (b floor c sep : ℕ) (n m : NodeValue) (left : ℕ) (r : Settled) : Type 0 where
   pub ok : r .ok ≡ true
+  pub whole : r .broken ≡ false
   pub two : r .two ≡ true
   pub spare : r .left ≡ left
   pub first : EntryFor b floor n (r .first)

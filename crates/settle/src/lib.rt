@@ -11,9 +11,11 @@ ghost use Rattle.edit.specs.Edits.{Tidy};
 ghost use Rattle.journal.specs.Journal.{Undoable, Kept};
 ghost use Rattle.settle.specs.Settling.{Settleable, SettlePost, Pushable, WorkPost, RefinePost, SplitWhen, Standing, Cuttable, PlacePost, StoredOne, StoredTwo};
 
-// A part after settling: one entry, or two, and how many spare blocks are left.
+// A part after settling: one entry, or two, and how many spare blocks are left. Where it is not ok, `broken` says that a block that was read breaks a rule;
+// else there was no room. So it is below.
 pub struct Settled {
     pub ok: bool,
+    pub broken: bool,
     pub two: bool,
     pub first: block::Entry,
     pub second: block::Entry,
@@ -23,12 +25,13 @@ pub struct Settled {
 // A node in memory that was worked on, and how many spare blocks are left.
 pub struct Worked {
     pub ok: bool,
+    pub broken: bool,
     pub node: node::NodeValue,
     pub left: usize,
 }
 
-fn not_settled(left: usize) -> Settled
-    ensures { λ r. ⌜ (r .ok ≡ false) × (r .left ≡ left) ⌝ }
+fn not_settled(broken: bool, left: usize) -> Settled
+    ensures { λ r. ⌜ (r .ok ≡ false) × (r .left ≡ left) × (r .broken ≡ broken) ⌝ }
 {
     let none = block::Entry {
         block: 0,
@@ -39,6 +42,7 @@ fn not_settled(left: usize) -> Settled
     };
     Settled {
         ok: false,
+        broken,
         two: false,
         first: none,
         second: none,
@@ -46,11 +50,16 @@ fn not_settled(left: usize) -> Settled
     }
 }
 
-fn handed(ok: bool, n: node::NodeValue, left: usize) -> Worked
-    ensures { λ r. ⌜ r ≡ record { ok = ok; node = n; left = left } ⌝ }
+fn handed(ok: bool, broken: bool, n: node::NodeValue, left: usize) -> Worked
+    ensures { λ r. ⌜ r ≡ record { ok = ok; broken = broken; node = n; left = left } ⌝ }
 {
     let node = n;
-    Worked { ok, node, left }
+    Worked {
+        ok,
+        broken,
+        node,
+        left,
+    }
 }
 
 // The low of the entry that leads to a node; the root has none.
@@ -58,7 +67,7 @@ fn low_of(asked: block::Asked) -> u64
     ensures { λ r. ⌜ r ≡ lowOf asked ⌝ }
 {
     match asked {
-        block::Asked::Root => 0,
+        block::Asked::Root(_) => 0,
         block::Asked::Child(e) => e.low,
     }
 }
@@ -92,6 +101,7 @@ fn store_one(
     let first = edit::entry_for(b, low, n);
     Settled {
         ok: true,
+        broken: false,
         two: false,
         first,
         second: first,
@@ -123,6 +133,7 @@ fn store_two(
     let second = edit::entry_for(c, sep, m);
     Settled {
         ok: true,
+        broken: false,
         two: true,
         first,
         second,
@@ -148,7 +159,7 @@ pub fn settle(
     ensures settled { λ r. ⌜ SettlePost (now (t .entry)) (now (t .exit)) level b asked (held inserts) (named deletes) spare left r ⌝ }
 {
     if !block::block_ok(t, b, level, asked) {
-        return not_settled(left);
+        return not_settled(true, left);
     }
     let n = node::load(t, b);
     let full = batch::take_in(n, inserts, deletes);
@@ -157,7 +168,7 @@ pub fn settle(
     }
     let w = refine(t, s, map, full, level, spare, left);
     if !w.ok {
-        return not_settled(w.left);
+        return not_settled(w.broken, w.left);
     }
     let node = w.node;
     store_one(t, s, map, b, asked, node, w.left)
@@ -180,22 +191,22 @@ fn split(
     ensures placed { λ r. ⌜ PlacePost (now (t .entry)) (now (t .exit)) level b asked n spare left r ⌝ }
 {
     if left == 0 {
-        return not_settled(left);
+        return not_settled(false, 0);
     }
     let c = spare::last_of(spare, left);
     let h = batch::halve(n);
     let low = h.left;
     let high = h.right;
     if (64 < low.points.n) | (64 < high.points.n) {
-        return not_settled(left);
+        return not_settled(false, left);
     }
     let x = refine(t, s, map, low, level, spare, left - 1);
     if !x.ok {
-        return not_settled(x.left);
+        return not_settled(x.broken, x.left);
     }
     let y = refine(t, s, map, high, level, spare, x.left);
     if !y.ok {
-        return not_settled(y.left);
+        return not_settled(y.broken, y.left);
     }
     store_two(t, s, map, b, asked, x.node, c, h.sep, y.node, y.left)
 }
@@ -223,6 +234,7 @@ fn refine(
     let ok = f.ok & (node.inserts.n <= 64) & (node.deletes.n <= 16);
     Worked {
         ok,
+        broken: f.broken,
         node,
         left: w.left,
     }
@@ -243,10 +255,10 @@ pub fn push(
     ensures worked { λ r. ⌜ WorkPost (now (t .entry)) (now (t .exit)) (now (s .exit)) (now (map .exit)) level n spare left r ⌝ }
 {
     if (n.inserts.n <= 64) & (n.deletes.n <= 16) {
-        return handed(true, n, left);
+        return handed(true, false, n, left);
     }
     if (level == 0) | (n.entries.n == 0) | (8 <= n.entries.n) {
-        return handed(false, n, left);
+        return handed(false, false, n, left);
     }
     let p = batch::pick(n);
     let e = node::entry(n.entries, p.child);
@@ -263,8 +275,8 @@ pub fn push(
         left,
     );
     if !r.ok {
-        return handed(false, n, r.left);
+        return handed(false, r.broken, n, r.left);
     }
     let node = batch::put_back(p.node, p.child, r.two, r.first, r.second);
-    handed(true, node, r.left)
+    handed(true, false, node, r.left)
 }

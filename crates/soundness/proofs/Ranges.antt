@@ -175,10 +175,10 @@ module _ (t : List ℕ) (b : ℕ) (span : Span) where
           ∙ sym (every-append inside (keys (n .points) ++ keys (n .inserts)) (n .deletes))
 
       pub range-inner : {w : Bool} {n4 a4 : ℕ} → Run t 28 n4 a4 (rest (lows (storeOf t b .entries))) → w ≡ every inside (keysFrom t 28 n4 a4)
-          → ((x && y) && z) && w ≡ inRange (partOf b Root span) (storeOf t b)
+          → ((x && y) && z) && w ≡ inRange (partOf b (Root b) span) (storeOf t b)
       unfolding inRange
       range-inner l ew = ap₂ (λ (a c : Bool). a && c) names-in (ew ∙ ap (every inside) (sym (l .same))) ∙ sym (all2 _ _)
 
       -- a leaf has no entries
-      pub range-leaf : {n4 a4 : ℕ} → Run t 28 n4 a4 (rest (lows (storeOf t b .entries))) → n4 ≡ 0 → (x && y) && z ≡ inRange (partOf b Root span) (storeOf t b)
+      pub range-leaf : {n4 a4 : ℕ} → Run t 28 n4 a4 (rest (lows (storeOf t b .entries))) → n4 ≡ 0 → (x && y) && z ≡ inRange (partOf b (Root b) span) (storeOf t b)
       range-leaf {n4} {a4} l e = sym (and-true ((x && y) && z)) ∙ range-inner l (keys-none t 28 n4 a4 (span .lo) (endOf span) e)

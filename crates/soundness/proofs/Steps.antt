@@ -41,11 +41,11 @@ module _ (t map : List ℕ) (b level : ℕ) (a : Asked) (span : Span) (pre : Che
   low = omega (arith, pre .inside, pre .blocks, pre .mapped)
 
   step : soundAt (suc level) (storeOf t) (partOf b a span) && unseen map (reach (suc level) (storeOf t) (partOf b a span))
-      ≡ not (bit map b) && (nodeOk level a (storeOf t b) && (inRange (partOf b Root span) (storeOf t b) && kidsFresh t b level span (setBit map b)))
+      ≡ not (bit map b) && (nodeOk level a (storeOf t b) && (inRange (partOf b (Root b) span) (storeOf t b) && kidsFresh t b level span (setBit map b)))
   unfolding soundAt reach all inRange
   step =
       let n = nodeOk level a (storeOf t b) in
-      let r = inRange (partOf b Root span) (storeOf t b) in
+      let r = inRange (partOf b (Root b) span) (storeOf t b) in
       let e = every (soundAt level (storeOf t)) (left t b span (span .lo) 0) in
       let bs = gather (reach level (storeOf t)) (left t b span (span .lo) 0) in
       ap (λ (u : Bool). (n && (r && (e && true))) && u) (unseen-cons map b bs low)
@@ -64,13 +64,13 @@ module _ (t map : List ℕ) (b level : ℕ) (a : Asked) (span : Span) (pre : Che
     no-part e = record { ok = sym e; sized = sized; seen = λ q. absurd (false≢true q) }
 
     pub no-twice : bit map b ≡ true → Checked t map map' (suc level) (partOf b a span) false
-    no-twice e = no-part (step ∙ ap (λ (s : Bool). not s && (nodeOk level a (storeOf t b) && (inRange (partOf b Root span) (storeOf t b) && kidsFresh t b level span (setBit map b)))) e)
+    no-twice e = no-part (step ∙ ap (λ (s : Bool). not s && (nodeOk level a (storeOf t b) && (inRange (partOf b (Root b) span) (storeOf t b) && kidsFresh t b level span (setBit map b)))) e)
 
     pub no-node : nodeOk level a (storeOf t b) ≡ false → Checked t map map' (suc level) (partOf b a span) false
     no-node e =
-        no-part (step ∙ ap (λ (n : Bool). not (bit map b) && (n && (inRange (partOf b Root span) (storeOf t b) && kidsFresh t b level span (setBit map b)))) e ∙ and-false (not (bit map b)))
+        no-part (step ∙ ap (λ (n : Bool). not (bit map b) && (n && (inRange (partOf b (Root b) span) (storeOf t b) && kidsFresh t b level span (setBit map b)))) e ∙ and-false (not (bit map b)))
 
-    pub no-range : inRange (partOf b Root span) (storeOf t b) ≡ false → Checked t map map' (suc level) (partOf b a span) false
+    pub no-range : inRange (partOf b (Root b) span) (storeOf t b) ≡ false → Checked t map map' (suc level) (partOf b a span) false
     no-range e =
         no-part (
         step ∙ ap (λ (r : Bool). not (bit map b) && (nodeOk level a (storeOf t b) && (r && kidsFresh t b level span (setBit map b)))) e
@@ -80,13 +80,13 @@ module _ (t map : List ℕ) (b level : ℕ) (a : Asked) (span : Span) (pre : Che
     pub no-kids : kidsFresh t b level span (setBit map b) ≡ false → Checked t map map' (suc level) (partOf b a span) false
     no-kids e =
         no-part (
-        step ∙ ap (λ (k : Bool). not (bit map b) && (nodeOk level a (storeOf t b) && (inRange (partOf b Root span) (storeOf t b) && k))) e
-        ∙ ap (λ (x : Bool). not (bit map b) && (nodeOk level a (storeOf t b) && x)) (and-false (inRange (partOf b Root span) (storeOf t b)))
+        step ∙ ap (λ (k : Bool). not (bit map b) && (nodeOk level a (storeOf t b) && (inRange (partOf b (Root b) span) (storeOf t b) && k))) e
+        ∙ ap (λ (x : Bool). not (bit map b) && (nodeOk level a (storeOf t b) && x)) (and-false (inRange (partOf b (Root b) span) (storeOf t b)))
         ∙ ap (λ (x : Bool). not (bit map b) && x) (and-false (nodeOk level a (storeOf t b)))
         ∙ and-false (not (bit map b)))
 
   -- a return of true
-  pub whole-part : {map' : List ℕ} → bit map b ≡ false → nodeOk level a (storeOf t b) ≡ true → inRange (partOf b Root span) (storeOf t b) ≡ true
+  pub whole-part : {map' : List ℕ} → bit map b ≡ false → nodeOk level a (storeOf t b) ≡ true → inRange (partOf b (Root b) span) (storeOf t b) ≡ true
       → Threaded (soundAt level (storeOf t)) (reach level (storeOf t)) (setBit map b) map' (left t b span (span .lo) 0) []
       → Checked t map map' (suc level) (partOf b a span) true
   unfolding reach
@@ -95,7 +95,7 @@ module _ (t map : List ℕ) (b level : ℕ) (a : Asked) (span : Span) (pre : Che
         ok =
             sym (
             step
-            ∙ ap (λ (x : Bool). not x && (nodeOk level a (storeOf t b) && (inRange (partOf b Root span) (storeOf t b) && kidsFresh t b level span (setBit map b)))) s
+            ∙ ap (λ (x : Bool). not x && (nodeOk level a (storeOf t b) && (inRange (partOf b (Root b) span) (storeOf t b) && kidsFresh t b level span (setBit map b)))) s
             ∙ ap₂ (λ (x y : Bool). x && (y && kidsFresh t b level span (setBit map b))) n r
             ∙ thread-end (soundAt level (storeOf t)) (reach level (storeOf t)) h);
         sized = h .sized ∙ setBit-length map b;

@@ -71,11 +71,11 @@ module _ (t : List ℕ) (ok : headerOk (length t) (headOf t) ≡ true) (bytes : 
       go false h = refl
 
   module _ (span : Span) {z seen : List ℕ} {root level : ℕ} {r : Bool} (e : z ≡ replicate 512 0) (p : root ≡ headOf t .root) (q : level ≡ levels)
-      (lo : span .lo ≡ 0) (hi : endOf span ≡ allKeys) (k : Checked t z seen (suc (level - 1)) (partOf root Root span) r) where
+      (lo : span .lo ≡ 0) (hi : endOf span ≡ allKeys) (k : Checked t z seen (suc (level - 1)) (partOf root (Root root) span) r) where
     at-root : Checked t z seen levels tree r
     at-root =
         subst (λ (x : Part). Checked t z seen levels x r) (root-part t span p lo hi)
-        (subst (λ (n : ℕ). Checked t z seen n (partOf root Root span) r) (levels-are t ok p q) k)
+        (subst (λ (n : ℕ). Checked t z seen n (partOf root (Root root) span) r) (levels-are t ok p q) k)
 
     pub tree-no : r ≡ false → false ≡ shapedBelow t
     tree-no n = sym (shaped-is z e ∙ ap (λ (b : Bool). b && sameList (headOf t .inUse) (setBit (marked z reached) 0)) (sym (at-root .ok) ∙ n))

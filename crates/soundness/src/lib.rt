@@ -30,7 +30,7 @@ pub fn keys_within(t: &[u8], at: usize, w: usize, n: usize, span: visit::Span) -
 // The keys of the node at b and its entries' lows lie in the span.
 pub fn in_range(t: &[u8], b: usize, span: visit::Span) -> bool
     requires { ⌜ ValidBlock (now t) b ⌝ }
-    ensures { λ r. ⌜ r ≡ inRange (partOf b Root span) (storeOf (now (t .entry)) b) ⌝ }
+    ensures { λ r. ⌜ r ≡ inRange (partOf b (Root b) span) (storeOf (now (t .entry)) b) ⌝ }
 {
     let from = b * 2048;
     let to = from + 2048;
@@ -113,7 +113,7 @@ fn tree_ok(t: &[u8]) -> bool
         &mut seen,
         root,
         level,
-        block::Asked::Root,
+        block::Asked::Root(root),
         visit::root_span(),
     ) {
         return false;

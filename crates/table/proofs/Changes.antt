@@ -20,7 +20,7 @@ use Rattle.tree.specs.Lookup.{live, isLive, withKey}
 use Rattle.tree.specs.Walk.{liveCount}
 use Rattle.revise.specs.Numbers.{addNumber}
 use Rattle.revise.specs.Revising.{Lent, Revised}
-use Rattle.revise.proofs.Calls.{two-ways}
+use Rattle.revise.proofs.Calls.{two-ways, header-breaks}
 use Rattle.table.specs.Calls.{Call, add, withdraw}
 use Rattle.table.specs.Answers.{lengths, lent, lengthNumber, outcomes}
 use Rattle.table.specs.Updates.{scratchLeft, UpdatePost, ChangePost, AddPost, WithdrawPost}
@@ -29,6 +29,16 @@ use Rattle.table.specs.Updates.{scratchLeft, UpdatePost, ChangePost, Add
 
 pub number-is : {r : Answer} {n : ℕ} → r ≡ answer n 0 → r .number ≡ n
 number-is a = ap (λ (x : Answer). x .number) a
+
+module _ (c : Call) (t w : List ℕ) (e : tableSized (length t) ≡ false) where
+  pub number-short : lengthNumber (lengths t [] [] w) c ≡ 1
+  unfolding lengthNumber
+  number-short = rw e
+
+module _ (c : Call) (t w : List ℕ) (e : tableSized (length t) ≡ true) where
+  pub number-lent : lent (lengths t [] [] w) c ≡ false → lengthNumber (lengths t [] [] w) c ≡ 2
+  unfolding lengthNumber
+  number-lent h = rw (e, h)
 
 module _ (c : Call) (due : ℕ) (after : ℕ → Option ℕ) (t w : List ℕ) (r : Answer) where
   -- refused by the lengths: everything is as it was
@@ -48,28 +58,45 @@ module _ (c : Call) (due : ℕ) (after : ℕ → Option ℕ) (t w : List ℕ) (r
       }
 
   pub update-short : tableSized (length t) ≡ false → r ≡ answer 1 0 → UpdatePost c due after t w r t w
-  unfolding lengthNumber scratchLeft
-  update-short e a = update-refused 1 (λ h. omega arith) (rw e) refl a
+  unfolding scratchLeft
+  update-short e a = update-refused 1 (λ h. omega arith) (number-short c t w e) refl a
 
   -- the scratch is too short
   pub update-lent : tableSized (length t) ≡ true → lent (lengths t [] [] w) c ≡ false → r ≡ answer 2 0 → UpdatePost c due after t w r t w
-  unfolding lengthNumber scratchLeft
-  update-lent e h a = update-refused 2 (λ x. omega arith) (rw (e, h)) refl a
+  unfolding scratchLeft
+  update-lent e h a = update-refused 2 (λ x. omega arith) (number-lent c t w e h) refl a
+
+  change-refused : (j n : ℕ) → n ≢ 0 → n ≢ 4 → lengthNumber (lengths t [] [] w) c ≡ n → r ≡ answer n 0 → UpdatePost c due after t w r t w
+      → ChangePost c j due after t w r t w
+  change-refused j n nonzero spare l a u =
+      record {
+        update = u;
+        path = λ h. absurd (nonzero (sym l ∙ h));
+        full = λ h. absurd (spare (sym (number-is a) ∙ h));
+        exact = λ s x. x;
+        light = λ s y b z o. refl;
+      }
+
+  pub change-short : (j : ℕ) → tableSized (length t) ≡ false → r ≡ answer 1 0 → ChangePost c j due after t w r t w
+  change-short j e a = change-refused j 1 (λ x. omega arith) (λ x. omega arith) (number-short c t w e) a (update-short e a)
+
+  pub change-lent : (j : ℕ) → tableSized (length t) ≡ true → lent (lengths t [] [] w) c ≡ false → r ≡ answer 2 0 → ChangePost c j due after t w r t w
+  change-lent j e h a = change-refused j 2 (λ x. omega arith) (λ x. omega arith) (number-lent c t w e h) a (update-lent e h a)
 
   -- the lengths are right
-  module _ {t′ w₁ : List ℕ} {n : ℕ} (l : Lent t w) (asks : lent (lengths t [] [] w) c ≡ leb (length t) (length w)) (g : Revised t t′ w w₁ due (outcomes c) after n) (a : r ≡ answer n 0) where
+  module _ {t′ w₁ : List ℕ} {j n : ℕ} (l : Lent t w) (asks : lent (lengths t [] [] w) c ≡ leb (length t) (length w)) (g : Revised t t′ w w₁ j due (outcomes c) after n) (a : r ≡ answer n 0) where
     fine : lengthNumber (lengths t [] [] w) c ≡ 0
     unfolding lengthNumber
     fine = rw (l .sized, asks, le-leb (length t) (length w) (l .room))
 
-    revised-post : {w′ : List ℕ} → w′ ≡ scratchLeft (length t) n w → ChangePost c due after t w r t′ w′
+    revised-post : {w′ : List ℕ} → w′ ≡ scratchLeft (length t) n w → ChangePost c j due after t w r t′ w′
     revised-post left =
         record {
           update =
               record {
                 detail = ap (λ (x : Answer). x .detail) a;
                 refusals = λ h. absurd (h fine);
-                header = λ h b. number-is a ∙ g .header b;
+                header = λ h b. number-is a ∙ g .path (header-breaks t j b);
                 numbers = λ h. ap (λ (x : Answer). has (x .number) (outcomes c)) a ∙ g .numbers;
                 unchanged = λ h. g .leaves .kept (λ e. h (number-is a ∙ e));
                 sized = g .leaves .sized;
@@ -78,11 +105,14 @@ module _ (c : Call) (due : ℕ) (after : ℕ → Option ℕ) (t w : List ℕ) (r
                 staysSound = g .staysSound;
                 liveAfter = λ s h. g .liveAfter s (sym (number-is a) ∙ h);
               };
+          path = λ h b. number-is a ∙ g .path b;
+          full = λ h. g .full (sym (number-is a) ∙ h);
+          exact = g .exact;
           light = g .leaves .light;
         }
 
     -- the scratch is cleared then
-    pub change-ends : {w′ : List ℕ} → (n ≡ 0) ⊎ (n ≡ 3) → w′ ≡ replicate (length t) 0 ++ drop (length t) w₁ → ChangePost c due after t w r t′ w′
+    pub change-ends : {w′ : List ℕ} → (n ≡ 0) ⊎ (n ≡ 3) → w′ ≡ replicate (length t) 0 ++ drop (length t) w₁ → ChangePost c j due after t w r t′ w′
     unfolding scratchLeft
     change-ends {w′} ends cleared =
         revised-post
@@ -90,7 +120,7 @@ module _ (c : Call) (due : ℕ) (after : ℕ → Option ℕ) (t w : List ℕ) (r
         sym (⊎-elim (λ e. ap (λ (i : ℕ). scratchLeft (length t) i w) e) (λ e. ap (λ (i : ℕ). scratchLeft (length t) i w) e) ends))
 
     -- full: it was not touched
-    pub change-full : n ≡ 4 → ChangePost c due after t w r t′ w₁
+    pub change-full : n ≡ 4 → ChangePost c j due after t w r t′ w₁
     unfolding scratchLeft
     change-full e = revised-post (g .leaves .untouched e ∙ sym (ap (λ (i : ℕ). scratchLeft (length t) i w) e))
 
@@ -105,15 +135,15 @@ key-is place rank a b p q e = e ∙ ap₂ key p q
 
 module _ (place rank : ℤ) (track : ℕ) (t w : List ℕ) (r : Answer) where
   pub add-short : tableSized (length t) ≡ false → r ≡ answer 1 0 → AddPost place rank track t w r t w
-  add-short e a = record { update = update-short (add place rank track) _ _ t w r e a; light = λ s y b z o. refl }
+  add-short e a = change-short (add place rank track) _ _ t w r (key place rank) e a
 
   pub add-lent : tableSized (length t) ≡ true → length w < length t → r ≡ answer 2 0 → AddPost place rank track t w r t w
-  add-lent e h a = record { update = update-lent (add place rank track) _ _ t w r e (lt-leb (length t) (length w) h) a; light = λ s y b z o. refl }
+  add-lent e h a = change-lent (add place rank track) _ _ t w r (key place rank) e (lt-leb (length t) (length w) h) a
 
   module _ {t′ w₁ : List ℕ} {n k : ℕ} (l : Lent t w) (e : k ≡ key place rank)
-      (g : Revised t t′ w w₁ (addNumber (length t) (liveCount t) (isLive (live t k))) (0 ∷ 3 ∷ 4 ∷ []) (withKey k (some track) (live t)) n) where
-    of-key : Revised t t′ w w₁ (addNumber (length t) (liveCount t) (isLive (live t (key place rank)))) (0 ∷ 3 ∷ 4 ∷ []) (withKey (key place rank) (some track) (live t)) n
-    of-key = subst (λ (i : ℕ). Revised t t′ w w₁ (addNumber (length t) (liveCount t) (isLive (live t i))) (0 ∷ 3 ∷ 4 ∷ []) (withKey i (some track) (live t)) n) e g
+      (g : Revised t t′ w w₁ k (addNumber (length t) (liveCount t) (isLive (live t k))) (0 ∷ 3 ∷ 4 ∷ []) (withKey k (some track) (live t)) n) where
+    of-key : Revised t t′ w w₁ (key place rank) (addNumber (length t) (liveCount t) (isLive (live t (key place rank)))) (0 ∷ 3 ∷ 4 ∷ []) (withKey (key place rank) (some track) (live t)) n
+    of-key = subst (λ (i : ℕ). Revised t t′ w w₁ i (addNumber (length t) (liveCount t) (isLive (live t i))) (0 ∷ 3 ∷ 4 ∷ []) (withKey i (some track) (live t)) n) e g
 
     pub add-full : n ≡ 4 → r ≡ answer 4 0 → AddPost place rank track t w r t′ w₁
     add-full f a = change-full (add place rank track) _ _ t w r l refl of-key (a ∙ ap (λ (i : ℕ). answer i 0) (sym f)) f
@@ -125,12 +155,12 @@ module _ (place rank : ℤ) (track : ℕ) (t w : List ℕ) (r : Answer) where
 
 module _ (place rank : ℤ) (t w : List ℕ) (r : Answer) where
   pub withdraw-short : tableSized (length t) ≡ false → r ≡ answer 1 0 → WithdrawPost place rank t w r t w
-  withdraw-short e a = record { update = update-short (withdraw place rank) _ _ t w r e a; light = λ s y b z o. refl }
+  withdraw-short e a = change-short (withdraw place rank) _ _ t w r (key place rank) e a
 
   pub withdraw-lent : tableSized (length t) ≡ true → length w < length t → r ≡ answer 2 0 → WithdrawPost place rank t w r t w
-  withdraw-lent e h a = record { update = update-lent (withdraw place rank) _ _ t w r e (lt-leb (length t) (length w) h) a; light = λ s y b z o. refl }
+  withdraw-lent e h a = change-lent (withdraw place rank) _ _ t w r (key place rank) e (lt-leb (length t) (length w) h) a
 
-  pub withdraw-ends : {t′ w₁ w′ : List ℕ} {n k : ℕ} → Lent t w → k ≡ key place rank → Revised t t′ w w₁ 0 (0 ∷ 3 ∷ []) (withKey k none (live t)) n → r ≡ answer n 0
+  pub withdraw-ends : {t′ w₁ w′ : List ℕ} {n k : ℕ} → Lent t w → k ≡ key place rank → Revised t t′ w w₁ k 0 (0 ∷ 3 ∷ []) (withKey k none (live t)) n → r ≡ answer n 0
       → w′ ≡ replicate (length t) 0 ++ drop (length t) w₁ → WithdrawPost place rank t w r t′ w′
   withdraw-ends {t′} {w₁} {w′} {n} {k} l e g a cleared =
-      change-ends (withdraw place rank) _ _ t w r l refl (subst (λ (i : ℕ). Revised t t′ w w₁ 0 (0 ∷ 3 ∷ []) (withKey i none (live t)) n) e g) a (two-ways n (g .numbers)) cleared
+      change-ends (withdraw place rank) _ _ t w r l refl (subst (λ (i : ℕ). Revised t t′ w w₁ i 0 (0 ∷ 3 ∷ []) (withKey i none (live t)) n) e g) a (two-ways n (g .numbers)) cleared

@@ -9,3 +9,6 @@ pub mod Answering
 pub mod Rebuilding
 pub mod Changes
 pub mod Topping
+pub mod Alive
+pub mod Demand2
+pub mod Demand1

@@ -1,10 +1,10 @@
 -- Top's promise, one law for each way that the call ends.
 -- Assumes nothing.
 use mathlib.Core.Path.{_≡_, refl, ap, ap₂, sym, subst, _∙_}
-use mathlib.Core.Logic.{_⊎_, ⊎-elim}
-use mathlib.Core.Bool.{Bool, true, false, true≢false}
+use mathlib.Core.Logic.{⊎-elim}
+use mathlib.Core.Bool.{Bool, true, false, cond, true≢false}
 use mathlib.Core.List.{List, [], _∷_, _++_, List·Memᴰ, List·Memᴰ·not-nil}
-use Prim.Native.Nat.{ℕ, _+_, _*_, _/_, _≤_, _<_}
+use Prim.Native.Nat.{ℕ, zero, suc, _+_, _*_, _/_, _≤_, _<_}
 use native.Mathlib.Omega.{arith}
 use lib.ListN.{length, take, drop, replicate}
 use lib.Seq.{take-all, take-at}
@@ -25,10 +25,11 @@ use Rattle.block.specs.Header.{headOf}
 use Rattle.block.specs.HeaderRules.{headerOk}
 use Rattle.block.specs.Table.{tableSized, sizedFor, blocksOf}
 use Rattle.tree.specs.Walk.{Walk, broken, walked, isBroken, spots, blocksRead}
-use Rattle.tree.specs.Top.{topWalk, best, topTable}
+use Rattle.tree.specs.Top.{threshold, topWalk, best, topTable}
 use Rattle.tree.specs.ReadMap.{readMap}
 use Rattle.tree.proofs.MapBits.{marks-make}
 use Rattle.tree.proofs.Marks.{map-bit, read-mem, zero-marked}
+use Rattle.tree.proofs.Sources.{read-in-table}
 use Rattle.tree.proofs.BestFirstSums.{sum}
 use Rattle.tree.proofs.BestFirstTop.{Done, broken-head}
 use Rattle.top.specs.Runs.{Ended, Based, TopFront}
@@ -119,6 +120,19 @@ module _ (x1 x2 : ℤ) (k : ℕ) (t out map : List ℕ) where
           handsOut = λ z. let y : ⊥ = omega arith in absurd y;
         }
 
+    -- a block that the walk reads is a node's
+    node-block : (b : ℕ) → List·Memᴰ b (blocksRead (topWalk t x1 x2 k)) → b ≡ 0 → ⊥
+    unfolding topWalk
+    node-block b i z = go k i
+      where
+        none : (h : Bool) → List·Memᴰ b (blocksRead (cond h (walked [] []) broken)) → ⊥
+        none true j = List·Memᴰ·not-nil j
+        none false j = List·Memᴰ·not-nil j
+
+        go : (m : ℕ) → List·Memᴰ b (blocksRead (topWalk t x1 x2 m)) → ⊥
+        go zero j = none (headerOk (length t) (headOf t)) j
+        go (suc m) j = let r = read-in-table t (topQuery x1 x2 (threshold t x1 x2 (suc m))) b j in omega (arith, r .some)
+
     few-blocks : blocksOf (length t) ≤ 4096
     unfolding sizedFor
     few-blocks = leb-true _ _ (all-at _ e 2)
@@ -151,7 +165,7 @@ module _ (x1 x2 : ℤ) (k : ℕ) (t out map : List ℕ) where
                 wanted = every-make (wants (topQuery x1 x2 0)) given (λ s j. d .from s j .wanted);
                 marked = λ s j.
                     let v = d .from s j in
-                    (v .block, ap (λ (x : List ℕ). bit x (v .block)) w ∙ map-bit blocks (v .block) (let b = places (v .block) (v .read) in let y = few-blocks in omega arith) ∙ read-mem blocks (v .block) (v .read), v .held);
+                    (v .block, ap (λ (x : List ℕ). bit x (v .block)) w ∙ map-bit blocks (v .block) (let b = places (v .block) (v .read) in let y = few-blocks in omega arith) ∙ read-mem blocks (v .block) (v .read), v .held, node-block (v .block) (d .stand (v .block) (v .read)));
                 header = ap (λ (x : List ℕ). bit x 0) w ∙ zero-marked blocks;
               };
         }

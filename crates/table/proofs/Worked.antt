@@ -1,19 +1,32 @@
 -- The marked cases M1 to M8 of the paper and those of a full table, of lengths and of the ends of 32 bits, as rows of one table: a test that antt computes
--- over all of them, and one law that turns it into the equations.
+-- over all of them, and one law that turns it into the equations. A row asks the model, but for M1's, which is of the table's bytes.
 -- Assumes nothing.
-use mathlib.Core.Path.{_≡_, refl}
-use mathlib.Core.Bool.{Bool, true}
+use mathlib.Core.Path.{_≡_, refl, ap, ap₂, _∙_}
+use mathlib.Core.Bool.{Bool, true, cond}
 use mathlib.Core.List.{List, [], _∷_, _++_}
-use Prim.Native.Nat.{ℕ, zero, suc, _*_, _<_}
+use Prim.Native.Nat.{ℕ, zero, suc, _*_, _/_, _<_}
+use native.Mathlib.Omega.{arith}
 use lib.Dec.{eqb}
-use borrow.Author.Tests.{eqb-true}
+use borrow.Author.Tests.{eqb-true, eq-eqb, le-ltb}
 use lib.ListN.{length, getD, replicate, drop}
 use lib.IntN.{ℤ, pos, negsuc}
 use Rattle.octets.specs.Lists.{all, every, sameList}
 use Rattle.octets.proofs.Tests.{all-at, every-at, same-lists}
 use Rattle.spot.specs.Keys.{signed32, unsigned32}
+use Rattle.spot.specs.Query.{query}
+use Rattle.block.specs.declared.Answer.{Answer}
+use Rattle.block.specs.Answers.{answer}
+use Rattle.block.specs.Table.{sizedFor, tableSized, capacity}
+use Rattle.block.specs.Header.{headOf}
+use Rattle.block.specs.Fresh.{formatted}
+use Rattle.tree.specs.Walk.{Walk, spots}
+use Rattle.tree.specs.Sound.{sound}
+use Rattle.tree.proofs.Fresh.{fresh-sized, fresh-walk, fresh-sound, fresh-levels}
 use Rattle.table.specs.Calls.{Call, format, add, withdraw, report, top, count, check, rebuild, Lengths, argumentsFit}
+use Rattle.table.specs.Answers.{lengths, spotsAnswer, outputLeft}
+use Rattle.table.specs.Queries.{walkAnswer, ReportPost}
 use Rattle.table.specs.Model.{PlainSpot, eqZ, hasIdentity, placeBefore, rankHigher, ofPlaces, ofReport, takenOut, broughtIn, highest, fourBytes, complement, Reply, outputAfter, refuse, accept, badTable, badMap, shortScratch, full, handOut, reply}
+use Rattle.table.proofs.Answering.{long-enough}
 
 -- a table of this many blocks, a read map and a work area as they should be, and an output of this many bytes
 abbrev lens : ℕ → ℕ → Lengths
@@ -24,7 +37,7 @@ abbrev room : ℕ → Lengths
 room bytes = lens 9 bytes
 
 -- after some calls on 9 blocks, the next one, lent these lengths, has this number and detail, and leaves these bytes at the front of the output
-pub record Row : Type 0 where
+pub record Ask : Type 0 where
   pub before : List Call
   pub call : Call
   pub lent : Lengths
@@ -32,26 +45,32 @@ pub record Row : Type 0 where
   pub detail : ℕ
   pub front : List ℕ
 
+-- a row: a call, or a table of so many blocks fresh from Format, with its levels and its capacity
+pub data Row : Type 0 where
+  asks : Ask → Row
+  fresh : ℕ → ℕ → ℕ → Row
+
 after : List Call → List PlainSpot → List PlainSpot
 after [] ss = ss
 after (c ∷ cs) ss = after cs (reply (room 0) c ss .next)
 
--- what the model answers to a row
-pub found : Row → Reply
+-- what the model answers
+pub found : Ask → Reply
 found r = reply (r .lent) (r .call) (after (r .before) [])
 
 -- the output is lent full of 7s
-abbrev pub sevens : Row → List ℕ
+abbrev pub sevens : Ask → List ℕ
 sevens r = replicate (r .lent .output) 7
 
 right : Row → Bool
-right r =
+right (asks r) =
     all (
     every argumentsFit (r .call ∷ r .before) ∷
     eqb (found r .answer .number) (r .number) ∷
     eqb (found r .answer .detail) (r .detail) ∷
     sameList (outputAfter (found r) (sevens r)) (r .front ++ drop (length (r .front)) (sevens r)) ∷
     [])
+right (fresh blocks levels held) = all (tableSized (blocks * 2048) ∷ eqb 1 levels ∷ eqb (capacity (blocks * 2048)) held ∷ [])
 
 -- the two ends of 32 bits
 abbrev least : ℤ
@@ -76,46 +95,47 @@ corners =
 -- the rows
 pub rows : List Row
 rows =
-    -- M1, of the model: any report empty
-    record { before = []; call = report least most least; lent = room 0; number = 0; detail = 0; front = [] } ∷
+    -- M1: sound, one level, capacity 128, any report empty; and the same report of the model
+    fresh 9 1 128 ∷
+    asks (record { before = []; call = report least most least; lent = room 0; number = 0; detail = 0; front = [] }) ∷
     -- M2
-    record { before = add (pos 0) (pos 5) 1 ∷ add (pos 0) (pos 5) 2 ∷ []; call = report (pos 0) (pos 0) (pos 5); lent = room 12; number = 0; detail = 1; front = 0 ∷ 0 ∷ 0 ∷ 0 ∷ 0 ∷ 0 ∷ 0 ∷ 5 ∷ 0 ∷ 0 ∷ 0 ∷ 2 ∷ [] } ∷
+    asks (record { before = add (pos 0) (pos 5) 1 ∷ add (pos 0) (pos 5) 2 ∷ []; call = report (pos 0) (pos 0) (pos 5); lent = room 12; number = 0; detail = 1; front = 0 ∷ 0 ∷ 0 ∷ 0 ∷ 0 ∷ 0 ∷ 0 ∷ 5 ∷ 0 ∷ 0 ∷ 0 ∷ 2 ∷ [] }) ∷
     -- M3
-    record { before = add (pos 0) (pos 5) 1 ∷ []; call = withdraw (pos 0) (pos 5); lent = room 0; number = 0; detail = 0; front = [] } ∷
-    record { before = add (pos 0) (pos 5) 1 ∷ withdraw (pos 0) (pos 5) ∷ []; call = withdraw (pos 0) (pos 5); lent = room 0; number = 0; detail = 0; front = [] } ∷
-    record { before = add (pos 0) (pos 5) 1 ∷ withdraw (pos 0) (pos 5) ∷ withdraw (pos 0) (pos 5) ∷ []; call = count; lent = room 0; number = 0; detail = 0; front = [] } ∷
+    asks (record { before = add (pos 0) (pos 5) 1 ∷ []; call = withdraw (pos 0) (pos 5); lent = room 0; number = 0; detail = 0; front = [] }) ∷
+    asks (record { before = add (pos 0) (pos 5) 1 ∷ withdraw (pos 0) (pos 5) ∷ []; call = withdraw (pos 0) (pos 5); lent = room 0; number = 0; detail = 0; front = [] }) ∷
+    asks (record { before = add (pos 0) (pos 5) 1 ∷ withdraw (pos 0) (pos 5) ∷ withdraw (pos 0) (pos 5) ∷ []; call = count; lent = room 0; number = 0; detail = 0; front = [] }) ∷
     -- M4
-    record { before = two; call = top (pos 0) (pos 240) 1; lent = room 12; number = 0; detail = 1; front = 0 ∷ 0 ∷ 0 ∷ 240 ∷ 0 ∷ 0 ∷ 0 ∷ 7 ∷ 0 ∷ 0 ∷ 0 ∷ 2 ∷ [] } ∷
+    asks (record { before = two; call = top (pos 0) (pos 240) 1; lent = room 12; number = 0; detail = 1; front = 0 ∷ 0 ∷ 0 ∷ 240 ∷ 0 ∷ 0 ∷ 0 ∷ 7 ∷ 0 ∷ 0 ∷ 0 ∷ 2 ∷ [] }) ∷
     -- M5
-    record { before = two; call = report (pos 240) (pos 0) (pos 7); lent = room 24; number = 0; detail = 0; front = [] } ∷
+    asks (record { before = two; call = report (pos 240) (pos 0) (pos 7); lent = room 24; number = 0; detail = 0; front = [] }) ∷
     -- M6
-    record { before = add (pos 0) most 1 ∷ []; call = report (pos 0) (pos 0) most; lent = room 12; number = 0; detail = 1; front = 0 ∷ 0 ∷ 0 ∷ 0 ∷ 127 ∷ 255 ∷ 255 ∷ 255 ∷ 0 ∷ 0 ∷ 0 ∷ 1 ∷ [] } ∷
-    record { before = add (pos 0) most 1 ∷ add (pos 0) least 2 ∷ add (negsuc 0) most 3 ∷ []; call = report (pos 0) (pos 0) least; lent = room 24; number = 0; detail = 2; front = 0 ∷ 0 ∷ 0 ∷ 0 ∷ 128 ∷ 0 ∷ 0 ∷ 0 ∷ 0 ∷ 0 ∷ 0 ∷ 2 ∷ 0 ∷ 0 ∷ 0 ∷ 0 ∷ 127 ∷ 255 ∷ 255 ∷ 255 ∷ 0 ∷ 0 ∷ 0 ∷ 1 ∷ [] } ∷
+    asks (record { before = add (pos 0) most 1 ∷ []; call = report (pos 0) (pos 0) most; lent = room 12; number = 0; detail = 1; front = 0 ∷ 0 ∷ 0 ∷ 0 ∷ 127 ∷ 255 ∷ 255 ∷ 255 ∷ 0 ∷ 0 ∷ 0 ∷ 1 ∷ [] }) ∷
+    asks (record { before = add (pos 0) most 1 ∷ add (pos 0) least 2 ∷ add (negsuc 0) most 3 ∷ []; call = report (pos 0) (pos 0) least; lent = room 24; number = 0; detail = 2; front = 0 ∷ 0 ∷ 0 ∷ 0 ∷ 128 ∷ 0 ∷ 0 ∷ 0 ∷ 0 ∷ 0 ∷ 0 ∷ 2 ∷ 0 ∷ 0 ∷ 0 ∷ 0 ∷ 127 ∷ 255 ∷ 255 ∷ 255 ∷ 0 ∷ 0 ∷ 0 ∷ 1 ∷ [] }) ∷
     -- M7
-    record { before = two; call = report (pos 0) (pos 240) (pos 7); lent = room 12; number = 5; detail = 2; front = [] } ∷
-    record { before = two; call = report (pos 0) (pos 240) (pos 7); lent = room 24; number = 0; detail = 2; front = 0 ∷ 0 ∷ 0 ∷ 0 ∷ 0 ∷ 0 ∷ 0 ∷ 7 ∷ 0 ∷ 0 ∷ 0 ∷ 1 ∷ 0 ∷ 0 ∷ 0 ∷ 240 ∷ 0 ∷ 0 ∷ 0 ∷ 7 ∷ 0 ∷ 0 ∷ 0 ∷ 2 ∷ [] } ∷
+    asks (record { before = two; call = report (pos 0) (pos 240) (pos 7); lent = room 12; number = 5; detail = 2; front = [] }) ∷
+    asks (record { before = two; call = report (pos 0) (pos 240) (pos 7); lent = room 24; number = 0; detail = 2; front = 0 ∷ 0 ∷ 0 ∷ 0 ∷ 0 ∷ 0 ∷ 0 ∷ 7 ∷ 0 ∷ 0 ∷ 0 ∷ 1 ∷ 0 ∷ 0 ∷ 0 ∷ 240 ∷ 0 ∷ 0 ∷ 0 ∷ 7 ∷ 0 ∷ 0 ∷ 0 ∷ 2 ∷ [] }) ∷
     -- M8
-    record { before = two; call = top (pos 0) (pos 240) 0; lent = room 24; number = 0; detail = 0; front = [] } ∷
+    asks (record { before = two; call = top (pos 0) (pos 240) 0; lent = room 24; number = 0; detail = 0; front = [] }) ∷
     -- 8 or 4,097 blocks, or no whole number of them: 1; 9 or 4,096: accepted
-    record { before = []; call = format; lent = lens 8 0; number = 1; detail = 0; front = [] } ∷
-    record { before = []; call = check; lent = lens 4097 0; number = 1; detail = 0; front = [] } ∷
-    record { before = []; call = count; lent = record { table = 18433; output = 0; readMap = 512; scratch = 18433 }; number = 1; detail = 0; front = [] } ∷
-    record { before = []; call = check; lent = lens 9 0; number = 0; detail = 1; front = [] } ∷
-    record { before = []; call = format; lent = lens 4096 0; number = 0; detail = 0; front = [] } ∷
+    asks (record { before = []; call = format; lent = lens 8 0; number = 1; detail = 0; front = [] }) ∷
+    asks (record { before = []; call = check; lent = lens 4097 0; number = 1; detail = 0; front = [] }) ∷
+    asks (record { before = []; call = count; lent = record { table = 18433; output = 0; readMap = 512; scratch = 18433 }; number = 1; detail = 0; front = [] }) ∷
+    asks (record { before = []; call = check; lent = lens 9 0; number = 0; detail = 1; front = [] }) ∷
+    asks (record { before = []; call = format; lent = lens 4096 0; number = 0; detail = 0; front = [] }) ∷
     -- 2, and 1 before it
-    record { before = two; call = top (pos 0) (pos 240) 1; lent = record { table = 18432; output = 12; readMap = 511; scratch = 0 }; number = 2; detail = 0; front = [] } ∷
-    record { before = two; call = rebuild; lent = record { table = 18432; output = 0; readMap = 0; scratch = 18431 }; number = 2; detail = 0; front = [] } ∷
-    record { before = two; call = rebuild; lent = record { table = 18431; output = 0; readMap = 0; scratch = 0 }; number = 1; detail = 0; front = [] } ∷
+    asks (record { before = two; call = top (pos 0) (pos 240) 1; lent = record { table = 18432; output = 12; readMap = 511; scratch = 0 }; number = 2; detail = 0; front = [] }) ∷
+    asks (record { before = two; call = rebuild; lent = record { table = 18432; output = 0; readMap = 0; scratch = 18431 }; number = 2; detail = 0; front = [] }) ∷
+    asks (record { before = two; call = rebuild; lent = record { table = 18431; output = 0; readMap = 0; scratch = 0 }; number = 1; detail = 0; front = [] }) ∷
     -- 128 spots in 9 blocks: "a new identity gives 4, a present one is replaced. After one withdrawal a new one is accepted."
-    record { before = filling 128; call = count; lent = room 0; number = 0; detail = 128; front = [] } ∷
-    record { before = filling 128; call = add (pos 5) (pos 6) 9; lent = room 0; number = 4; detail = 0; front = [] } ∷
-    record { before = filling 128; call = add (pos 5) (pos 5) 9; lent = room 0; number = 0; detail = 0; front = [] } ∷
-    record { before = filling 128 ++ (add (pos 5) (pos 5) 9 ∷ []); call = report (pos 5) (pos 5) (pos 5); lent = room 13; number = 0; detail = 1; front = 0 ∷ 0 ∷ 0 ∷ 5 ∷ 0 ∷ 0 ∷ 0 ∷ 5 ∷ 0 ∷ 0 ∷ 0 ∷ 9 ∷ [] } ∷
-    record { before = filling 128 ++ (add (pos 5) (pos 5) 9 ∷ []); call = count; lent = room 0; number = 0; detail = 128; front = [] } ∷
-    record { before = filling 128 ++ (withdraw (pos 5) (pos 5) ∷ []); call = add (pos 5) (pos 6) 9; lent = room 0; number = 0; detail = 0; front = [] } ∷
-    record { before = filling 128 ++ (withdraw (pos 5) (pos 5) ∷ add (pos 5) (pos 6) 9 ∷ []); call = report (pos 5) (pos 5) least; lent = room 12; number = 0; detail = 1; front = 0 ∷ 0 ∷ 0 ∷ 5 ∷ 0 ∷ 0 ∷ 0 ∷ 6 ∷ 0 ∷ 0 ∷ 0 ∷ 9 ∷ [] } ∷
+    asks (record { before = filling 128; call = count; lent = room 0; number = 0; detail = 128; front = [] }) ∷
+    asks (record { before = filling 128; call = add (pos 5) (pos 6) 9; lent = room 0; number = 4; detail = 0; front = [] }) ∷
+    asks (record { before = filling 128; call = add (pos 5) (pos 5) 9; lent = room 0; number = 0; detail = 0; front = [] }) ∷
+    asks (record { before = filling 128 ++ (add (pos 5) (pos 5) 9 ∷ []); call = report (pos 5) (pos 5) (pos 5); lent = room 13; number = 0; detail = 1; front = 0 ∷ 0 ∷ 0 ∷ 5 ∷ 0 ∷ 0 ∷ 0 ∷ 5 ∷ 0 ∷ 0 ∷ 0 ∷ 9 ∷ [] }) ∷
+    asks (record { before = filling 128 ++ (add (pos 5) (pos 5) 9 ∷ []); call = count; lent = room 0; number = 0; detail = 128; front = [] }) ∷
+    asks (record { before = filling 128 ++ (withdraw (pos 5) (pos 5) ∷ []); call = add (pos 5) (pos 6) 9; lent = room 0; number = 0; detail = 0; front = [] }) ∷
+    asks (record { before = filling 128 ++ (withdraw (pos 5) (pos 5) ∷ add (pos 5) (pos 6) 9 ∷ []); call = report (pos 5) (pos 5) least; lent = room 12; number = 0; detail = 1; front = 0 ∷ 0 ∷ 0 ∷ 5 ∷ 0 ∷ 0 ∷ 0 ∷ 6 ∷ 0 ∷ 0 ∷ 0 ∷ 9 ∷ [] }) ∷
     -- the ends of 32 bits, in place order, in rank order, and with no spot left out
-    record {
+    asks (record {
       before = corners;
       call = report least most least;
       lent = room 72;
@@ -128,8 +148,8 @@ rows =
           0 ∷ 0 ∷ 0 ∷ 0 ∷ 255 ∷ 255 ∷ 255 ∷ 255 ∷ 0 ∷ 0 ∷ 0 ∷ 5 ∷
           127 ∷ 255 ∷ 255 ∷ 255 ∷ 128 ∷ 0 ∷ 0 ∷ 0 ∷ 0 ∷ 0 ∷ 0 ∷ 4 ∷
           127 ∷ 255 ∷ 255 ∷ 255 ∷ 127 ∷ 255 ∷ 255 ∷ 255 ∷ 0 ∷ 0 ∷ 0 ∷ 1 ∷ [];
-    } ∷
-    record {
+    }) ∷
+    asks (record {
       before = corners;
       call = top least most 4294967295;
       lent = room 72;
@@ -142,29 +162,62 @@ rows =
           0 ∷ 0 ∷ 0 ∷ 0 ∷ 255 ∷ 255 ∷ 255 ∷ 255 ∷ 0 ∷ 0 ∷ 0 ∷ 5 ∷
           127 ∷ 255 ∷ 255 ∷ 255 ∷ 128 ∷ 0 ∷ 0 ∷ 0 ∷ 0 ∷ 0 ∷ 0 ∷ 4 ∷
           128 ∷ 0 ∷ 0 ∷ 0 ∷ 128 ∷ 0 ∷ 0 ∷ 0 ∷ 0 ∷ 0 ∷ 0 ∷ 2 ∷ [];
-    } ∷
-    record { before = corners; call = report least least most; lent = room 12; number = 0; detail = 1; front = 128 ∷ 0 ∷ 0 ∷ 0 ∷ 127 ∷ 255 ∷ 255 ∷ 255 ∷ 0 ∷ 0 ∷ 0 ∷ 3 ∷ [] } ∷
-    record { before = corners; call = report most least least; lent = room 12; number = 0; detail = 0; front = [] } ∷
+    }) ∷
+    asks (record { before = corners; call = report least least most; lent = room 12; number = 0; detail = 1; front = 128 ∷ 0 ∷ 0 ∷ 0 ∷ 127 ∷ 255 ∷ 255 ∷ 255 ∷ 0 ∷ 0 ∷ 0 ∷ 3 ∷ [] }) ∷
+    asks (record { before = corners; call = report most least least; lent = room 12; number = 0; detail = 0; front = [] }) ∷
     []
 
 -- what a row says, as equations
-pub record Says (r : Row) : Type 0 where
+pub record AskSays (r : Ask) : Type 0 where
   pub fit : every argumentsFit (r .call ∷ r .before) ≡ true
   pub number : found r .answer .number ≡ r .number
   pub detail : found r .answer .detail ≡ r .detail
   pub output : outputAfter (found r) (sevens r) ≡ r .front ++ drop (length (r .front)) (sevens r)
 
+-- of a fresh table. Any report, lent a map as it should be: accepted, with no spot, and the output as it was.
+pub record FreshSays (blocks levels held : ℕ) : Type 0 where
+  pub isSound : sound (formatted (blocks * 2048)) ≡ true
+  pub high : headOf (formatted (blocks * 2048)) .levels ≡ levels
+  pub holds : capacity (blocks * 2048) ≡ held
+  pub empty : (x1 x2 y : ℤ) (out map : List ℕ) (r : Answer) (out′ map′ : List ℕ) → length map ≡ 512
+      → ReportPost x1 x2 y (formatted (blocks * 2048)) out map r out′ map′
+      → (r ≡ answer 0 0) × (out′ ≡ out)
+
+abbrev pub Says : Row → Type 0
+Says (asks r) = AskSays r
+Says (fresh blocks levels held) = FreshSays blocks levels held
+
+report-none : (n : ℕ) → tableSized n ≡ true → (x1 x2 y : ℤ) (out map : List ℕ) (r : Answer) (out′ map′ : List ℕ) → length map ≡ 512
+    → ReportPost x1 x2 y (formatted n) out map r out′ map′
+    → (r ≡ answer 0 0) × (out′ ≡ out)
+unfolding outputLeft walkAnswer spotsAnswer
+report-none n z x1 x2 y out map r out′ map′ m p =
+    let e : r ≡ answer 0 0 =
+    p .answered ∙
+    long-enough (lengths (formatted n) out map []) (report x1 x2 y) _ (ap tableSized (fresh-sized n z) ∙ z) (eq-eqb (length map) 512 m) ∙
+    ap (walkAnswer (length out)) (fresh-walk n z (query x1 x2 y)) ∙
+    ap (λ (b : Bool). answer (cond b 5 0) 0) (le-ltb (length out / 12) 0 (omega arith)) in
+    (e, p .output ∙ ap₂ (λ (a : Answer) (w : Walk). outputLeft (a .number) (spots w) out) e (fresh-walk n z (query x1 x2 y)))
+
 says : (r : Row) → right r ≡ true → Says r
 unfolding right
-says r t =
+says (asks r) t =
     record { fit = all-at _ t 0; number = eqb-true _ _ (all-at _ t 1); detail = eqb-true _ _ (all-at _ t 2); output = same-lists _ _ (all-at _ t 3) }
+says (fresh blocks levels held) t =
+    let z : tableSized (blocks * 2048) ≡ true = all-at _ t 0 in
+    record {
+      isSound = fresh-sound (blocks * 2048) z;
+      high = fresh-levels (blocks * 2048) z ∙ eqb-true 1 levels (all-at _ t 1);
+      holds = eqb-true (capacity (blocks * 2048)) held (all-at _ t 2);
+      empty = report-none (blocks * 2048) z;
+    }
 
 -- a row to stand past the end
 pub some-row : Row
-some-row = record { before = []; call = count; lent = room 0; number = 0; detail = 0; front = [] }
+some-row = asks (record { before = []; call = count; lent = room 0; number = 0; detail = 0; front = [] })
 
 all-right : every right rows ≡ true
-unfolding all right rows found after filling signed32 unsigned32 argumentsFit eqZ hasIdentity placeBefore rankHigher ofPlaces ofReport takenOut broughtIn highest fourBytes complement outputAfter refuse accept badTable badMap shortScratch full handOut reply
+unfolding all right rows found after filling sizedFor signed32 unsigned32 argumentsFit eqZ hasIdentity placeBefore rankHigher ofPlaces ofReport takenOut broughtIn highest fourBytes complement outputAfter refuse accept badTable badMap shortScratch full handOut reply
 all-right = refl
 
 -- every row of the table says what the definitions give

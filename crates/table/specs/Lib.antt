@@ -5,3 +5,4 @@ pub mod Updates
 pub mod Model
 pub mod History
 pub mod NoneGiven
+pub mod Demands

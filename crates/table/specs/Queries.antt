@@ -37,14 +37,15 @@ pub record QueryPost (c : Call) (w : Walk) (t out map : List ℕ) (r : Answer) (
 abbrev pub ReportPost : ℤ → ℤ → ℤ → List ℕ → List ℕ → List ℕ → Answer → List ℕ → List ℕ → Type 0
 ReportPost x1 x2 y t = QueryPost (report x1 x2 y) (walkTable t (query x1 x2 y)) t
 
--- "On an unsound table a call that isn't refused still hands out only spots of its range from blocks marked read": spots that stand in P or I of such a block
+-- "On an unsound table a call that isn't refused still hands out only spots of its range from blocks marked read": spots that stand in P or I of such a block, a
+-- node's and not block 0
 pub record HandsOut (q : Query) (t out : List ℕ) (r : Answer) (out′ map′ : List ℕ) : Type 0 where
   pub given : List Spot
   pub output : out′ ≡ outputLeft 0 given out
   pub detail : r .detail ≡ length given
   pub wanted : every (wants q) given ≡ true
   pub marked : (s : Spot) → List·Memᴰ s given
-      → (b : ℕ) × (bit map′ b ≡ true) × List·Memᴰ s (storeOf t b .points ++ storeOf t b .inserts)
+      → (b : ℕ) × (bit map′ b ≡ true) × List·Memᴰ s (storeOf t b .points ++ storeOf t b .inserts) × (b ≡ 0 → ⊥)
   pub header : bit map′ 0 ≡ true
 
 -- "Top(x1, x2, k), k unsigned 32-bit, gives, of the live spots with x1 ≤ place ≤ x2, the k highest in rank order (all, if fewer), highest first". Where the

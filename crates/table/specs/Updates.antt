@@ -11,6 +11,7 @@ use lib.ListN.{length, drop, replicate}
 use lib.IntN.{ℤ}
 use Rattle.octets.specs.Lists.{every, has}
 use Rattle.spot.specs.Keys.{key}
+use Rattle.spot.specs.Query.{everything}
 use Rattle.block.specs.Answers.{answer}
 use Rattle.block.specs.declared.Answer.{Answer}
 use Rattle.block.specs.Table.{tableSized, block}
@@ -21,10 +22,13 @@ use Rattle.block.specs.Fresh.{formatted}
 use Rattle.tree.specs.Part.{whole}
 use Rattle.tree.specs.Lookup.{live, isLive, withKey}
 use Rattle.tree.specs.Reach.{reach, settled}
-use Rattle.tree.specs.Walk.{liveCount}
+use Rattle.tree.specs.Walk.{walkTable, liveSpots, liveCount}
 use Rattle.tree.specs.Sound.{sound}
 use Rattle.change.specs.Room.{roomy, rootOf}
-use Rattle.revise.specs.Numbers.{addNumber}
+use Rattle.lookup.specs.Answers.{lookedUp}
+use Rattle.lookup.specs.declared.Looked.the-variants.{Broken}
+use Rattle.renew.specs.Layable.{layable}
+use Rattle.revise.specs.Numbers.{addNumber, Full}
 use Rattle.table.specs.Calls.{Call, format, add, withdraw, rebuild}
 use Rattle.table.specs.Answers.{lengths, lengthNumber, unlessRefused, outcomes}
 
@@ -56,24 +60,35 @@ pub record UpdatePost (c : Call) (due : ℕ) (after : ℕ → Option ℕ) (t w :
   pub staysSound : sound t ≡ true → sound t′ ≡ true
   pub liveAfter : sound t ≡ true → r .number ≡ 0 → (k : ℕ) → live t′ k ≡ after k
 
--- Add and Withdraw: "change no blocks of the table but block 0 and the root"
-pub record ChangePost (c : Call) (due : ℕ) (after : ℕ → Option ℕ) (t w : List ℕ) (r : Answer) (t′ w′ : List ℕ) : Type 0 where
+-- Add and Withdraw of the key j
+pub record ChangePost (c : Call) (j due : ℕ) (after : ℕ → Option ℕ) (t w : List ℕ) (r : Answer) (t′ w′ : List ℕ) : Type 0 where
   pub update : UpdatePost c due after t w r t′ w′
+  -- on every table: 3 where block 0 or a node on the key's path, down to the first that names it, breaks a rule; 4 only where that path and a walk of
+  -- everything are whole, the key is not live and no fewer spots than the capacity are counted
+  pub path : lengthNumber (lengths t [] [] w) c ≡ 0 → lookedUp t j ≡ Broken → r .number ≡ 3
+  pub full : r .number ≡ 4 → Full t j
+  -- the figure in block 0: exact before, exact after
+  pub exact : sound t ≡ true → headOf t .bound ≡ liveCount t → headOf t′ .bound ≡ liveCount t′
+  -- "change no blocks of the table but block 0 and the root"
   pub light : sound t ≡ true → roomy (rootOf t) ≡ true → (b : ℕ) → b ≢ 0 → b ≢ headOf t .root → block t′ b ≡ block t b
 
 -- "Add puts the spot in; one of the same identity is replaced"
 abbrev pub AddPost : ℤ → ℤ → ℕ → List ℕ → List ℕ → Answer → List ℕ → List ℕ → Type 0
 AddPost place rank track t =
-    ChangePost (add place rank track) (addNumber (length t) (liveCount t) (isLive (live t (key place rank))))
+    ChangePost (add place rank track) (key place rank) (addNumber (length t) (liveCount t) (isLive (live t (key place rank))))
     (withKey (key place rank) (some track) (live t))
     t
 
 -- "Withdraw takes out the spot of that identity; where there is none the set is unchanged and the call is accepted"
 abbrev pub WithdrawPost : ℤ → ℤ → List ℕ → List ℕ → Answer → List ℕ → List ℕ → Type 0
-WithdrawPost place rank t = ChangePost (withdraw place rank) 0 (withKey (key place rank) none (live t)) t
+WithdrawPost place rank t = ChangePost (withdraw place rank) (key place rank) 0 (withKey (key place rank) none (live t)) t
 
 -- "Rebuild leaves the live spots the same, track numbers included, and all waiting changes carried out"
 pub record RebuildPost (t w : List ℕ) (r : Answer) (t′ w′ : List ℕ) : Type 0 where
   pub update : UpdatePost rebuild 0 (live t) t w r t′ w′
-  pub carriedOut : sound t ≡ true → r .number ≡ 0
+  -- on every table: accepted exactly where the live spots can be laid out anew, and then they are
+  pub answered : lengthNumber (lengths t [] [] w) rebuild ≡ 0 → r .number ≡ cond (layable (length t) (walkTable t everything)) 0 3
+  pub anew : r .number ≡ 0 → (sound t′ ≡ true) × (liveSpots t′ ≡ liveSpots t)
+  pub exact : r .number ≡ 0 → headOf t′ .bound ≡ liveCount t′
+  pub carriedOut : r .number ≡ 0
       → every (λ b. settled (storeOf t′ b)) (reach (headOf t′ .levels) (storeOf t′) (whole (headOf t′))) ≡ true

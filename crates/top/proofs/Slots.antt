@@ -49,11 +49,11 @@ rooted t ok span path {root} {levels} p q lo hi none bare =
     let low = root-low t ok p q in
     record {
       same =
-          ap₂ (λ (l : ℕ) (nm : List ℕ). record { levels = l; named = nm; part = partOf root Root span }) (levels-are t ok p q) (ap (λ (l : List ℕ). namedBy (storeOf t) (rev l)) bare)
+          ap₂ (λ (l : ℕ) (nm : List ℕ). record { levels = l; named = nm; part = partOf root (Root root) span }) (levels-are t ok p q) (ap (λ (l : List ℕ). namedBy (storeOf t) (rev l)) bare)
           ∙ ap (λ (x : Part). record { levels = headOf t .levels; named = []; part = x }) (root-part t span p lo hi);
       inside = omega (arith, low);
       near = omega (arith, low, header-few t ok);
-      ancestors = above-root t path (ceiling Root) none;
+      ancestors = above-root t path (ceiling (Root root)) none;
       deep = omega (arith, levels-few t ok p q, none);
     }
 

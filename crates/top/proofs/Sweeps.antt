@@ -113,13 +113,13 @@ module _ (t : List ℕ) (x1 x2 : ℤ) (k : ℕ) (q : Query) (asks : q ≡ topQue
 -- ---- the root
 
 module _ (t : List ℕ) (x1 x2 : ℤ) (k room : ℕ) (rows paths orders heads : List (List ℕ)) (ranks kids : List ℕ) (s : Slot) (r : Rooted t s) (some : 0 < k) (ok : headerOk (length t) (headOf t) ≡ true) where
-  pub poised-root : Poised t x1 x2 k (slotAt rows paths) (headAt heads) (cellAt kids) 0 [] [] (pendOf t s Root)
+  pub poised-root : Poised t x1 x2 k (slotAt rows paths) (headAt heads) (cellAt kids) 0 [] [] (pendOf t s (Root (s .block)))
   poised-root =
       subst (λ (p : Pending). Poised t x1 x2 k (slotAt rows paths) (headAt heads) (cellAt kids) 0 [] [] p) (sym (r .same))
       (root-poised t x1 x2 k (slotAt rows paths) (headAt heads) (cellAt kids) some ok)
 
   pub root-swept : {q : Query} {seen seen' out : List ℕ} {rows' paths' orders' heads' : List (List ℕ)} {ranks' kids' : List ℕ} → q ≡ topQuery x1 x2 0 → seen ≡ replicate 512 0
-      → Readable t seen rows paths orders heads ranks kids 0 s Root → Added t q seen seen' rows rows' paths paths' orders orders' heads heads' ranks ranks' kids kids' 0 s Root → 12 * room ≤ length out
+      → Readable t seen rows paths orders heads ranks kids 0 s (Root (s .block)) → Added t q seen seen' rows rows' paths paths' orders orders' heads heads' ranks ranks' kids kids' 0 s (Root (s .block)) → 12 * room ≤ length out
       → Swept t x1 x2 k room out seen' out rows' paths' heads' kids' 1 0
   root-swept {q} {seen} {seen'} {out} {rows'} {paths'} {orders'} {heads'} {ranks'} {kids'} asks e z d fits =
       record {
@@ -127,12 +127,12 @@ module _ (t : List ℕ) (x1 x2 : ℤ) (k room : ℕ) (rows paths orders heads : 
         sofar =
             record {
               given = [];
-              going = read-going t x1 x2 k q asks seen seen' rows rows' paths paths' orders orders' heads heads' ranks ranks' kids kids' 0 s Root z [] [] poised-root (seen-start e) d;
+              going = read-going t x1 x2 k q asks seen seen' rows rows' paths paths' orders orders' heads heads' ranks ranks' kids kids' 0 s (Root (s .block)) z [] [] poised-root (seen-start e) d;
               counted = refl;
               output = written-none room out;
               fits = fits;
             };
-        seenIs = read-seen t x1 x2 k q asks seen seen' rows rows' paths paths' orders orders' heads heads' ranks ranks' kids kids' 0 s Root z [] [] poised-root (seen-start e) d;
+        seenIs = read-seen t x1 x2 k q asks seen seen' rows rows' paths paths' orders orders' heads heads' ranks ranks' kids kids' 0 s (Root (s .block)) z [] [] poised-root (seen-start e) d;
       }
 
 -- ---- spots given
@@ -275,7 +275,7 @@ swept-few {t} {x1} {x2} {k} {rows = rows} {paths = paths} {heads = heads} {kids 
 
 pub root-readable : {t seen : List ℕ} {rows paths orders heads : List (List ℕ)} {ranks kids : List ℕ} {s : Slot} → Rooted t s → seen ≡ replicate 512 0 → 1 ≤ length rows → length paths ≡ length rows
     → length orders ≡ length rows → length heads ≡ length rows → length ranks ≡ length rows → length kids ≡ 8 * length rows
-    → Readable t seen rows paths orders heads ranks kids 0 s Root
+    → Readable t seen rows paths orders heads ranks kids 0 s (Root (s .block))
 root-readable r e l p o h k c =
     record {
       inside = r .inside;
@@ -293,11 +293,11 @@ root-readable r e l p o h k c =
     }
 
 pub root-broken : {t : List ℕ} (x1 x2 : ℤ) {k : ℕ} {q : Query} {seen : List ℕ} {rows paths orders heads : List (List ℕ)} {ranks kids : List ℕ} {s : Slot} (r : Rooted t s) → 0 < k → headerOk (length t) (headOf t) ≡ true
-    → q ≡ topQuery x1 x2 0 → seen ≡ replicate 512 0 → Readable t seen rows paths orders heads ranks kids 0 s Root
-    → (bit seen (s .block) ≡ true) ⊎ (nodeOk (s .level) Root (storeOf t (s .block)) ≡ false)
+    → q ≡ topQuery x1 x2 0 → seen ≡ replicate 512 0 → Readable t seen rows paths orders heads ranks kids 0 s (Root (s .block))
+    → (bit seen (s .block) ≡ true) ⊎ (nodeOk (s .level) (Root (s .block)) (storeOf t (s .block)) ≡ false)
     → topWalk t x1 x2 k ≡ broken
 root-broken {t} x1 x2 {k} {q} {seen} {rows} {paths} {orders} {heads} {ranks} {kids} {s} r some ok asks e z =
-    read-broken t x1 x2 k q asks seen seen rows rows paths paths orders orders heads heads ranks ranks kids kids 0 s Root z [] [] (poised-root t x1 x2 k 0 rows paths orders heads ranks kids s r some ok) (seen-start e)
+    read-broken t x1 x2 k q asks seen seen rows rows paths paths orders orders heads heads ranks ranks kids kids 0 s (Root (s .block)) z [] [] (poised-root t x1 x2 k 0 rows paths orders heads ranks kids s r some ok) (seen-start e)
 
 -- a search that gives nothing: a rule is broken, or the slots are few
 module _ {t : List ℕ} {q : Query} {k room cap : ℕ} {out seen' out' : List ℕ} {r : Search} where

@@ -71,10 +71,10 @@ pub record NodeRead (t : List ℕ) (q : Query) (seen seen' : List ℕ) (rows row
 
 -- the root's slot
 pub record Rooted (t : List ℕ) (s : Slot) : Type 0 where
-  pub same : pendOf t s Root ≡ rootOf t
+  pub same : pendOf t s (Root (s .block)) ≡ rootOf t
   pub inside : s .block * 2048 + 2048 ≤ length t
   pub near : s .block < 4096
-  pub ancestors : Ancestors t (s .path) (ceiling Root)
+  pub ancestors : Ancestors t (s .path) (ceiling (Root (s .block)))
   pub deep : s .path .n + s .level ≤ 6
 
 -- the slot of the i-th child of s

@@ -320,7 +320,7 @@ fn look(
         kids,
         0,
         root,
-        block::Asked::Root,
+        block::Asked::Root(root.block),
         q,
     ) {
         return stops(false);

@@ -12,7 +12,7 @@ use lib.ListN.{length}
 use lib.Dec.{eqb}
 use borrow.Author.Tests.{eqb-true, eqb-false, eq-eqb, leb-true, le-leb, ltb-true, lt-ltb}
 use Rattle.octets.specs.Lists.{every, has, isEmpty, maximum}
-use Rattle.octets.proofs.Tests.{all-at, all-cons, all-nil, every-mem, every-make, or-right}
+use Rattle.octets.proofs.Tests.{all-at, all-cons, all-nil, every-mem, every-make, or-left, or-right, empty-length}
 use Rattle.octets.proofs.Extremes.{maximum-ge, max-is}
 use Rattle.spot.specs.declared.Spot.{Spot}
 use Rattle.spot.specs.Spots.{keys, find}
@@ -199,3 +199,17 @@ sizes-lowest n a b c d =
     ap (λ (t : Bool). filled n || t)
     (all-cons _ _ (lt-ltb (length (n .points)) 32 a) (all-cons _ _ (ap isEmpty b) (all-cons _ _ (ap isEmpty c) (all-cons _ _ (every-make _ (n .entries) (λ e i. eq-eqb (e .size) 0 (d e i))) all-nil)))) ∙
     or-true (filled n)
+
+-- the sizes of either
+pub sizes-few : (n : Node) → (filled n || lowest n) ≡ true → (length (n .points) ≤ 64) × (length (n .inserts) ≤ 64) × (length (n .deletes) ≤ 16)
+unfolding filled lowest
+sizes-few n h = go (filled n) refl
+  where
+    go : (q : Bool) → filled n ≡ q → (length (n .points) ≤ 64) × (length (n .inserts) ≤ 64) × (length (n .deletes) ≤ 16)
+    go true g = (leb-true (length (n .points)) 64 (all-at _ g 1), leb-true (length (n .inserts)) 64 (all-at _ g 2), leb-true (length (n .deletes)) 16 (all-at _ g 3))
+    go false g =
+        let o = or-left (filled n) (lowest n) h g in
+        let p = ltb-true (length (n .points)) 32 (all-at _ o 0) in
+        let i = empty-length (n .inserts) (all-at _ o 1) in
+        let d = empty-length (n .deletes) (all-at _ o 2) in
+        (omega arith, omega arith, omega arith)

@@ -54,7 +54,7 @@ due y u = leb y (promised u)
 module _ (x1 x2 : ℤ) (y : ℕ) where
   topped-rank : y ≤ word → (a : Asked) → topped (topQuery x1 x2 y) a ≡ topped (topQuery x1 x2 0) a && leb y (promise a)
   unfolding topped topQuery all
-  topped-rank h Root = sym (le-leb y word h)
+  topped-rank h (Root b) = sym (le-leb y word h)
   topped-rank h (Child e) = rw (le-leb 0 (rankOf (e .top)) (omega arith)) (go (not (eqb (e .size) 0)) (leb y (rankOf (e .top))))
     where
       go : (a b : Bool) → a && (b && true) ≡ (a && (true && true)) && b
@@ -157,13 +157,13 @@ module _ (t : List ℕ) (q : Query) (l b : ℕ) where
   -- a spot of a node is of no higher rank than its entry promises
   pub held-under : (a : Asked) → nodeOk l a (storeOf t b) ≡ true → topped q a ≡ true → (s : Spot) → List·Memᴰ s (storeOf t b .points ++ storeOf t b .inserts)
       → rankOf (s .key) ≤ promise a
-  held-under Root ok h s i = let z = rank-word (s .key) (held-small t b i) in omega arith
+  held-under (Root r) ok h s i = let z = rank-word (s .key) (held-small t b i) in omega arith
   held-under (Child e) ok h s i = let z = held-below l e (storeOf t b) ok (topped-size q e h) s i in omega arith
 
   -- and so is the highest of a child
   entry-under : (a : Asked) → nodeOk l a (storeOf t b) ≡ true → topped q a ≡ true → (e : Entry) → List·Memᴰ e (storeOf t b .entries) → topped q (Child e) ≡ true
       → rankOf (e .top) ≤ promise a
-  entry-under Root ok h e i k = let z = rank-word (e .top) (top-small t b i) in omega arith
+  entry-under (Root r) ok h e i k = let z = rank-word (e .top) (top-small t b i) in omega arith
   entry-under (Child d) ok h e i k =
       let n = storeOf t b in
       let z = below-other l d n ok (topped-size q d h) (e .top) (Memᴰ·append-right (keys (n .inserts) ++ n .deletes) (tops-mem (n .entries) i (topped-size q e k))) in

@@ -107,5 +107,5 @@ module _ (e : Entry) (n : Node) (h : agrees (Child e) n ≡ true) where
 -- names of the node's range are not below it
 pub not-below : (a : Asked) (lo hi : ℕ) (n : Node) → lowOf a ≤ lo → ((k : ℕ) → List·Memᴰ k (names n) → within lo hi k ≡ true) → notBelow a n ≡ true
 unfolding notBelow
-not-below Root lo hi n h w = refl
+not-below (Root b) lo hi n h w = refl
 not-below (Child e) lo hi n h w = every-make _ (names n) (λ k i. le-leb (e .low) k (let z = within-from lo hi k (w k i) in omega arith))

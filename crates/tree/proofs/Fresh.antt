@@ -19,10 +19,11 @@ use Rattle.block.specs.Header.{Header, headOf, headerOf}
 use Rattle.block.specs.Node.{storeOf, nodeOf, nodeFrom, laidOut, firstBlank}
 use Rattle.block.specs.Table.{blockOk, sizedFor, tableSized, capacity}
 use Rattle.block.specs.Fresh.{freshHeader, freshLeaf, formatted}
-use Rattle.block.specs.NodeRules.{nodeOk, childCountOk, buffersRise, namedOnce, names, lowsRise, pointsAbove, filled, lowest, leafBuffersEmpty, agrees, notBelow, childBlocksOk}
+use Rattle.block.specs.NodeRules.{nodeOk, childCountOk, buffersRise, namedOnce, names, lowsRise, pointsAbove, filled, lowest, leafBuffersEmpty, agrees, notBelow, childBlocksOk, lowsNotBelow, childrenApart, entriesCredible}
 use Rattle.block.specs.HeaderRules.{headerOk, mapShows}
 use Rattle.block.proofs.Making.{blocks-least, blocks-most}
 use Rattle.spot.specs.Spots.{find}
+use Rattle.spot.specs.declared.Spot.{Spot}
 use Rattle.tree.specs.Lookup.{live}
 use Rattle.tree.proofs.Tables.{live-finds}
 use Rattle.tree.specs.Part.{whole}
@@ -32,12 +33,12 @@ use Rattle.tree.specs.Walk.{walked, walkTable, walkFrom, walk, once, ent
 
 -- M1: any walk of a fresh table of 9 blocks finds nothing, and reads the root
 pub fresh-walk-9 : (q : Query) → walkTable (formatted 18432) q ≡ walked [] (1 ∷ [])
-unfolding all within headOf headerOf storeOf nodeOf nodeFrom laidOut freshHeader freshLeaf formatted headerOk sizedFor mapShows blockOk bit nodeOk childCountOk buffersRise namedOnce names lowsRise pointsAbove filled lowest leafBuffersEmpty agrees notBelow childBlocksOk firstBlank walkTable walkFrom walk enter finds be bytesOf once
+unfolding all within headOf headerOf storeOf nodeOf nodeFrom laidOut freshHeader freshLeaf formatted headerOk sizedFor mapShows blockOk bit nodeOk childCountOk buffersRise namedOnce names lowsRise pointsAbove filled lowest leafBuffersEmpty agrees notBelow childBlocksOk lowsNotBelow childrenApart entriesCredible firstBlank walkTable walkFrom walk enter finds be bytesOf once
 fresh-walk-9 q = refl
 
 -- M1: a fresh table of 9 blocks is sound
 pub fresh-sound-9 : sound (formatted 18432) ≡ true
-unfolding all within headOf headerOf storeOf nodeOf nodeFrom laidOut freshHeader freshLeaf formatted headerOk sizedFor mapShows blockOk bit nodeOk childCountOk buffersRise namedOnce names lowsRise pointsAbove filled lowest leafBuffersEmpty agrees notBelow childBlocksOk firstBlank walkTable walkFrom walk enter finds sound soundAt inRange reach mapExact liveCount liveSpots be bytesOf once
+unfolding all within headOf headerOf storeOf nodeOf nodeFrom laidOut freshHeader freshLeaf formatted headerOk sizedFor mapShows blockOk bit nodeOk childCountOk buffersRise namedOnce names lowsRise pointsAbove filled lowest leafBuffersEmpty agrees notBelow childBlocksOk lowsNotBelow childrenApart entriesCredible firstBlank walkTable walkFrom walk enter finds sound soundAt inRange reach mapExact liveCount liveSpots be bytesOf once
 fresh-sound-9 = refl
 
 -- M1: one level, and capacity 128
@@ -91,11 +92,11 @@ module _ (n : ℕ) (z : tableSized n ≡ true) where
 
   -- what is done by computation once the header is known
   fresh-walked : (q : Query) → walkFrom (freshHead n) (storeOf (formatted n)) q ≡ walked [] (1 ∷ [])
-  unfolding all storeOf nodeOf nodeFrom laidOut freshHeader freshLeaf formatted nodeOk childCountOk buffersRise namedOnce names lowsRise pointsAbove filled lowest leafBuffersEmpty agrees notBelow childBlocksOk firstBlank walkFrom walk enter finds be bytesOf once
+  unfolding all storeOf nodeOf nodeFrom laidOut freshHeader freshLeaf formatted nodeOk childCountOk buffersRise namedOnce names lowsRise pointsAbove filled lowest leafBuffersEmpty agrees notBelow childBlocksOk lowsNotBelow childrenApart entriesCredible firstBlank walkFrom walk enter finds be bytesOf once
   fresh-walked q = refl
 
   fresh-tree : soundAt 1 (storeOf (formatted n)) (whole (freshHead n)) ≡ true
-  unfolding all storeOf nodeOf nodeFrom laidOut freshHeader freshLeaf formatted nodeOk childCountOk buffersRise namedOnce names lowsRise pointsAbove filled lowest leafBuffersEmpty agrees notBelow childBlocksOk firstBlank soundAt inRange be bytesOf
+  unfolding all storeOf nodeOf nodeFrom laidOut freshHeader freshLeaf formatted nodeOk childCountOk buffersRise namedOnce names lowsRise pointsAbove filled lowest leafBuffersEmpty agrees notBelow childBlocksOk lowsNotBelow childrenApart entriesCredible firstBlank soundAt inRange be bytesOf
   fresh-tree = refl
 
   fresh-exact : mapExact fresh-map (reach 1 (storeOf (formatted n)) (whole (freshHead n))) ≡ true
@@ -120,6 +121,11 @@ module _ (n : ℕ) (z : tableSized n ≡ true) where
   -- one level
   pub fresh-levels : headOf (formatted n) .levels ≡ 1
   fresh-levels = ap (λ (h : Header). h .levels) fresh-head
+
+  -- the figure in block 0 is the number of live spots
+  pub fresh-figure : headOf (formatted n) .bound ≡ liveCount (formatted n)
+  unfolding liveCount
+  fresh-figure = ap (λ (h : Header). h .bound) fresh-head ∙ sym (ap (λ (ss : List Spot). length ss) fresh-empty)
 
   -- no key is live
   pub fresh-live : (k : ℕ) → live (formatted n) k ≡ none

@@ -19,6 +19,7 @@ pub mod Frame
 pub mod Nodes
 pub mod Rules
 pub mod Entries
+pub mod Credible
 pub mod Traces
 pub mod Sources
 pub mod MapBits
@@ -32,3 +33,5 @@ pub mod BestFirstEnd
 pub mod BestFirstTop
 pub mod BestFirst
 pub mod TopMarks
+pub mod Ways
+pub mod Converse

@@ -14,17 +14,12 @@ use Rattle.block.specs.NodeRules.{nodeOk}
 use Rattle.tree.specs.Part.{Part, children}
 use Rattle.tree.specs.Reach.{reach}
 use Rattle.tree.specs.Sound.{inRange, soundAt}
-use Rattle.tree.proofs.Ranges.{steps-of, part-bounds}
 use Rattle.tree.proofs.Gather.{gather-mem, gather-in}
 
 -- c is a node of the part p: its uppermost, or a child of one
 pub data NodeOf (m : Store) (p : Part) : Part → Type 0 where
   start : {c : Part} → c ≡ p → NodeOf m p c
   child : {d c : Part} → NodeOf m p d → List·Memᴰ c (children d (m (d .block))) → NodeOf m p c
-
--- d stands below p
-abbrev pub Below : Store → Part → Part → Type 0
-Below m p d = (c : Part) × List·Memᴰ c (children p (m (p .block))) × NodeOf m c d
 
 -- a node of a node is a node
 pub node-of-child : (m : Store) {p c d : Part} → NodeOf m p c → NodeOf m c d → NodeOf m p d
@@ -63,13 +58,7 @@ node-reached l m p s (start e) = inside-all m (λ i x. reach i m x) l p s e
 node-reached l m p s (child {d = d} {c = c} r k) =
     inside-child m (λ i x. reach i m x) l p d c (node-reached l m p s r) k (λ i u b j. List·Memᴰ·tail (gather-in (reach i m) (children d (m (d .block))) c k j))
 
--- its own block is reached
-pub reach-own : (l : ℕ) (m : Store) (c : Part) → soundAt l m c ≡ true → List·Memᴰ (c .block) (reach l m c)
-unfolding soundAt reach
-reach-own zero m c s = absurd (false≢true s)
-reach-own (suc l) m c s = List·Memᴰ·head refl
-
--- and a block reached is that of a node
+-- a block reached is that of a node
 pub reach-node : (l : ℕ) (m : Store) (p : Part) {b : ℕ} → List·Memᴰ b (reach l m p) → (c : Part) × NodeOf m p c × (c .block ≡ b)
 unfolding reach
 reach-node zero m p k = absurd (List·Memᴰ·not-nil k)
@@ -102,12 +91,3 @@ node-stands l m p s {c} r = let v = node-reached l m p s r in stands (v .left) m
 -- and so do its children
 pub child-sound : (m : Store) (d : Part) (w : Stands m d) {c : Part} → List·Memᴰ c (children d (m (d .block))) → soundAt (w .left) m c ≡ true
 child-sound m d w k = every-mem (soundAt (w .left) m) (children d (m (d .block))) (w .below) k
-
--- a node's range lies in the part's
-pub node-high : (l : ℕ) (m : Store) (p : Part) → soundAt l m p ≡ true → p .lo ≤ p .hi → {c : Part} → NodeOf m p c → (c .lo ≤ c .hi) × (c .hi ≤ p .hi)
-node-high l m p s h (start e) = subst (λ (x : Part). (x .lo ≤ x .hi) × (x .hi ≤ p .hi)) (sym e) (h, omega arith)
-node-high l m p s h (child {d = d} r k) =
-    let w = node-stands l m p s r in
-    let up = node-high l m p s h r in
-    let b = part-bounds (d .lo) (d .hi) (m (d .block) .entries) (steps-of (w .left) d (m (d .block)) (up .0) (w .ok) (w .range)) k in
-    (b .2, omega (arith, b .1, up .1))

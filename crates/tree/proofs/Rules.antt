@@ -1,381 +1,335 @@
--- The rules of "When a table is sound" in their global wording, each sentence a theorem about every node of a sound table.
+-- A sound table keeps 01's rules (specs/Rules), each of their sentences.
 -- Assumes nothing.
 use mathlib.Core.Path.{_≡_, refl, ap, sym, _∙_, subst}
-use mathlib.Core.Logic.{_⊎_, inl, inr, ⊎-elim, _↔_}
-use mathlib.Core.Bool.{true, false, false≢true}
-use mathlib.Core.List.{Memᴰ·map, Memᴰ·of-map, List, [], _∷_, _++_, map, List·Memᴰ, List·Memᴰ·cases-cons, List·Memᴰ·append-cases, Memᴰ·append-left, Memᴰ·append-right, Memᴰ·cast}
+use mathlib.Core.Logic.{_⊎_, inl, inr, ⊎-elim}
+use mathlib.Core.Bool.{true, false, false≢true, true≢false}
+use mathlib.Core.List.{List, [], _∷_, _++_, List·Memᴰ, List·Memᴰ·cases-cons, List·Memᴰ·append-cases, Memᴰ·append-left, Memᴰ·append-right, Memᴰ·cast}
 use Prim.Native.Nat.{ℕ, zero, suc, _+_, _≤_, _<_}
 use native.Mathlib.Omega.{arith}
-use lib.ListN.{length, getD, drop}
+use lib.ListN.{length, length-take}
 use lib.Dec.{eqb}
 use borrow.Author.Tests.{leb-true, ltb-true, eqb-true, eq-eqb, ne-eqb}
-use Rattle.octets.specs.Lists.{all, every, isEmpty, rest, rising, maximum, minimum, records}
+use Rattle.octets.specs.Lists.{isEmpty, rest, distinct}
 use Rattle.octets.specs.Bitmap.{bit}
-use Rattle.octets.specs.Bytes.{be}
-use Rattle.octets.proofs.Tests.{all-at, every-mem, or-either, empty-list}
-use Rattle.octets.proofs.Lists.{no-member}
-use Rattle.octets.proofs.Extremes.{min-is}
-use Rattle.octets.proofs.Once.{Once, once-distinct}
+use Rattle.octets.proofs.Order.{less-or-not}
+use Rattle.octets.proofs.Tests.{all-at, every-mem, or-either, empty-list, refuted}
+use Rattle.octets.proofs.Lists.{no-member, mem-here}
+use Rattle.octets.proofs.Bits.{bit-past}
+use Rattle.octets.proofs.Records.{tests-at}
+use Rattle.octets.proofs.Sets.{has-mem}
+use Rattle.octets.proofs.Once.{once-distinct, fewer}
 use Rattle.spot.specs.Spots.{keys}
-use Rattle.spot.specs.Keys.{rankKey, allKeys, within}
+use Rattle.spot.specs.Keys.{rankKey, within}
+use Rattle.spot.proofs.Buffers.{keys-length}
 use Rattle.spot.proofs.Places.{within-from, within-to}
-use Rattle.spot.proofs.Halves.{rank-small}
 use Rattle.block.specs.declared.Entry.{Entry}
-use Rattle.block.specs.Node.{Node, Store, storeOf, nodeOf, nodeFrom, laidOut, usedBytes, entryBlank, firstBlank}
-use Rattle.block.specs.Header.{headOf}
-use Rattle.block.specs.Table.{version1, capacity, block}
 use Rattle.block.specs.declared.Asked.{Asked}
 use Rattle.block.specs.declared.Asked.the-variants.{Child}
-use Rattle.block.specs.NodeRules.{names, lows, fewest, childCountOk, buffersRise, namedOnce, lowsRise, pointsAbove, filled, lowest, leafBuffersEmpty, tops, rankKeys, agrees, nodeOk}
-use Rattle.block.specs.HeaderRules.{headerOk}
-use Rattle.tree.specs.Part.{Part, whole, parts, children}
+use Rattle.block.specs.Table.{block}
+use Rattle.block.specs.Header.{headOf}
+use Rattle.block.specs.Node.{Node, Store, storeOf, nodeOf, nodeFrom, laidOut, entryBlank}
+use Rattle.block.specs.NodeRules.{names, lows, fewest, childCountOk, buffersRise, namedOnce, lowsRise, pointsAbove, filled, lowest, leafBuffersEmpty, tops, agrees, nodeOk}
+use Rattle.block.proofs.Facts.{HeadFacts, head-facts}
+use Rattle.block.proofs.Heads.{map-part}
+use Rattle.block.proofs.Making.{blocks-whole}
+use Rattle.tree.specs.Part.{Part}
+use Rattle.tree.specs.Lookup.{isLive, live}
 use Rattle.tree.specs.Reach.{reach}
+use Rattle.tree.specs.Walk.{liveSpots}
 use Rattle.tree.specs.Sound.{inRange, soundAt, mapExact, sound}
-use Rattle.tree.specs.Walk.{liveCount}
-use Rattle.tree.specs.ReadMap.{isRead}
-use Rattle.tree.proofs.Marks.{read-header, read-mem, read-in, exact-once, exact-bit}
-use Rattle.tree.proofs.Nodes.{NodeOf, start, child, Below, Stands, node-of-child, node-reached, reach-own, reach-node, node-stands, child-sound, node-high}
-use Rattle.tree.proofs.Says.{names-P}
+use Rattle.tree.specs.Rules.{ChildOf, Leads, here, step, Below, Laid, Agrees, Filled, Lowest, top, at, IsNode, Reached, Rule1, Rule2, Rule3, Rule4, Rule5, Rule6, Rules}
+use Rattle.tree.proofs.Marks.{read-mem, read-in, exact-once, exact-bit}
+use Rattle.tree.proofs.Says.{has-keys}
+use Rattle.tree.proofs.Sources.{InTable, header-least, header-few, table-reach}
+use Rattle.tree.proofs.Nodes.{Stands, node-of-child, node-stands, child-sound}
+use Rattle.tree.proofs.Ways.{child-mem, first-step, child-node, leads-node, node-leads, reach-leads, leads-reach, once-one-way}
 use Rattle.tree.proofs.Entries.{agree-size, agree-top, agree-bottom}
-use Rattle.tree.proofs.Ranges.{parts-mem}
 use Rattle.tree.proofs.Below.{Under, under-point, under-lower, filled-by, has-insert, has-delete, has-child, entry-top, tops-mem}
-use Rattle.tree.proofs.Tables.{sound-tree, sound-header}
-
--- the first number replaced by x
-abbrev pub firstThen : ℕ → List ℕ → List ℕ
-firstThen x [] = []
-firstThen x (y ∷ ys) = x ∷ ys
-
--- all but the first, and then x
-abbrev pub tailThen : List ℕ → ℕ → List ℕ
-tailThen [] x = []
-tailThen (y ∷ ys) x = ys ++ (x ∷ [])
-
--- a child's range, by its place among the children
-part-range : (lo hi : ℕ) (es : List Entry) (i : ℕ) (p : Part)
-    → (getD (parts lo hi es) i p .lo ≡ getD (firstThen lo (lows es)) i (p .lo)) × (getD (parts lo hi es) i p .hi ≡ getD (tailThen (lows es) hi) i (p .hi))
-part-range lo hi [] i p = (refl, refl)
-part-range lo hi (e ∷ []) zero p = (refl, refl)
-part-range lo hi (e ∷ []) (suc i) p = (refl, refl)
-part-range lo hi (e ∷ f ∷ es) zero p = (refl, refl)
-part-range lo hi (e ∷ f ∷ es) (suc i) p = part-range (f .low) hi (f ∷ es) i p
-
--- the used length of a node's block, by its sizes
-abbrev pub usedOf : List ℕ → ℕ
-usedOf b = usedBytes version1 (be 1 b 7) (be 1 b 4) (be 1 b 5) (be 1 b 6)
-
--- a node's block "as laid out above": used length, version, zero bytes after what is used and in entries
-pub record Laid (b : List ℕ) : Type 0 where
-  pub used : be 2 b 0 ≡ usedOf b
-  pub most : usedOf b ≤ 1896
-  pub version : be 1 b 2 ≡ 1
-  pub zeros : every (λ x. eqb x 0) (drop (usedOf b) b) ≡ true
-  pub entries : all (records (entryBlank b) 28 (be 1 b 7) 8) ≡ true
-  pub first : firstBlank b (be 1 b 7) ≡ true
-
--- ---- the theorems
+use Rattle.tree.proofs.Tables.{sound-tree, sound-header, live-finds, counted}
 
 module _ (t : List ℕ) (s : sound t ≡ true) where
   abbrev m : Store
   m = storeOf t
 
-  -- the whole tree
-  abbrev top-part : Part
-  top-part = whole (headOf t)
+  head : HeadFacts (length t) (headOf t)
+  head = head-facts (length t) (headOf t) (sound-header t s)
 
-  -- c is a node of the table
-  abbrev pub TableNode : Part → Type 0
-  TableNode c = NodeOf m top-part c
+  -- a node keeps the rules that its block and its entry show
+  stands : {c : Part} → IsNode t c → Stands m c
+  stands r = node-stands (headOf t .levels) m (top t) (sound-tree t s) (leads-node m (r .1))
 
-  -- the node at c
-  abbrev at : Part → Node
-  at c = m (c .block)
+  -- a node of a node is a node
+  is-below : {c d : Part} {way : List ℕ} → IsNode t c → Leads m c way d → IsNode t d
+  is-below r q = node-leads m (node-of-child m (leads-node m (r .1)) (leads-node m q))
 
-  node : {c : Part} → TableNode c → Stands m c
-  node r = node-stands (headOf t .levels) m top-part (sound-tree t s) r
+  -- ---- rule 1
 
-  -- rule 1: "Block 0 agrees with the lent length"
-  pub rule1-length : headOf t .bytes ≡ length t
-  unfolding headerOk
-  rule1-length = eqb-true (headOf t .bytes) (length t) (all-at _ (sound-header t s) 0)
+  abbrev blocks : List ℕ
+  blocks = reach (headOf t .levels) m (top t)
 
-  exact : mapExact (headOf t .inUse) (reach (headOf t .levels) m top-part) ≡ true
+  -- the map is exact, and the blocks reached are blocks of the table
+  exact : mapExact (headOf t .inUse) blocks ≡ true
   unfolding sound
   exact = all-at _ s 2
 
-  -- rule 1: ".. each reached once"
-  pub rule1-once : Once (reach (headOf t .levels) m top-part)
-  rule1-once = once-distinct (reach (headOf t .levels) m top-part) (exact-once (headOf t .inUse) (reach (headOf t .levels) m top-part) exact)
+  reached : {b : ℕ} → Reached t b → List·Memᴰ b blocks
+  reached r = Memᴰ·cast (sym (r .2)) (leads-reach m (headOf t .levels) (sound-tree t s) (r .1 .1))
 
-  -- the blocks reached are those of the nodes
-  pub reached-nodes : (b : ℕ) → List·Memᴰ b (reach (headOf t .levels) m top-part) ↔ ((c : Part) × TableNode c × (c .block ≡ b))
-  reached-nodes b = (
-    λ k. reach-node (headOf t .levels) m top-part k,
-    λ r.
-        let v = node-reached (headOf t .levels) m top-part (sound-tree t s) (r .1) in
-        Memᴰ·cast (sym (r .2)) (v .within-all (r .0 .block) (reach-own (v .left) m (r .0) (v .sound-there))),
-  )
+  in-table : {b : ℕ} → Reached t b → InTable t b
+  in-table {b} r = table-reach t (sound-header t s) (sound-tree t s) b (reached r)
 
-  -- rule 1: "the map marks block 0 and exactly the blocks reached from the root"
-  pub rule1-map : (b : ℕ) → b < 4096 → (bit (headOf t .inUse) b ≡ true) ↔ ((b ≡ 0) ⊎ ((c : Part) × TableNode c × (c .block ≡ b)))
-  rule1-map b h =
-      let bs = reach (headOf t .levels) m top-part in
-      let marked = exact-bit (headOf t .inUse) bs exact b h in (
-        λ e. ⊎-elim inl (λ k. inr (reached-nodes b .0 k)) (List·Memᴰ·cases-cons (read-in bs b (sym marked ∙ e))),
-        λ o. marked ∙ ⊎-elim (λ z. ap (isRead bs) z ∙ read-header bs) (λ r. read-mem bs b (reached-nodes b .1 r)) o,
-      )
+  -- its bits, past the map too
+  marks : (b : ℕ) → bit (headOf t .inUse) b ≡ true → (b ≡ 0) ⊎ Reached t b
+  marks b e =
+      ⊎-elim
+      (λ (l : 4096 ≤ b).
+      let few : length (headOf t .inUse) ≤ 512 = rw (map-part t, length-take) (omega arith) in
+      absurd (true≢false (sym e ∙ bit-past (headOf t .inUse) b (omega arith))))
+      (λ (l : b < 4096).
+      ⊎-elim inl (λ k. inr (reach-leads m (headOf t .levels) (top t) k)) (List·Memᴰ·cases-cons (read-in blocks b (sym (exact-bit (headOf t .inUse) blocks exact b l) ∙ e))))
+      (less-or-not 4096 b)
 
-  -- rule 2: "The root has level h − 1"
-  pub rule2-root : m (headOf t .root) .level + 1 ≡ headOf t .levels
+  marked : (b : ℕ) → (b ≡ 0) ⊎ Reached t b → bit (headOf t .inUse) b ≡ true
+  marked b o =
+      ⊎-elim (λ (z : b ≡ 0). ap (bit (headOf t .inUse)) z ∙ head .zero-used)
+      (λ (r : Reached t b).
+      exact-bit (headOf t .inUse) blocks exact b (omega (arith, in-table r .low, header-few t (sound-header t s))) ∙ read-mem blocks b (reached r))
+      o
+
+  pub rule1 : Rule1 t
+  rule1 =
+      record {
+        cut = omega (arith, blocks-whole (length t) (head .sized));
+        least = header-least t (sound-header t s);
+        most = header-few t (sound-header t s);
+        bytes = head .same-bytes;
+        marks = λ b. (marks b, marked b);
+        once = once-one-way m (headOf t .levels) (top t) (sound-tree t s) (once-distinct blocks (exact-once (headOf t .inUse) blocks exact));
+        apart = λ r. omega (arith, in-table r .some);
+      }
+
+  -- ---- rule 2
+
+  -- the level is the number of levels below
+  level-left : (l : ℕ) (c : Part) → soundAt l m c ≡ true → at t c .level + 1 ≡ l
   unfolding soundAt nodeOk
-  rule2-root = go (headOf t .levels) (sound-tree t s)
-    where
-      go : (l : ℕ) → soundAt l m top-part ≡ true → m (headOf t .root) .level + 1 ≡ l
-      go zero h = absurd (false≢true h)
-      go (suc l) h = let e = eqb-true (m (headOf t .root) .level) l (all-at _ (all-at _ h 0) 1) in omega arith
+  level-left zero c h = absurd (false≢true h)
+  level-left (suc l) c h = let e = eqb-true (at t c .level) l (all-at _ (all-at _ h 0) 1) in omega arith
 
-  -- rule 2: "a child one level less than its parent"
-  pub rule2-child : (d c : Part) → TableNode d → List·Memᴰ c (children d (at d)) → at c .level + 1 ≡ at d .level
-  unfolding soundAt nodeOk
-  rule2-child d c r k =
-      let w = node r in
-      go (w .left) (child-sound m d w k) (eqb-true (at d .level) (w .left) (all-at _ (w .ok) 1))
-    where
-      go : (i : ℕ) → soundAt i m c ≡ true → at d .level ≡ i → at c .level + 1 ≡ at d .level
-      go zero h e = absurd (false≢true h)
-      go (suc i) h e = let f = eqb-true (at c .level) i (all-at _ (all-at _ h 0) 1) in omega arith
+  level-is : {c : Part} (r : IsNode t c) → at t c .level ≡ stands r .left
+  unfolding nodeOk
+  level-is {c} r = eqb-true (at t c .level) (stands r .left) (all-at _ (stands r .ok) 1)
 
-  -- rule 2: "A leaf has no children"
-  pub rule2-leaf : (c : Part) → TableNode c → at c .level ≡ 0 → at c .entries ≡ []
+  child-level : (d c : Part) (i : ℕ) → IsNode t d → ChildOf m d i c → at t c .level + 1 ≡ at t d .level
+  child-level d c i r k =
+      let e = level-left (stands r .left) c (child-sound m d (stands r) (child-mem (d .lo) (d .hi) (at t d .entries) i c k)) in
+      omega (arith, level-is r)
+
+  -- the number of children
+  bare : {c : Part} → IsNode t c → at t c .level ≡ 0 → at t c .entries ≡ []
   unfolding nodeOk childCountOk
-  rule2-leaf c r z = empty-list (at c .entries) (rw (eq-eqb (at c .level) 0 z) at (all-at _ (node r .ok) 2))
+  bare {c} r z = empty-list (at t c .entries) (rw (eq-eqb (at t c .level) 0 z) at (all-at _ (stands r .ok) 2))
 
-  counted : (c : Part) → TableNode c → (at c .level ≡ 0 → ⊥) → (fewest (c .asked) ≤ length (at c .entries)) × (length (at c .entries) ≤ 8)
+  counts : (c : Part) → IsNode t c → (at t c .level ≡ 0 → ⊥) → (fewest (c .asked) ≤ length (at t c .entries)) × (length (at t c .entries) ≤ 8)
   unfolding nodeOk childCountOk
-  counted c r n =
-      let h = rw (ne-eqb (at c .level) 0 n) at (all-at _ (node r .ok) 2) in
+  counts c r n =
+      let h = rw (ne-eqb (at t c .level) 0 n) at (all-at _ (stands r .ok) 2) in
       (leb-true _ _ (all-at _ h 0), leb-true _ _ (all-at _ h 1))
 
-  -- rule 2: "the root if inner 2 to 8"
-  pub rule2-root-count : (m (headOf t .root) .level ≡ 0 → ⊥) → (2 ≤ length (m (headOf t .root) .entries)) × (length (m (headOf t .root) .entries) ≤ 8)
+  -- what leads to a node below another is an entry
+  led : {p c : Part} {i : ℕ} {way : List ℕ} → Leads m p (i ∷ way) c → (e : Entry) × (c .asked ≡ Child e)
+  led (step k (here e)) = (k .entry, ap (λ (x : Part). x .asked) e ∙ k .asked)
+  led (step {d = d} k (step j r)) = led {p = d} (step j r)
+
+  fewest-below : {c : Part} → Below m (top t) c → fewest (c .asked) ≡ 4
   unfolding fewest
-  rule2-root-count n = counted top-part (start refl) n
+  fewest-below b = ap fewest (led (b .2) .1)
 
-  -- rule 2: "an inner node has 4 to 8"
-  pub rule2-count : (d c : Part) → TableNode d → List·Memᴰ c (children d (at d)) → (at c .level ≡ 0 → ⊥)
-      → (4 ≤ length (at c .entries)) × (length (at c .entries) ≤ 8)
+  fewest-top : fewest (top t .asked) ≡ 2
   unfolding fewest
-  rule2-count d c r k n =
-      let e = parts-mem (d .lo) (d .hi) (at d .entries) k in
-      subst (λ (a : Asked). (fewest a ≤ length (at c .entries)) × (length (at c .entries) ≤ 8)) (e .2) (counted c (child r k) n)
+  fewest-top = refl
 
-  -- rule 3: "P, I and D rise in place order"
-  pub rule3-rise : (c : Part) → TableNode c → (rising (keys (at c .points)) ≡ true) × (rising (keys (at c .inserts)) ≡ true) × (rising (at c .deletes) ≡ true)
-  unfolding nodeOk buffersRise
-  rule3-rise c r = let h = all-at _ (node r .ok) 3 in (all-at _ h 0, all-at _ h 1, all-at _ h 2)
+  pub rule2 : Rule2 t
+  rule2 =
+      record {
+        root = level-left (headOf t .levels) (top t) (sound-tree t s);
+        child = child-level;
+        leaf = λ c r z. bare r z;
+        inner = λ c b n. let h = counts c (b .0 ∷ b .1, b .2) n in omega (arith, h, fewest-below b);
+        inner-root = λ n. let h = counts (top t) ([], here refl) n in omega (arith, h, fewest-top);
+      }
 
-  -- rule 3: "no identity occurs twice in one node"
-  pub rule3-once : (c : Part) → TableNode c → Once (names (at c))
-  unfolding nodeOk namedOnce
-  rule3-once c r = once-distinct (names (at c)) (all-at _ (node r .ok) 4)
+  -- ---- rule 3
 
-  -- rule 3: "All identities lie in the node's range"
-  pub rule3-range : (c : Part) → TableNode c → (k : ℕ) → List·Memᴰ k (names (at c)) → (c .lo ≤ k) × (k < c .hi)
+  -- what a node names, and its lows, lie in its range
+  own-range : (c : Part) (k : ℕ) → IsNode t c → List·Memᴰ k (names (at t c)) → within (c .lo) (c .hi) k ≡ true
   unfolding inRange
-  rule3-range c r k j =
-      let w = every-mem (within (c .lo) (c .hi)) (names (at c)) (all-at _ (node r .range) 0) j in
-      (within-from (c .lo) (c .hi) k w, within-to (c .lo) (c .hi) k w)
+  own-range c k r j = every-mem (within (c .lo) (c .hi)) (names (at t c)) (all-at _ (stands r .range) 0) j
 
-  -- rule 3: "from its entry's lowest identity up to, and without, the next entry's. A first child's range begins, and a last child's ends, where its
-  -- parent's does"
-  pub rule3-ranges : (d : Part) (i : ℕ) (e : Part)
-      → (getD (children d (at d)) i e .lo ≡ getD (firstThen (d .lo) (lows (at d .entries))) i (e .lo)) ×
-      (getD (children d (at d)) i e .hi ≡ getD (tailThen (lows (at d .entries)) (d .hi)) i (e .hi))
-  rule3-ranges d i e = part-range (d .lo) (d .hi) (at d .entries) i e
-
-  -- rule 3: "the root's has no ends"
-  pub rule3-root : (top-part .lo ≡ 0) × (top-part .hi ≡ allKeys)
-  rule3-root = (refl, refl)
-
-  -- rule 3: "From the second entry on, the lowest identities rise strictly"
-  pub rule3-lows-rise : (c : Part) → TableNode c → rising (rest (lows (at c .entries))) ≡ true
-  unfolding nodeOk lowsRise
-  rule3-lows-rise c r = all-at _ (all-at _ (node r .ok) 5) 1
-
-  -- rule 3: ".. and lie in the parent's range"
-  pub rule3-lows-range : (c : Part) → TableNode c → (k : ℕ) → List·Memᴰ k (rest (lows (at c .entries))) → (c .lo ≤ k) × (k < c .hi)
+  low-range : (c : Part) (k : ℕ) → IsNode t c → List·Memᴰ k (rest (lows (at t c .entries))) → within (c .lo) (c .hi) k ≡ true
   unfolding inRange
-  rule3-lows-range c r k j =
-      let w = every-mem (within (c .lo) (c .hi)) (rest (lows (at c .entries))) (all-at _ (node r .range) 1) j in
-      (within-from (c .lo) (c .hi) k w, within-to (c .lo) (c .hi) k w)
+  low-range c k r j = every-mem (within (c .lo) (c .hi)) (rest (lows (at t c .entries))) (all-at _ (stands r .range) 1) j
+
+  between : (lo hi k : ℕ) → within lo hi k ≡ true → (lo ≤ k) × (k < hi)
+  between lo hi k w = (within-from lo hi k w, within-to lo hi k w)
+
+  pub rule3 : Rule3 t
+  unfolding nodeOk buffersRise namedOnce lowsRise
+  rule3 =
+      record {
+        points = λ c r. all-at _ (all-at _ (stands r .ok) 3) 0;
+        inserts = λ c r. all-at _ (all-at _ (stands r .ok) 3) 1;
+        deletes = λ c r. all-at _ (all-at _ (stands r .ok) 3) 2;
+        once = λ c r. all-at _ (stands r .ok) 4;
+        range = λ c k r j. omega (arith, between (c .lo) (c .hi) k (own-range c k r j));
+        rise = λ c r. all-at _ (all-at _ (stands r .ok) 5) 1;
+        inside = λ c k r j. omega (arith, between (c .lo) (c .hi) k (low-range c k r j));
+      }
+
+  -- ---- rules 4 and 5: an identity below a node is no higher than the highest of its child's P on the way there, which is below the node's own P
 
   -- what a node names is under the highest of its P
-  named-under : (c : Part) → Stands m c → (k : ℕ) → List·Memᴰ k (names (at c)) → Under k (at c)
+  named-under : (c : Part) → IsNode t c → (k : ℕ) → List·Memᴰ k (names (at t c)) → Under k (at t c)
   unfolding names nodeOk
-  named-under c w k j =
+  named-under c r k j =
+      let w = stands r in
       ⊎-elim
       (λ i.
-      ⊎-elim (λ p. under-point (at c) p)
+      ⊎-elim (λ p. under-point (at t c) p)
       (λ b.
-      under-lower (at c) k (filled-by (at c) (all-at _ (w .ok) 7) (λ low. has-insert (at c) b low)) (all-at _ (w .ok) 6)
-      (Memᴰ·append-left (tops (at c .entries)) (Memᴰ·append-left (at c .deletes) b)))
-      (List·Memᴰ·append-cases (keys (at c .points)) i))
+      under-lower (at t c) k (filled-by (at t c) (all-at _ (w .ok) 7) (λ low. has-insert (at t c) b low)) (all-at _ (w .ok) 6)
+      (Memᴰ·append-left (tops (at t c .entries)) (Memᴰ·append-left (at t c .deletes) b)))
+      (List·Memᴰ·append-cases (keys (at t c .points)) i))
       (λ d.
-      under-lower (at c) k (filled-by (at c) (all-at _ (w .ok) 7) (λ low. has-delete (at c) d low)) (all-at _ (w .ok) 6)
-      (Memᴰ·append-left (tops (at c .entries)) (Memᴰ·append-right (keys (at c .inserts)) d)))
-      (List·Memᴰ·append-cases (keys (at c .points) ++ keys (at c .inserts)) j)
+      under-lower (at t c) k (filled-by (at t c) (all-at _ (w .ok) 7) (λ low. has-delete (at t c) d low)) (all-at _ (w .ok) 6)
+      (Memᴰ·append-left (tops (at t c .entries)) (Memᴰ·append-right (keys (at t c .inserts)) d)))
+      (List·Memᴰ·append-cases (keys (at t c .points) ++ keys (at t c .inserts)) j)
 
-  -- an entry whose child has points: it is counted, and its top is the child's highest
-  module _ (d c : Part) (r : TableNode d) (k : List·Memᴰ c (children d (at d))) where
-    -- the entry that leads to c
-    pub entry : Entry
-    entry = parts-mem (d .lo) (d .hi) (at d .entries) k .0
+  -- a child and the entry that leads there
+  module _ (d c : Part) (i : ℕ) (r : IsNode t d) (k : ChildOf m d i c) where
+    entry-in : List·Memᴰ (k .entry) (at t d .entries)
+    entry-in = subst (λ (l : List Entry). List·Memᴰ (k .entry) l) (sym (k .among)) (mem-here (k .before) (k .entry) (k .after))
 
-    pub entry-of : List·Memᴰ entry (at d .entries) × (c .asked ≡ Child entry) × (c .block ≡ entry .block)
-    unfolding entry
-    entry-of = let e = parts-mem (d .lo) (d .hi) (at d .entries) k in (e .1, e .2, e .3)
-
-    entry-agrees : agrees (Child entry) (at c) ≡ true
+    entry-agrees : agrees (Child (k .entry)) (at t c) ≡ true
     unfolding nodeOk
-    entry-agrees = subst (λ (a : Asked). agrees a (at c) ≡ true) (entry-of .1) (all-at _ (node (child r k) .ok) 9)
+    entry-agrees = subst (λ (a : Asked). agrees a (at t c) ≡ true) (k .asked) (all-at _ (stands (child-node m r k) .ok) 9)
 
     -- what is under the child's P is under the top of its entry, which is one of the tops
-    under-top : (j : ℕ) → Under j (at c) → (rankKey j ≤ rankKey (entry .top)) × List·Memᴰ (entry .top) (tops (at d .entries)) × (lowest (at d) ≡ true → ⊥)
+    under-top : (j : ℕ) → Under j (at t c)
+        → (rankKey j ≤ rankKey (k .entry .top)) × List·Memᴰ (k .entry .top) (tops (at t d .entries)) × (lowest (at t d) ≡ true → ⊥)
     under-top j u =
-        let e = entry-top entry (at c) entry-agrees (u .held) in
-        (omega (arith, u .below, e .1), tops-mem (at d .entries) (entry-of .0) (e .0), has-child (at d) (entry-of .0) (e .0))
+        let e = entry-top (k .entry) (at t c) entry-agrees (u .held) in
+        (omega (arith, u .below, e .1), tops-mem (at t d .entries) entry-in (e .0), has-child (at t d) entry-in (e .0))
 
     -- .. and under the parent's P
-    under-parent : (j : ℕ) → Under j (at c) → Under j (at d)
+    under-parent : (j : ℕ) → Under j (at t c) → Under j (at t d)
     unfolding nodeOk
     under-parent j u =
         let e = under-top j u in
-        let w = node r in
-        let v = under-lower (at d) (entry .top) (filled-by (at d) (all-at _ (w .ok) 7) (e .2)) (all-at _ (w .ok) 6) (Memᴰ·append-right (keys (at d .inserts) ++ at d .deletes) (e .1)) in
+        let w = stands r in
+        let full = filled-by (at t d) (all-at _ (w .ok) 7) (e .2) in
+        let v = under-lower (at t d) (k .entry .top) full (all-at _ (w .ok) 6) (Memᴰ·append-right (keys (at t d .inserts) ++ at t d .deletes) (e .1)) in
         record { held = v .held; below = omega (arith, v .below, e .0) }
 
-  under-all : (p : Part) → TableNode p → {c : Part} → NodeOf m p c → (j : ℕ) → Under j (at c) → Under j (at p)
-  under-all p r (start e) j u = subst (λ (x : Part). Under j (at x)) e u
-  under-all p r (child {d = d} {c = c} x k) j u = under-all p r x j (under-parent d c (node-of-child m r x) k j u)
+  under-all : {p c : Part} {way : List ℕ} → IsNode t p → Leads m p way c → (j : ℕ) → Under j (at t c) → Under j (at t p)
+  under-all r (here e) j u = subst (λ (x : Part). Under j (at t x)) e u
+  under-all r (step {p = p} {d = d} {place = i} k q) j u = under-parent p d i r k j (under-all (child-node m r k) q j u)
 
-  -- a node below another that names an identity: its child on the way has points
-  below-under : (p d : Part) → TableNode p → (b : Below m p d) → (k : ℕ) → List·Memᴰ k (names (at d)) → Under k (at (b .0))
-  below-under p d r b k j =
-      let q = child r (b .1) in
-      under-all (b .0) q (b .2) k (named-under d (node (node-of-child m q (b .2))) k j)
+  -- what a node below another names is under a top of the other's entries
+  below-top : (c d : Part) → IsNode t c → Below m c d → (k : ℕ) → List·Memᴰ k (names (at t d))
+      → (e : ℕ) × (rankKey k ≤ rankKey e) × List·Memᴰ e (tops (at t c .entries)) × (lowest (at t c) ≡ true → ⊥)
+  below-top c d r b k j =
+      let f = first-step m (b .2) in
+      let q = child-node m r (f .1) in
+      let u = under-all q (f .2) k (named-under d (is-below q (f .2)) k j) in
+      let e = under-top c (f .0) (b .0) r (f .1) k u in
+      (f .1 .entry .top, e .0, e .1, e .2)
 
-  -- rule 4: "In rank order P lies above every identity in its own I and D"
-  pub rule4-own : (c : Part) → TableNode c → (p k : ℕ) → List·Memᴰ p (keys (at c .points)) → List·Memᴰ k (keys (at c .inserts) ++ at c .deletes)
+  above : (c : Part) (p k : ℕ) → IsNode t c → List·Memᴰ p (keys (at t c .points)) → List·Memᴰ k (keys (at t c .inserts) ++ at t c .deletes ++ tops (at t c .entries))
       → rankKey k < rankKey p
   unfolding nodeOk pointsAbove
-  rule4-own c r p k i j =
-      ltb-true (rankKey k) (rankKey p) (every-mem _ _ (every-mem _ _ (all-at _ (node r .ok) 6) i) (Memᴰ·append-left (tops (at c .entries)) j))
+  above c p k r i j = ltb-true (rankKey k) (rankKey p) (every-mem _ _ (every-mem _ _ (all-at _ (stands r .ok) 6) i) j)
 
-  -- rule 4: ".. and in all P, I and D below it"
-  pub rule4-below : (c d : Part) → TableNode c → Below m c d → (p k : ℕ) → List·Memᴰ p (keys (at c .points)) → List·Memᴰ k (names (at d))
-      → rankKey k < rankKey p
-  unfolding nodeOk pointsAbove
-  rule4-below c d r b p k i j =
-      let e = under-top c (b .0) r (b .1) k (below-under c d r b k j) in
-      let l = ltb-true (rankKey (entry c (b .0) r (b .1) .top)) (rankKey p) (every-mem _ _ (every-mem _ _ (all-at _ (node r .ok) 6) i) (Memᴰ·append-right (keys (at c .inserts) ++ at c .deletes) (e .1))) in
-      omega (arith, l, e .0)
+  pub rule4 : Rule4 t
+  rule4 =
+      record {
+        own = λ c p k r i j. above c p k r i (Memᴰ·append-left (tops (at t c .entries)) j);
+        below = λ c d p k r b i j.
+            let e = below-top c d r b k j in
+            let l = above c p (e .0) r i (Memᴰ·append-right (keys (at t c .inserts) ++ at t c .deletes) (e .2)) in
+            omega (arith, l, e .1);
+      }
 
-  -- rule 5: "P is 32 to 64, I at most 64 and D at most 16"
-  pub record Filled (c : Part) : Type 0 where
-    pub least : 32 ≤ length (at c .points)
-    pub most : length (at c .points) ≤ 64
-    pub inserts : length (at c .inserts) ≤ 64
-    pub deletes : length (at c .deletes) ≤ 16
-
-  -- rule 5: "P is under 32, its I and D are empty and all P, I and D below it are empty"
-  pub record Lowest (c : Part) : Type 0 where
-    pub few : length (at c .points) < 32
-    pub inserts : at c .inserts ≡ []
-    pub deletes : at c .deletes ≡ []
-    pub below : (d : Part) → Below m c d → names (at d) ≡ []
-
-  -- rule 5: "Either .. or .."
-  pub rule5 : (c : Part) → TableNode c → Filled c ⊎ Lowest c
+  sizes : (c : Part) → IsNode t c → Filled (at t c) ⊎ Lowest m c
   unfolding nodeOk filled lowest
-  rule5 c r =
+  sizes c r =
       ⊎-elim
       (λ h. inl (record { least = leb-true _ _ (all-at _ h 0); most = leb-true _ _ (all-at _ h 1); inserts = leb-true _ _ (all-at _ h 2); deletes = leb-true _ _ (all-at _ h 3) }))
       (λ h. inr
       (record {
         few = ltb-true _ _ (all-at _ h 0);
-        inserts = empty-list (at c .inserts) (all-at _ h 1);
-        deletes = empty-list (at c .deletes) (all-at _ h 2);
-        below = λ d b. no-member (names (at d)) (λ k j. under-top c (b .0) r (b .1) k (below-under c d r b k j) .2 h);
+        inserts = empty-list (at t c .inserts) (all-at _ h 1);
+        deletes = empty-list (at t c .deletes) (all-at _ h 2);
+        below = λ d b. no-member (names (at t d)) (λ k j. below-top c d r b k j .3 h);
       }))
-      (or-either (filled (at c)) (lowest (at c)) (all-at _ (node r .ok) 7))
+      (or-either (filled (at t c)) (lowest (at t c)) (all-at _ (stands r .ok) 7))
 
-  -- rule 5: "A leaf's I and D are empty"
-  pub rule5-leaf : (c : Part) → TableNode c → at c .level ≡ 0 → (at c .inserts ≡ []) × (at c .deletes ≡ [])
+  still : (c : Part) → IsNode t c → at t c .level ≡ 0 → (at t c .inserts ≡ []) × (at t c .deletes ≡ [])
   unfolding nodeOk leafBuffersEmpty
-  rule5-leaf c r z =
-      let h = rw (eq-eqb (at c .level) 0 z) at (all-at _ (node r .ok) 8) in
-      (empty-list (at c .inserts) (all-at _ h 0), empty-list (at c .deletes) (all-at _ h 1))
+  still c r z =
+      let h = rw (eq-eqb (at t c .level) 0 z) at (all-at _ (stands r .ok) 8) in
+      (empty-list (at t c .inserts) (all-at _ h 0), empty-list (at t c .deletes) (all-at _ h 1))
 
-  -- rule 6: "Entries agree with their children": block, size of P, and where P isn't empty the highest and the lowest of it in rank order
-  pub rule6-block : (d c : Part) (r : TableNode d) (k : List·Memᴰ c (children d (at d))) → c .block ≡ entry d c r k .block
-  rule6-block d c r k = entry-of d c r k .2
+  pub rule5 : Rule5 t
+  rule5 = record { sizes = sizes; leaf = still }
 
-  -- rule 6: .. its size
-  pub rule6-size : (d c : Part) (r : TableNode d) (k : List·Memᴰ c (children d (at d))) → entry d c r k .size ≡ length (at c .points)
-  rule6-size d c r k = agree-size (entry d c r k) (at c) (entry-agrees d c r k)
+  -- ---- rule 6
 
-  -- rule 6: .. its highest
-  pub rule6-highest : (d c : Part) (r : TableNode d) (k : List·Memᴰ c (children d (at d))) → isEmpty (at c .points) ≡ false
-      → List·Memᴰ (entry d c r k .top) (keys (at c .points)) × ((j : ℕ) → List·Memᴰ j (keys (at c .points)) → rankKey j ≤ rankKey (entry d c r k .top))
-  rule6-highest d c r k e = agree-top (entry d c r k) (at c) (entry-agrees d c r k) e
+  some-points : (n : Node) → (n .points ≡ [] → ⊥) → isEmpty (n .points) ≡ false
+  some-points n h = refuted (isEmpty (n .points)) (λ e. h (empty-list (n .points) e))
 
-  -- rule 6: .. and its lowest
-  pub rule6-lowest : (d c : Part) (r : TableNode d) (k : List·Memᴰ c (children d (at d))) → isEmpty (at c .points) ≡ false
-      → List·Memᴰ (entry d c r k .bottom) (keys (at c .points)) × ((j : ℕ) → List·Memᴰ j (keys (at c .points)) → rankKey (entry d c r k .bottom) ≤ rankKey j)
-  rule6-lowest d c r k e = agree-bottom (entry d c r k) (at c) (entry-agrees d c r k) e
+  agree : (d c : Part) (i : ℕ) → IsNode t d → (k : ChildOf m d i c) → Agrees (k .entry) (at t c)
+  agree d c i r k =
+      let h = entry-agrees d c i r k in
+      record {
+        size = agree-size (k .entry) (at t c) h;
+        highest = λ n. agree-top (k .entry) (at t c) h (some-points (at t c) n);
+        lowest = λ n. agree-bottom (k .entry) (at t c) h (some-points (at t c) n);
+      }
 
-  -- .. the same of rank keys
-  pub rule6-top : (d c : Part) (r : TableNode d) (k : List·Memᴰ c (children d (at d))) → isEmpty (at c .points) ≡ false
-      → rankKey (entry d c r k .top) ≡ maximum (rankKeys (at c))
-  rule6-top d c r k e = entry-top (entry d c r k) (at c) (entry-agrees d c r k) e .1
+  -- live identities are found among the live spots
+  figure : (ks : List ℕ) → distinct ks ≡ true → ((k : ℕ) → List·Memᴰ k ks → isLive (live t k) ≡ true) → length ks ≤ headOf t .bound
+  figure ks d h =
+      let ss = liveSpots t in
+      let f = fewer ks (keys ss) (once-distinct ks d) (λ k i. has-mem k (keys ss) (has-keys k ss ∙ ap isLive (live-finds t s k) ∙ h k i)) in
+      omega (arith, f, keys-length ss, counted t s)
 
-  -- rule 6: .. the same of the lowest
-  pub rule6-bottom : (d c : Part) (r : TableNode d) (k : List·Memᴰ c (children d (at d))) → isEmpty (at c .points) ≡ false
-      → rankKey (entry d c r k .bottom) ≡ minimum allKeys (rankKeys (at c))
-  unfolding rankKeys names
-  rule6-bottom d c r k e =
-      let h = rule6-lowest d c r k e in
-      let b = entry d c r k .bottom in
-      let ks = keys (at c .points) in
-      let w = rule3-range c (child r k) b (names-P (at c) (h .0)) in
-      let high = node-high (headOf t .levels) m top-part (sound-tree t s) (omega arith) (child r k) .1 in
-      let small = rank-small b (omega (arith, w .1, high)) in
-      let most : rankKey b ≤ allKeys = omega (arith, small) in
-      min-is allKeys (map rankKey ks) (rankKey b) most (Memᴰ·map rankKey (h .0))
-      (λ x i. let q = Memᴰ·of-map rankKey ks i in subst (λ (j : ℕ). rankKey b ≤ j) (q .2) (h .1 (q .0) (q .1)))
-
-  -- rule 6: "The figure in bytes 8-11 lies in its limits": "never below the live count and never above capacity"
-  pub rule6-figure : (liveCount t ≤ headOf t .bound) × (headOf t .bound ≤ capacity (length t))
-  unfolding sound headerOk
-  rule6-figure = (leb-true _ _ (all-at _ s 3), leb-true _ _ (all-at _ (sound-header t s) 5))
-
-  -- rule 6: "Every other field and zero byte is as laid out above", in block 0 and in nodes
-  pub rule6-header : (headOf t .version ≡ 1) × (1 ≤ headOf t .levels) × (headOf t .levels ≤ 7) × (headOf t .blank ≡ true)
-  unfolding headerOk
-  rule6-header =
-      let h = sound-header t s in
-      (eqb-true _ _ (all-at _ h 1), leb-true _ _ (all-at _ h 2), leb-true _ _ (all-at _ h 3), all-at _ h 7)
-
-  -- rule 6: .. in nodes
-  pub rule6-node : (c : Part) → TableNode c → Laid (block t (c .block))
+  laid : (c : Part) → IsNode t c → Laid (block t (c .block))
   unfolding nodeOk storeOf nodeOf nodeFrom laidOut
-  rule6-node c r =
-      let h = all-at _ (node r .ok) 0 in
+  laid c r =
+      let h = all-at _ (stands r .ok) 0 in
       record {
         used = eqb-true _ _ (all-at _ h 0);
         most = leb-true _ _ (all-at _ h 1);
         version = eqb-true _ _ (all-at _ h 2);
-        zeros = all-at _ h 3;
-        entries = all-at _ h 4;
+        zeros = λ x i. eqb-true x 0 (every-mem (λ y. eqb y 0) _ (all-at _ h 3) i);
+        blanks = λ i l. tests-at (entryBlank (block t (c .block))) 28 _ 8 i (all-at _ h 4) l;
         first = all-at _ h 5;
       }
+
+  pub rule6 : Rule6 t
+  rule6 =
+      record {
+        entries = agree;
+        figure = figure;
+        full = head .bound-most;
+        version = head .version;
+        levels = (head .levels-least, head .levels-most);
+        blank = head .blank;
+        laid = laid;
+      }
+
+  -- ---- all six
+
+  pub rules-of : Rules t
+  rules-of = record { rule1 = rule1; rule2 = rule2; rule3 = rule3; rule4 = rule4; rule5 = rule5; rule6 = rule6 }

@@ -43,7 +43,7 @@ Higher r q = (r .from ≡ q .from) × (r .last ≡ q .last) × (q .least ≤ r .
 
 topped-less : (r q : Query) → Higher r q → (a : Asked) → topped r a ≡ true → topped q a ≡ true
 unfolding topped
-topped-less r q h Root e = refl
+topped-less r q h (Root b) e = refl
 topped-less r q h (Child e) t = all-cons _ _ (all-at _ t 0) (all-cons _ _ (le-leb (q .least) (rankOf (e .top)) (omega (arith, h .2, leb-true (r .least) (rankOf (e .top)) (all-at _ t 1)))) all-nil)
 
 admits-less : (r q : Query) → Higher r q → (c : Part) → admits r c ≡ true → admits q c ≡ true

@@ -23,7 +23,7 @@ pub record Pending : Type 0 where
 
 -- the rank that a part may hold at most: its entry's; the root comes first
 abbrev pub promise : Asked → ℕ
-promise Root = word
+promise (Root b) = word
 promise (Child e) = rankOf (e .top)
 
 abbrev pub promised : Pending → ℕ

@@ -8,3 +8,4 @@ pub mod Sound
 pub mod Read
 pub mod Top
 pub mod BestFirst
+pub mod Rules

@@ -18,7 +18,7 @@ pub record Part : Type 0 where
 
 -- rule 3: "the root's has no ends"
 abbrev pub whole : Header → Part
-whole h = record { block = h .root; asked = Root; lo = 0; hi = allKeys }
+whole h = record { block = h .root; asked = Root (h .root); lo = 0; hi = allKeys }
 
 -- rule 3: "from its entry's lowest identity up to, and without, the next entry's": where the range before these entries ends
 abbrev pub nextLow : List Entry → ℕ → ℕ
@@ -35,7 +35,7 @@ children p n = parts (p .lo) (p .hi) (n .entries)
 
 -- where the range of a child begins, as its entry says; the root's begins at 0
 abbrev pub lowOf : Asked → ℕ
-lowOf Root = 0
+lowOf (Root b) = 0
 lowOf (Child e) = e .low
 
 -- the ends of the ranges of these entries rise from lo to hi

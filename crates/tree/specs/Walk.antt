@@ -22,7 +22,7 @@ use Rattle.tree.specs.Part.{Part, whole, children}
 
 -- the size and the highest identity of P that lead to a part
 unfoldable pub topped : Query → Asked → Bool
-topped q Root = true
+topped q (Root b) = true
 topped q (Child e) = all (not (eqb (e .size) 0) ∷ leb (q .least) (rankOf (e .top)) ∷ [])
 
 -- "those children of nodes read where P isn't empty, the highest identity of P has a rank of at least y, and the range holds an identity with a place

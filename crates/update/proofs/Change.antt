@@ -6,18 +6,34 @@ use mathlib.Core.Bool.{Bool, true, false, cond, _||_}
 use mathlib.Core.List.{List, [], _∷_, _++_, List·Memᴰ, Memᴰ·append-left, Memᴰ·append-right, List·Memᴰ·append-cases}
 use mathlib.Core.Option.{Option}
 use Prim.Native.Nat.{ℕ}
-use Rattle.octets.specs.Lists.{distinct}
-use Rattle.octets.proofs.Tests.{every-left, every-right, every-join}
+use borrow.Author.Tests.{eq-eqb, eqb-true}
+use Rattle.octets.specs.Lists.{every, distinct}
+use Rattle.octets.proofs.Tests.{and-left, and-both, every-left, every-right, every-join}
 use Rattle.octets.proofs.Sets.{Split, distinct-split, distinct-join}
 use Rattle.spot.specs.Keys.{within}
+use Rattle.block.specs.declared.Entry.{Entry}
 use Rattle.block.specs.Node.{Store}
-use Rattle.tree.specs.Part.{Part}
+use Rattle.block.specs.NodeRules.{standsIn}
+use Rattle.tree.specs.Part.{Part, nextLow, parts}
 use Rattle.tree.specs.Lookup.{down, lookup}
 use Rattle.tree.specs.Reach.{reach}
 use Rattle.tree.specs.Sound.{soundAt}
 use Rattle.tree.proofs.Frame.{Same, reaches-same, sounds-same, lookups-same}
 use Rattle.tree.proofs.Gather.{gather-append}
-use Rattle.update.specs.Change.{covers, reaches, Sound, Changed}
+use Rattle.update.specs.Change.{covers, reaches, leads, Sound, Changed}
+
+-- one part, led to by what names its block
+pub led-one : (p : Part) → standsIn (p .asked) ≡ p .block → every leads (p ∷ []) ≡ true
+led-one p h = and-both (leads p) true (eq-eqb (standsIn (p .asked)) (p .block) h) refl
+
+pub one-led : (p : Part) → every leads (p ∷ []) ≡ true → standsIn (p .asked) ≡ p .block
+one-led p h = eqb-true (standsIn (p .asked)) (p .block) (and-left (leads p) true h)
+
+-- entries lead to their children
+pub led-parts : (lo hi : ℕ) (es : List Entry) → every leads (parts lo hi es) ≡ true
+unfolding standsIn
+led-parts lo hi [] = refl
+led-parts lo hi (e ∷ es) = and-both _ (every leads (parts (nextLow es hi) hi es)) (eq-eqb (e .block) (e .block) refl) (led-parts (nextLow es hi) hi es)
 
 -- what is found may be said in other words
 pub changed-as : (l : ℕ) (New : ℕ → Type 0) (x : Store) (ps : List Part) (y : Store) (qs : List Part) (f g : ℕ → Option ℕ)
@@ -150,7 +166,7 @@ module _ (l : ℕ) (New : ℕ → Type 0) (x y : Store) (us ps qs vs : List Part
   changed-among =
       let e = every-right (soundAt l x) us (ps ++ vs) (s .each) in
       record {
-        sound = record { each = every-join (soundAt l y) us (qs ++ vs) (sounds-same x y l us same-as ∙ every-left (soundAt l x) us (ps ++ vs) (s .each)) (every-join (soundAt l y) qs vs (c .sound .each) (sounds-same x y l vs same-bs ∙ every-right (soundAt l x) ps vs e)); once = once-after };
+        sound = record { each = every-join (soundAt l y) us (qs ++ vs) (sounds-same x y l us same-as ∙ every-left (soundAt l x) us (ps ++ vs) (s .each)) (every-join (soundAt l y) qs vs (c .sound .each) (sounds-same x y l vs same-bs ∙ every-right (soundAt l x) ps vs e)); once = once-after; led = every-join leads us (qs ++ vs) (every-left leads us (ps ++ vs) (s .led)) (every-join leads qs vs (c .sound .led) (every-right leads ps vs (every-right leads us (ps ++ vs) (s .led)))) };
         span = λ k. covers-append k us (qs ++ vs) ∙ rw (covers-append k qs vs, c .span k, ← (covers-append k ps vs)) (sym (covers-append k us (ps ++ vs)));
         found = λ k i. found-after k;
         reached = reached-after;

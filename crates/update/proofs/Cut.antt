@@ -9,8 +9,8 @@ use Prim.Native.Nat.{ℕ, zero, suc, _≤_}
 use native.Mathlib.Omega.{arith}
 use lib.Dec.{ltb, leb}
 use borrow.Author.Tests.{ltb-true, lt-ltb, leb-true, le-leb}
-use Rattle.octets.specs.Lists.{every, keep, has}
-use Rattle.octets.proofs.Tests.{all-at, all-cons, all-nil, and-left, and-right, and-both, every-mem, every-make, every-left, every-right, every-join}
+use Rattle.octets.specs.Lists.{every, keep, has, rest}
+use Rattle.octets.proofs.Tests.{all-at, all-cons, all-nil, and-left, and-right, and-both, every-imp, every-left, every-right, every-join}
 use Rattle.octets.proofs.Sets.{Split, has-not, distinct-split}
 use Rattle.spot.specs.Spots.{keys, find}
 use Rattle.spot.specs.Keys.{allKeys, within}
@@ -21,17 +21,18 @@ use Rattle.block.specs.declared.Entry.{Entry}
 use Rattle.block.specs.Node.{Node, Store, openBelow}
 use Rattle.block.specs.declared.Asked.{Asked}
 use Rattle.block.specs.declared.Asked.the-variants.{Child}
-use Rattle.block.specs.NodeRules.{names, nodeOk, agrees, notBelow, childCountOk, fewest}
+use Rattle.block.specs.NodeRules.{names, lows, nodeOk, agrees, notBelow, childCountOk, fewest, floorOf, lowsNotBelow, standsIn, childrenApart, entriesCredible}
 use Rattle.tree.specs.Part.{Part, nextLow, parts, Steps}
 use Rattle.tree.specs.Lookup.{orElse, down, lookup}
 use Rattle.tree.specs.Reach.{reach}
 use Rattle.tree.specs.Sound.{soundAt, inRange}
 use Rattle.tree.proofs.Gather.{gather-append}
 use Rattle.tree.proofs.Ranges.{steps-le, down-in}
+use Rattle.tree.proofs.Credible.{all-lower}
 use Rattle.update.specs.Held.{Held}
-use Rattle.update.specs.Change.{part, covers, reaches, Sound, Changed}
+use Rattle.update.specs.Change.{part, covers, reaches, leads, Sound, Changed}
 use Rattle.update.specs.Open.{says, Fit, under, Open}
-use Rattle.update.proofs.Change.{down-append, covers-append}
+use Rattle.update.proofs.Change.{down-append, covers-append, led-parts}
 use Rattle.update.proofs.Spread.{childAt, parts-append, steps-split, covers-parts, off-left}
 use Rattle.update.proofs.Moves.{push-I, pushed-I, push-D, pushed-D, cut, cut-says}
 use Rattle.update.proofs.Open.{after, open-child}
@@ -85,22 +86,24 @@ module _ (l : ℕ) (New : ℕ → Type 0) (x y : Store) (lo hi : ℕ) (full : hi
       (λ B₁ is.
       (push-D lo hi full r B₀ (b .points) (b .inserts) (b .deletes) (o .ready) stay B₁ is, pushed-D lo hi full r B₀ (b .points) (b .inserts) (b .deletes) (o .ready) stay B₁ is))
 
--- an entry may be read with another low, as long as it isn't above the range
-relow-node : (l : ℕ) (p : Part) (n : Node) (e e′ : Entry) → e′ .size ≡ e .size → e′ .top ≡ e .top → e′ .bottom ≡ e .bottom → e′ .low ≤ p .lo → inRange p n ≡ true
+-- an entry may be read with a lower low
+relow-node : (l : ℕ) (n : Node) (e e′ : Entry) → e′ .block ≡ e .block → e′ .size ≡ e .size → e′ .top ≡ e .top → e′ .bottom ≡ e .bottom → e′ .low ≤ e .low
     → nodeOk l (Child e) n ≡ true → nodeOk l (Child e′) n ≡ true
-unfolding nodeOk agrees notBelow childCountOk fewest inRange
-relow-node l p n e e′ a b c d i h =
+unfolding nodeOk agrees notBelow childCountOk fewest floorOf lowsNotBelow standsIn childrenApart entriesCredible
+relow-node l n e e′ o a b c d h =
     all-cons _ _ (all-at _ h 0) (all-cons _ _ (all-at _ h 1) (all-cons _ _ (all-at _ h 2) (all-cons _ _ (all-at _ h 3) (all-cons _ _ (all-at _ h 4) (all-cons _ _ (all-at _ h 5) (all-cons _ _ (all-at _ h 6) (all-cons _ _ (all-at _ h 7) (all-cons _ _ (all-at _ h 8)
-    (all-cons _ _ (rw (a, b, c) (all-at _ h 9))
-    (all-cons _ _ (every-make _ (names n) (λ k j. le-leb (e′ .low) k (let z = within-from (p .lo) (p .hi) k (every-mem _ _ (all-at _ i 0) j) in omega arith))) (all-cons _ _ (all-at _ h 11) all-nil)))))))))))
+    (all-cons _ _ (rw (a, b, c) (all-at _ h 9)) (all-cons _ _ (lower (names n) (all-at _ h 10)) (all-cons _ _ (all-at _ h 11)
+    (all-cons _ _ (lower (rest (lows (n .entries))) (all-at _ h 12)) (all-cons _ _ (rw o (all-at _ h 13)) (all-cons _ _ (all-lower (e .low) (e′ .low) (n .entries) d (all-at _ h 14)) all-nil))))))))))))))
+  where
+    lower : (ks : List ℕ) → every (λ k. leb (e .low) k) ks ≡ true → every (λ k. leb (e′ .low) k) ks ≡ true
+    lower ks q = every-imp _ _ ks (λ k i. le-leb (e′ .low) k (let z = leb-true (e .low) k i in omega arith)) q
 
 -- the same of a part
-pub sound-relow : (l : ℕ) (m : Store) (b lo hi : ℕ) (e e′ : Entry) → e′ .size ≡ e .size → e′ .top ≡ e .top → e′ .bottom ≡ e .bottom → e′ .low ≤ lo
+pub sound-relow : (l : ℕ) (m : Store) (b lo hi : ℕ) (e e′ : Entry) → e′ .block ≡ e .block → e′ .size ≡ e .size → e′ .top ≡ e .top → e′ .bottom ≡ e .bottom → e′ .low ≤ e .low
     → soundAt l m (part b (Child e) lo hi) ≡ true → soundAt l m (part b (Child e′) lo hi) ≡ true
 unfolding soundAt inRange
-sound-relow zero m b lo hi e e′ p q r d h = absurd (false≢true h)
-sound-relow (suc l) m b lo hi e e′ p q r d h =
-    all-cons _ _ (relow-node l (part b (Child e) lo hi) (m b) e e′ p q r d (all-at _ h 1) (all-at _ h 0)) (all-cons _ _ (all-at _ h 1) (all-cons _ _ (all-at _ h 2) all-nil))
+sound-relow zero m b lo hi e e′ o p q r d h = absurd (false≢true h)
+sound-relow (suc l) m b lo hi e e′ o p q r d h = all-cons _ _ (relow-node l (m b) e e′ o p q r d (all-at _ h 0)) (all-cons _ _ (all-at _ h 1) (all-cons _ _ (all-at _ h 2) all-nil))
 
 -- reach and lookup don't ask what leads to a part
 pub reach-asked : (l : ℕ) (m : Store) (b lo hi : ℕ) (a a′ : Asked) → reach l m (part b a lo hi) ≡ reach l m (part b a′ lo hi)
@@ -129,7 +132,7 @@ module _ (l : ℕ) (m : Store) (lo hi : ℕ) (v : Entry) (vs : List Entry) where
   sounds-open h =
       let a = part (v .block) (Child v) lo (nextLow vs hi) in
       let r = every (soundAt l m) (parts (nextLow vs hi) hi vs) in
-      and-both (soundAt l m (part (v .block) (Child (openBelow v)) lo (nextLow vs hi))) r (sound-relow l m (v .block) lo (nextLow vs hi) v (openBelow v) refl refl refl (omega arith) (and-left (soundAt l m a) r h)) (and-right (soundAt l m a) r h)
+      and-both (soundAt l m (part (v .block) (Child (openBelow v)) lo (nextLow vs hi))) r (sound-relow l m (v .block) lo (nextLow vs hi) v (openBelow v) refl refl refl refl (omega arith) (and-left (soundAt l m a) r h)) (and-right (soundAt l m a) r h)
 
 -- the keys of the buffers that pass a test
 abbrev pub halfOf : (ℕ → Bool) → Held → Held
@@ -176,8 +179,8 @@ module _ (l : ℕ) (m : Store) (lo hi r : ℕ) (es : List Entry) (b : Held) (f :
 pub leaf-cut : (l : ℕ) (m : Store) (lo sep hi r : ℕ) (b : Held) (f : ℕ → Option ℕ) → lo ≤ sep → sep ≤ hi → Open l m lo hi r [] b f
     → Open l m lo sep r [] (halfOf (λ k. ltb k sep) b) f × Open l m sep hi r [] (halfOf (λ k. leb sep k) b) f
 leaf-cut l m lo sep hi r b f a c o = (
-  open-low l m lo hi r [] b f o sep [] c (record { each = refl; once = refl }) tt (λ k w. refl),
-  open-high l m lo hi r [] b f o sep [] a (record { each = refl; once = refl }) tt (λ k w. refl),
+  open-low l m lo hi r [] b f o sep [] c (record { each = refl; once = refl; led = refl }) tt (λ k w. refl),
+  open-high l m lo hi r [] b f o sep [] a (record { each = refl; once = refl; led = refl }) tt (λ k w. refl),
 )
 
 -- SPLIT: the entries u ∷ us on the left of v .low, v ∷ vs from there on
@@ -220,14 +223,14 @@ module _ (l : ℕ) (m : Store) (lo hi r : ℕ) (u : Entry) (us : List Entry) (v 
   -- the left side
   pub open-left : Open l m lo sep r (u ∷ us) (halfOf (λ k. ltb k sep) b) f
   open-left =
-      open-low l m lo hi r ((u ∷ us) ++ (v ∷ vs)) b f o sep (u ∷ us) sep-high (record { each = every-left (soundAt l m) A C (kids .each); once = both .left }) steps-A
+      open-low l m lo hi r ((u ∷ us) ++ (v ∷ vs)) b f o sep (u ∷ us) sep-high (record { each = every-left (soundAt l m) A C (kids .each); once = both .left; led = led-parts lo sep (u ∷ us) }) steps-A
       (λ k w. whole k ∙ rw (covers-parts lo sep u us k steps-A ∙ w))
 
   -- the right side
   pub open-right : Open l m sep hi r (openBelow v ∷ vs) (halfOf (λ k. leb sep k) b) f
   open-right =
       open-high l m lo hi r ((u ∷ us) ++ (v ∷ vs)) b f o sep (openBelow v ∷ vs) low-sep
-      (record { each = sounds-open l m sep hi v vs (every-right (soundAt l m) A C (kids .each)); once = rw (reaches-open l m sep hi v vs) (both .right) })
+      (record { each = sounds-open l m sep hi v vs (every-right (soundAt l m) A C (kids .each)); once = rw (reaches-open l m sep hi v vs) (both .right); led = led-parts sep hi (openBelow v ∷ vs) })
       steps-C
       (λ k w. whole k ∙ rw (off-left lo sep hi k (u ∷ us) steps-A (within-from sep hi k w)) (sym (under-open l m sep hi v vs k)))
 
@@ -237,7 +240,7 @@ module _ (l : ℕ) (m : Store) (lo hi r : ℕ) (u : Entry) (us : List Entry) (v 
       let e : reaches l m (A ++ parts sep hi (openBelow v ∷ vs)) ≡ reaches l m (parts lo hi ((u ∷ us) ++ (v ∷ vs))) =
       gather-append (reach l m) A (parts sep hi (openBelow v ∷ vs)) ∙ ap (λ (q : List ℕ). reaches l m A ++ q) (reaches-open l m sep hi v vs) ∙ sym (gather-append (reach l m) A C) ∙ ap (λ (ps : List Part). reaches l m ps) (sym cut-parts) in
       record {
-        sound = record { each = every-join (soundAt l m) A (parts sep hi (openBelow v ∷ vs)) (every-left (soundAt l m) A C (kids .each)) (sounds-open l m sep hi v vs (every-right (soundAt l m) A C (kids .each))); once = rw e (o .kids .once) };
+        sound = record { each = every-join (soundAt l m) A (parts sep hi (openBelow v ∷ vs)) (every-left (soundAt l m) A C (kids .each)) (sounds-open l m sep hi v vs (every-right (soundAt l m) A C (kids .each))); once = rw e (o .kids .once); led = every-join leads A (parts sep hi (openBelow v ∷ vs)) (led-parts lo sep (u ∷ us)) (led-parts sep hi (openBelow v ∷ vs)) };
         span = λ k. covers-append k A (parts sep hi (openBelow v ∷ vs)) ∙ sym (ap (λ (ps : List Part). covers k ps) cut-parts ∙ covers-append k A C);
         found = λ k i. down-append (lookup l m k) k A (parts sep hi (openBelow v ∷ vs)) ∙ ap (cond (covers k A) (under l m lo sep (u ∷ us) k)) (under-open l m sep hi v vs k) ∙ sym (whole k);
         reached = λ z i. inl (rw e at i);

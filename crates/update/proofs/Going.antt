@@ -69,7 +69,7 @@ module _ (l lo hi : ℕ) (x : Store) (s : List ℕ) (es₀ : List Entry) (y : St
 
 -- THE END: the node is stored in its block. With f, this is settle's promise for one entry, and take_top's.
 pub going-done : (l : ℕ) (x y w : Store) (p : Part) (a : Asked) (s s′ : List ℕ) (r : ℕ) (n : Node) (f : ℕ → Option ℕ) → Sound (suc l) x (p ∷ []) → Apart s (reach (suc l) x p)
-    → Going l (p .lo) (p .hi) x s (x (p .block) .entries) y s′ r (n .entries) (heldOf n) f → Shape l a (p .lo) (p .hi) n
+    → Going l (p .lo) (p .hi) x s (x (p .block) .entries) y s′ r (n .entries) (heldOf n) f → Shape l (p .block) a (p .lo) (p .hi) n
     → w (p .block) ≡ n → ((z : ℕ) → (z ≡ p .block → ⊥) → w z ≡ y z)
     → Changed (suc l) (Taken s s′) x (p ∷ []) w (part (p .block) a (p .lo) (p .hi) ∷ []) f
 going-done l x y w p a s s′ r n f sound apart g h at-block else =

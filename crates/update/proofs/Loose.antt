@@ -7,20 +7,21 @@ use mathlib.Core.List.{List, [], _∷_, _++_, List·Memᴰ, List·Memᴰ·head, 
 use mathlib.Core.Option.{Option, none}
 use Prim.Native.Nat.{ℕ, suc, _≤_}
 use Rattle.octets.specs.Lists.{every, distinct}
-use Rattle.octets.proofs.Tests.{all-at, all-cons, all-nil, and-left, and-both, every-left, every-right}
+use Rattle.octets.proofs.Tests.{all-at, all-cons, all-nil, and-left, and-both, every-left, every-right, every-join}
 use Rattle.octets.proofs.Sets.{distinct-split, distinct-join, distinct-head, distinct-tail, distinct-cons}
 use Rattle.spot.specs.Keys.{within}
 use Rattle.spot.proofs.Places.{within-join}
 use Rattle.block.specs.Node.{Node, Store}
 use Rattle.block.specs.declared.Asked.{Asked}
-use Rattle.block.specs.NodeRules.{nodeOk}
+use Rattle.block.specs.NodeRules.{nodeOk, standsIn}
 use Rattle.tree.specs.Part.{Part, parts, children}
 use Rattle.tree.specs.Lookup.{down, lookup, nodeWord}
 use Rattle.tree.specs.Reach.{reach}
 use Rattle.tree.specs.Sound.{soundAt, inRange}
 use Rattle.tree.proofs.Frame.{Same, reaches-same, sounds-same, lookups-same}
 use Rattle.tree.proofs.Gather.{gather-append}
-use Rattle.update.specs.Change.{part, covers, reaches, Sound, Changed}
+use Rattle.update.specs.Change.{part, covers, reaches, leads, Sound, Changed}
+use Rattle.update.proofs.Change.{led-one, one-led, led-parts}
 
 -- what is found at k through a node in memory that stands for the part p
 abbrev pub look : ℕ → Store → Part → Node → ℕ → Option ℕ
@@ -42,6 +43,7 @@ pub record Opened (l : ℕ) (m : Store) (p : Part) : Type 0 where
   pub inside : inRange p (m (p .block)) ≡ true
   pub kids : Sound l m (children p (m (p .block)))
   pub off : List·Memᴰ (p .block) (reaches l m (children p (m (p .block)))) → ⊥
+  pub own : standsIn (p .asked) ≡ p .block
 
 -- a sound part is made of these
 pub opened : (l : ℕ) (m : Store) (p : Part) → Sound (suc l) m (p ∷ []) → Opened l m p
@@ -52,8 +54,9 @@ opened l m p s =
     record {
       ok = all-at _ h 0;
       inside = all-at _ h 1;
-      kids = record { each = all-at _ h 2; once = distinct-tail (p .block) (reaches l m (children p (m (p .block)))) d };
+      kids = record { each = all-at _ h 2; once = distinct-tail (p .block) (reaches l m (children p (m (p .block)))) d; led = led-parts (p .lo) (p .hi) (m (p .block) .entries) };
       off = distinct-head (p .block) (reaches l m (children p (m (p .block)))) d;
+      own = one-led p (s .led);
     }
 
 -- and they make one
@@ -63,6 +66,7 @@ closed l m p o =
     record {
       each = and-both (soundAt (suc l) m p) true (all-cons _ _ (o .ok) (all-cons _ _ (o .inside) (all-cons _ _ (o .kids .each) all-nil))) refl;
       once = subst⁻¹ (λ (r : List ℕ). distinct r ≡ true) (append-nil (reach (suc l) m p) ∙ reach-step l m p) (distinct-cons (p .block) (reaches l m (children p (m (p .block)))) (o .off) (o .kids .once));
+      led = led-one p (o .own);
     }
 
 -- a node stored: w has it in p's block, and is y where its children reach
@@ -95,18 +99,19 @@ module _ (l : ℕ) (New : ℕ → Type 0) (x y w : Store) (p : Part) (a : Asked)
   o : Opened l x p
   o = opened l x p s
 
-  off-block : List·Memᴰ (p .block) (reaches l y (children q n)) → ⊥
+  -- its block is not one of theirs
+  pub off-block : List·Memᴰ (p .block) (reaches l y (children q n)) → ⊥
   off-block i = ⊎-elim (λ j. o .off j) (λ j. fresh (p .block) j (rw (reach-step l x p) (List·Memᴰ·head refl))) (c .reached (p .block) i)
 
   same : Same y w (reaches l y (children q n))
   same z i = else z (λ (e : z ≡ p .block). off-block (rw e at i))
 
   -- if the node keeps the rules and finds f
-  pub node-changed : nodeOk l a n ≡ true → inRange q n ≡ true → ((k : ℕ) → within (p .lo) (p .hi) k ≡ true → look l y q n k ≡ f k)
+  pub node-changed : standsIn a ≡ p .block → nodeOk l a n ≡ true → inRange q n ≡ true → ((k : ℕ) → within (p .lo) (p .hi) k ≡ true → look l y q n k ≡ f k)
       → Changed (suc l) New x (p ∷ []) w (q ∷ []) f
-  node-changed ok inside h =
+  node-changed own ok inside h =
       record {
-        sound = record { each = and-both (soundAt (suc l) w q) true (stored-sound l y w q n at-block same ok inside (c .sound .each)) refl; once = rw (append-nil (reach (suc l) w q), stored-reach l y w q n at-block same) (distinct-cons (p .block) (reaches l y (children q n)) off-block (c .sound .once)) };
+        sound = record { each = and-both (soundAt (suc l) w q) true (stored-sound l y w q n at-block same ok inside (c .sound .each)) refl; once = rw (append-nil (reach (suc l) w q), stored-reach l y w q n at-block same) (distinct-cons (p .block) (reaches l y (children q n)) off-block (c .sound .once)); led = led-one q own };
         span = λ k. refl;
         found = λ k i. rw (sym (or-false (within (p .lo) (p .hi) k)) ∙ i) (stored-lookup l y w q n at-block same k ∙ h k (sym (or-false (within (p .lo) (p .hi) k)) ∙ i));
         reached = λ z i. ⊎-elim (λ (e : z ≡ p .block). inl (rw (append-nil (reach (suc l) x p), reach-step l x p) (List·Memᴰ·head e)))
@@ -151,10 +156,11 @@ module _ (l : ℕ) (Old New : ℕ → Type 0) (x y w : Store) (p : Part) (a₁ a
   from : (z : ℕ) → List·Memᴰ z (K₁ ++ K₂) → List·Memᴰ z (reaches l x (children p (x (p .block)))) ⊎ Old z
   from z i = c .reached z (rw kids i)
 
-  off-old : List·Memᴰ (p .block) (K₁ ++ K₂) → ⊥
+  -- neither block is one of theirs
+  pub off-old : List·Memᴰ (p .block) (K₁ ++ K₂) → ⊥
   off-old i = ⊎-elim (λ j. o₂ .off j) (λ j. fresh (p .block) (more (p .block) j) itself) (from (p .block) i)
 
-  off-new : List·Memᴰ b (K₁ ++ K₂) → ⊥
+  pub off-new : List·Memᴰ b (K₁ ++ K₂) → ⊥
   off-new i = ⊎-elim (λ j. fresh b new (kids-in l x p b j)) free (from b i)
 
   apart : p .block ≡ b → ⊥
@@ -188,15 +194,16 @@ module _ (l : ℕ) (Old New : ℕ → Type 0) (x y w : Store) (p : Part) (a₁ a
   kid-in z i = ⊎-elim (λ j. Memᴰ·append-left (b ∷ K₂) (List·Memᴰ·tail j)) (λ j. Memᴰ·append-right (p .block ∷ K₁) (List·Memᴰ·tail j)) (List·Memᴰ·append-cases K₁ i)
 
   -- if both nodes keep the rules and find f
-  pub node-split : nodeOk l a₁ n₁ ≡ true → inRange q₁ n₁ ≡ true → nodeOk l a₂ n₂ ≡ true → inRange q₂ n₂ ≡ true
+  pub node-split : standsIn a₁ ≡ p .block → standsIn a₂ ≡ b → nodeOk l a₁ n₁ ≡ true → inRange q₁ n₁ ≡ true → nodeOk l a₂ n₂ ≡ true → inRange q₂ n₂ ≡ true
       → ((k : ℕ) → within (p .lo) sep k ≡ true → look l y q₁ n₁ k ≡ f k) → ((k : ℕ) → within sep (p .hi) k ≡ true → look l y q₂ n₂ k ≡ f k)
       → Changed (suc l) New x (p ∷ []) w (q₁ ∷ q₂ ∷ []) f
-  node-split ok₁ in₁ ok₂ in₂ h₁ h₂ =
+  node-split own₁ own₂ ok₁ in₁ ok₂ in₂ h₁ h₂ =
       record {
         sound = record {
           each = and-both (soundAt (suc l) w q₁) _ (stored-sound l y w q₁ n₁ at-block same₁ ok₁ in₁ (every-left (soundAt l y) (children q₁ n₁) (children q₂ n₂) (c .sound .each)))
               (and-both (soundAt (suc l) w q₂) true (stored-sound l y w q₂ n₂ at-new same₂ ok₂ in₂ (every-right (soundAt l y) (children q₁ n₁) (children q₂ n₂) (c .sound .each))) refl);
           once = rw all-reached once-two;
+          led = every-join leads (q₁ ∷ []) (q₂ ∷ []) (led-one q₁ own₁) (led-one q₂ own₂);
         };
         span = λ k. spans k;
         found = λ k i. go k (within (p .lo) sep k) refl (sym (or-false (within (p .lo) (p .hi) k)) ∙ i);

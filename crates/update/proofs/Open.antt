@@ -69,7 +69,7 @@ pub open-frame : (l : ℕ) (x y : Store) (lo hi r : ℕ) (es : List Entry) (b : 
 open-frame l x y lo hi r es b f a o =
     let e = lookups-same x y l (parts lo hi es) a in
     record {
-      kids = record { each = sounds-same x y l (parts lo hi es) a ∙ o .kids .each; once = rw (reaches-same x y l (parts lo hi es) a) (o .kids .once) };
+      kids = record { each = sounds-same x y l (parts lo hi es) a ∙ o .kids .each; once = rw (reaches-same x y l (parts lo hi es) a) (o .kids .once); led = o .kids .led };
       steps = o .steps;
       ready = ready-ext lo hi r (b .points) (b .inserts) (b .deletes) (under l x lo hi es) (under l y lo hi es) e (o .ready);
       found = λ k w. ap (says b k) (e k) ∙ o .found k w;

@@ -21,7 +21,7 @@ use Rattle.spot.proofs.Buffers.{length-only}
 use Rattle.block.specs.declared.Entry.{Entry}
 use Rattle.block.specs.Node.{Store}
 use Rattle.block.specs.declared.Asked.the-variants.{Child}
-use Rattle.block.specs.NodeRules.{lows, zeroFirst}
+use Rattle.block.specs.NodeRules.{lows, zeroFirst, childBlocks}
 use Rattle.tree.specs.Part.{Part, parts}
 use Rattle.tree.specs.Lookup.{lookup}
 use Rattle.tree.specs.Sound.{soundAt}
@@ -31,7 +31,7 @@ use Rattle.update.specs.Held.{Held}
 use Rattle.update.specs.Change.{part, reaches, Sound, Changed}
 use Rattle.update.specs.Spare.{Taken}
 use Rattle.update.specs.Open.{under, Open}
-use Rattle.update.specs.Rounds.{blocks, Loop}
+use Rattle.update.specs.Rounds.{Loop}
 use Rattle.update.proofs.Spread.{start, childAt, parts-one}
 use Rattle.update.proofs.Fill.{under-child, open-ends, open-fill-I, open-fill-both, open-fill-child, open-fill-dead}
 use Rattle.update.proofs.Spare.{lows-same}
@@ -40,8 +40,8 @@ use Rattle.update.proofs.Node.{Top, top-of}
 use Rattle.update.proofs.Going.{going-held, going-child, going-fresh, going-on}
 
 -- one entry for another of the same block
-pub blocks-same : (us vs : List Entry) (e e′ : Entry) → e′ .block ≡ e .block → blocks (us ++ ((e′ ∷ []) ++ vs)) ≡ blocks (us ++ (e ∷ vs))
-blocks-same [] vs e e′ h = ap (λ (b : ℕ). b ∷ blocks vs) h
+pub blocks-same : (us vs : List Entry) (e e′ : Entry) → e′ .block ≡ e .block → childBlocks (us ++ ((e′ ∷ []) ++ vs)) ≡ childBlocks (us ++ (e ∷ vs))
+blocks-same [] vs e e′ h = ap (λ (b : ℕ). b ∷ childBlocks vs) h
 blocks-same (u ∷ us) vs e e′ h = ap (λ (r : List ℕ). u .block ∷ r) (blocks-same us vs e e′ h)
 
 module _ (ni nd l lo hi : ℕ) (full : hi ≤ allKeys) (x : Store) (es₀ : List Entry) (f : ℕ → Option ℕ) where

@@ -22,7 +22,7 @@ use Rattle.tree.specs.Part.{Part, nextLow}
 use Rattle.tree.specs.Reach.{reach}
 use Rattle.tree.specs.Sound.{soundAt}
 use Rattle.tree.proofs.Gather.{gather-append}
-use Rattle.update.specs.Change.{reaches, Sound, Changed}
+use Rattle.update.specs.Change.{reaches, leads, Sound, Changed}
 use Rattle.update.specs.Spare.{Taken, Within}
 use Rattle.update.proofs.Change.{changed-trans}
 
@@ -52,6 +52,7 @@ sound-one l m us c vs s =
     record {
       each = every-left (soundAt l m) (c ∷ []) vs e;
       once = distinct-split (reaches l m (c ∷ [])) (reaches l m vs) (rw (gather-append (reach l m) (c ∷ []) vs) at (d .right)) .left;
+      led = every-left leads (c ∷ []) vs (every-right leads us ((c ∷ []) ++ vs) (s .led));
     }
 
 -- the same of spare blocks

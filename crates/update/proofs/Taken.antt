@@ -9,7 +9,7 @@ use Prim.Native.Nat.{ℕ, zero, suc, _≤_, _+_}
 use native.Mathlib.Omega.{arith}
 use lib.ListN.{length}
 use lib.Dec.{eqb, leb}
-use borrow.Author.Tests.{eq-eqb, ne-eqb, ltb-true, leb-true}
+use borrow.Author.Tests.{eq-eqb, ne-eqb}
 use Rattle.octets.specs.Lists.{all, every, isEmpty}
 use Rattle.octets.proofs.Tests.{all-at, all-cons, all-nil, and-left, or-left, empty-length}
 use Rattle.spot.specs.declared.Spot.{Spot}
@@ -23,18 +23,18 @@ use Rattle.block.specs.declared.Entry.{Entry}
 use Rattle.block.specs.Node.{Node, Store}
 use Rattle.block.specs.Table.{blockOk}
 use Rattle.block.specs.declared.Asked.the-variants.{Child}
-use Rattle.block.specs.NodeRules.{nodeOk, lows, lowsRise, agrees, filled, lowest, fewest, childCountOk, childBlocksOk, leafBuffersEmpty}
+use Rattle.block.specs.NodeRules.{nodeOk, lows, lowsRise, agrees, filled, lowest, fewest, childCountOk, childBlocksOk, leafBuffersEmpty, standsIn, childBlocks}
 use Rattle.tree.specs.Part.{Part}
 use Rattle.tree.specs.Lookup.{lookup}
 use Rattle.tree.specs.Sound.{soundAt, inRange}
-use Rattle.tree.proofs.Below.{node-sound, sizes-filled, sizes-lowest}
+use Rattle.tree.proofs.Below.{node-sound, sizes-filled, sizes-lowest, sizes-few}
 use Rattle.tree.proofs.Entries.{Highest, deepest, entry-for, agree-size, agree-top}
 use Rattle.tree.proofs.Empty.{none-length, held-some, none-held, empty-keys}
 use Rattle.update.specs.Held.{Held}
 use Rattle.update.specs.Change.{part, Sound, Changed}
 use Rattle.update.specs.Spare.{Taken}
 use Rattle.update.specs.Open.{Open}
-use Rattle.update.specs.Rounds.{blocks, Loop, Full}
+use Rattle.update.specs.Rounds.{Loop, Full}
 use Rattle.update.proofs.Loose.{opened, lookup-step}
 use Rattle.update.proofs.Open.{heldOf, open-node, open-lowest}
 use Rattle.update.proofs.Fill.{open-take}
@@ -44,15 +44,15 @@ use Rattle.update.proofs.Going.{going-start, going-done}
 use Rattle.update.proofs.TakeTop.{Took, TakeTop, Filled, fill}
 
 -- what hangs on the entries' blocks alone
-length-blocks : (es : List Entry) → length (blocks es) ≡ length es
+length-blocks : (es : List Entry) → length (childBlocks es) ≡ length es
 length-blocks [] = refl
 length-blocks (e ∷ es) = ap suc (length-blocks es)
 
-empty-blocks : (es : List Entry) → isEmpty (blocks es) ≡ isEmpty es
+empty-blocks : (es : List Entry) → isEmpty (childBlocks es) ≡ isEmpty es
 empty-blocks [] = refl
 empty-blocks (e ∷ es) = refl
 
-every-blocks : (room : ℕ) (es : List Entry) → every (λ e. blockOk room (e .block)) es ≡ every (blockOk room) (blocks es)
+every-blocks : (room : ℕ) (es : List Entry) → every (λ e. blockOk room (e .block)) es ≡ every (blockOk room) (childBlocks es)
 every-blocks room [] = refl
 every-blocks room (e ∷ es) = ap (λ (b : Bool). blockOk room (e .block) && b) (every-blocks room es)
 
@@ -61,12 +61,12 @@ abbrev pub after : Node → List Entry → Held → Node
 after n es b = record { level = n .level; entries = es; points = b .points; inserts = b .inserts; deletes = b .deletes; laid = n .laid; room = n .room }
 
 shape-of : (l : ℕ) (c : Part) (e e′ : Entry) (n : Node) (es : List Entry) (b : Held) → c .asked ≡ Child e → nodeOk l (c .asked) n ≡ true → inRange c n ≡ true
-    → lows es ≡ lows (n .entries) → blocks es ≡ blocks (n .entries) → length (b .points) ≤ 64 → length (b .inserts) ≤ length (n .inserts) → length (b .deletes) ≤ length (n .deletes)
+    → lows es ≡ lows (n .entries) → childBlocks es ≡ childBlocks (n .entries) → length (b .points) ≤ 64 → length (b .inserts) ≤ length (n .inserts) → length (b .deletes) ≤ length (n .deletes)
     → length (n .inserts) ≤ 64 → length (n .deletes) ≤ 16 → Full es b
-    → e′ .low ≤ c .lo → agrees (Child e′) (after n es b) ≡ true
-    → Shape l (Child e′) (c .lo) (c .hi) (after n es b)
-unfolding nodeOk inRange childCountOk fewest lowsRise leafBuffersEmpty childBlocksOk
-shape-of l c e e′ n es b asks ok inside same-lows same-blocks np ni nd ni₀ nd₀ full low agree =
+    → e′ .low ≤ c .lo → agrees (Child e′) (after n es b) ≡ true → e′ .block ≡ c .block → c .hi ≤ allKeys
+    → Shape l (c .block) (Child e′) (c .lo) (c .hi) (after n es b)
+unfolding nodeOk inRange childCountOk fewest lowsRise leafBuffersEmpty childBlocksOk standsIn
+shape-of l c e e′ n es b asks ok inside same-lows same-blocks np ni nd ni₀ nd₀ full low agree own most =
     record {
       laid = all-at _ ok 0;
       level = all-at _ ok 1;
@@ -78,6 +78,8 @@ shape-of l c e e′ n es b asks ok inside same-lows same-blocks np ni nd ni₀ n
       agree = agree;
       low = low;
       blocks = every-blocks (n .room) es ∙ ap (every (blockOk (n .room))) same-blocks ∙ sym (every-blocks (n .room) (n .entries)) ∙ all-at _ ok 11;
+      own = own;
+      full = most;
     }
   where
     same-length : length es ≡ length (n .entries)
@@ -100,16 +102,16 @@ shape-of l c e e′ n es b asks ok inside same-lows same-blocks np ni nd ni₀ n
     sizes (inr h) = sizes-lowest (after n es b) (h .0) (h .1) (h .2) (h .3)
 
 -- STORED, once it is filled: w is the store y of the loop's end with the node in its block, and e′ the entry made of it
-pub take-finish : (ni nd l : ℕ) (x y w : Store) (c : Part) (e e′ : Entry) → c .asked ≡ Child e → e′ .low ≡ e .low → e .low ≤ c .lo → Sound (suc l) x (c ∷ [])
+pub take-finish : (ni nd l : ℕ) (x y w : Store) (c : Part) (e e′ : Entry) → c .asked ≡ Child e → e′ .block ≡ c .block → e′ .low ≡ e .low → e .low ≤ c .lo → c .hi ≤ allKeys → Sound (suc l) x (c ∷ [])
     → ni ≤ length (x (c .block) .inserts) → nd ≤ length (x (c .block) .deletes) → length (x (c .block) .inserts) ≤ 64 → length (x (c .block) .deletes) ≤ 16
     → (r : ℕ) (es : List Entry) (b : Held) (f : ℕ → Option ℕ) → Loop ni nd l (c .lo) (c .hi) x (x (c .block) .entries) y r es b f → Full es b
     → agrees (Child e′) (after (x (c .block)) es b) ≡ true
     → w (c .block) ≡ after (x (c .block)) es b → ((z : ℕ) → (z ≡ c .block → ⊥) → w z ≡ y z)
     → Changed (suc l) (Taken [] []) x (c ∷ []) w (part (c .block) (Child e′) (c .lo) (c .hi) ∷ []) f
-take-finish ni nd l x y w c e e′ asks same low s ni₁ nd₁ ni₀ nd₀ r es b f p full agree at-block else =
+take-finish ni nd l x y w c e e′ asks own same low most s ni₁ nd₁ ni₀ nd₀ r es b f p full agree at-block else =
     let o = opened l x c s in
     going-done l x y w c (Child e′) [] [] r (after (x (c .block)) es b) f s (λ z i. absurd (List·Memᴰ·not-nil i)) (p .going)
-    (shape-of l c e e′ (x (c .block)) es b asks (o .ok) (o .inside) (p .sameLows) (p .sameBlocks) (p .fewP) (omega (arith, p .fewI, ni₁)) (omega (arith, p .fewD, nd₁)) ni₀ nd₀ full (omega arith) agree)
+    (shape-of l c e e′ (x (c .block)) es b asks (o .ok) (o .inside) (p .sameLows) (p .sameBlocks) (p .fewP) (omega (arith, p .fewI, ni₁)) (omega (arith, p .fewD, nd₁)) ni₀ nd₀ full (omega arith) agree own most)
     at-block else
 
 -- OPENED: the node without its top
@@ -160,33 +162,19 @@ module _ (l : ℕ) (x : Store) (c : Part) (e : Entry) (asks : c .asked ≡ Child
           (deepest (x (c .block) .points))
       go false h = taken 0 (open-lowest l x c order s (or-left (filled (x (c .block))) (lowest (x (c .block))) (node-sound (suc l) x c sc .sizes) h))
 
--- the sizes of a node that keeps the rules
-pub sizes-few : (n : Node) → (filled n || lowest n) ≡ true → (length (n .points) ≤ 64) × (length (n .inserts) ≤ 64) × (length (n .deletes) ≤ 16)
-unfolding filled lowest
-sizes-few n h = go (filled n) refl
-  where
-    go : (q : Bool) → filled n ≡ q → (length (n .points) ≤ 64) × (length (n .inserts) ≤ 64) × (length (n .deletes) ≤ 16)
-    go true g = (leb-true (length (n .points)) 64 (all-at _ g 1), leb-true (length (n .inserts)) 64 (all-at _ g 2), leb-true (length (n .deletes)) 16 (all-at _ g 3))
-    go false g =
-        let o = or-left (filled n) (lowest n) h g in
-        let p = ltb-true (length (n .points)) 32 (all-at _ o 0) in
-        let i = empty-length (n .inserts) (all-at _ o 1) in
-        let d = empty-length (n .deletes) (all-at _ o 2) in
-        (omega arith, omega arith, omega arith)
-
 -- what fill leaves is stored
-finish : (l : ℕ) (x : Store) (c : Part) (e : Entry) → c .asked ≡ Child e → c .block ≡ e .block → e .low ≤ c .lo → Sound (suc l) x (c ∷ [])
+finish : (l : ℕ) (x : Store) (c : Part) (e : Entry) → c .asked ≡ Child e → c .block ≡ e .block → e .low ≤ c .lo → c .hi ≤ allKeys → Sound (suc l) x (c ∷ [])
     → length (x (c .block) .inserts) ≤ 64 → length (x (c .block) .deletes) ≤ 16
     → Filled (length (x (c .block) .inserts)) (length (x (c .block) .deletes)) l (c .lo) (c .hi) x (x (c .block) .entries) (λ k. cond (eqb k (e .top)) none (lookup (suc l) x k c))
     → Took (suc l) x c e
-finish l x c e asks at-e low s ni nd F =
+finish l x c e asks at-e low most s ni nd F =
     record {
       store = w;
       entry = e′;
       low = made .2;
       block = made .1 ∙ at-e;
       changed = subst⁻¹ (λ (b : ℕ). Changed (suc l) (Taken [] []) x (c ∷ []) w (part b (Child e′) (c .lo) (c .hi) ∷ []) f) (made .1)
-          (take-finish (length (x (c .block) .inserts)) (length (x (c .block) .deletes)) l x (F .store) w c e e′ asks (made .2) low s (omega arith) (omega arith) ni nd (F .rank) (F .entries) (F .held) f (F .loop) (F .full) (made .3)
+          (take-finish (length (x (c .block) .inserts)) (length (x (c .block) .deletes)) l x (F .store) w c e e′ asks (made .1) (made .2) low most s (omega arith) (omega arith) ni nd (F .rank) (F .entries) (F .held) f (F .loop) (F .full) (made .3)
           (rw (eq-eqb (c .block) (c .block) refl)) (λ z h. rw (ne-eqb z (c .block) h)));
     }
   where
@@ -206,7 +194,7 @@ finish l x c e asks at-e low s ni nd F =
 pub take-top : (l : ℕ) → TakeTop l
 unfolding soundAt nodeOk lowsRise
 take-top zero x c e asks at-e size low order full s = absurd (false≢true (and-left (soundAt 0 x c) true (s .each)))
-take-top (suc l) x c e asks at-e size low order full s = finish l x c e asks at-e low s (few .1) (few .2) (go (take-top l) (take-open l x c e asks full s order size))
+take-top (suc l) x c e asks at-e size low order full s = finish l x c e asks at-e low full s (few .1) (few .2) (go (take-top l) (take-open l x c e asks full s order size))
   where
     n : Node
     n = x (c .block)

@@ -6,10 +6,12 @@ use mathlib.Core.Bool.{Bool, true, false, _||_}
 use mathlib.Core.List.{List, [], _∷_, List·Memᴰ}
 use mathlib.Core.Option.{Option}
 use Prim.Native.Nat.{ℕ}
+use lib.Dec.{eqb}
 use Rattle.octets.specs.Lists.{every, distinct}
 use Rattle.spot.specs.Keys.{within}
 use Rattle.block.specs.Node.{Store}
 use Rattle.block.specs.declared.Asked.{Asked}
+use Rattle.block.specs.NodeRules.{standsIn}
 use Rattle.tree.specs.Part.{Part}
 use Rattle.tree.specs.Lookup.{down, lookup}
 use Rattle.tree.specs.Reach.{gather, reach}
@@ -28,10 +30,15 @@ covers k (p ∷ ps) = within (p .lo) (p .hi) k || covers k ps
 abbrev pub reaches : ℕ → Store → List Part → List ℕ
 reaches l m ps = gather (reach l m) ps
 
--- some parts of a store, each kept by the rules, and no block reached twice
+-- what leads to a part names its block
+abbrev pub leads : Part → Bool
+leads p = eqb (standsIn (p .asked)) (p .block)
+
+-- some parts of a store, each kept by the rules and led to, and no block reached twice
 pub record Sound (l : ℕ) (m : Store) (ps : List Part) : Type 0 where
   pub each : every (soundAt l m) ps ≡ true
   pub once : distinct (reaches l m ps) ≡ true
+  pub led : every leads ps ≡ true
 
 -- The parts ps of the store x became the parts qs of the store y. They hold the same keys, and f says what is found at each; y is x
 -- but for the blocks of ps and New.

@@ -2,26 +2,21 @@
 -- Assumes nothing.
 use mathlib.Core.Path.{_≡_}
 use mathlib.Core.Logic.{_⊎_}
-use mathlib.Core.List.{List, [], _∷_, List·Memᴰ}
+use mathlib.Core.List.{List, [], List·Memᴰ}
 use mathlib.Core.Option.{Option}
 use Prim.Native.Nat.{ℕ, _<_, _≤_}
 use lib.ListN.{length}
 use Rattle.block.specs.declared.Entry.{Entry}
 use Rattle.block.specs.Node.{Store}
-use Rattle.block.specs.NodeRules.{lows}
+use Rattle.block.specs.NodeRules.{lows, childBlocks}
 use Rattle.update.specs.Held.{Held}
 use Rattle.update.specs.Going.{Going}
-
--- the blocks of some entries
-abbrev pub blocks : List Entry → List ℕ
-blocks [] = []
-blocks (e ∷ es) = e .block ∷ blocks es
 
 -- where the loop stands
 pub record Loop (ni nd l lo hi : ℕ) (x : Store) (es₀ : List Entry) (y : Store) (r : ℕ) (es : List Entry) (b : Held) (f : ℕ → Option ℕ) : Type 0 where
   pub going : Going l lo hi x [] es₀ y [] r es b f
   pub sameLows : lows es ≡ lows es₀
-  pub sameBlocks : blocks es ≡ blocks es₀
+  pub sameBlocks : childBlocks es ≡ childBlocks es₀
   pub fewP : length (b .points) ≤ 64
   pub fewI : length (b .inserts) ≤ ni
   pub fewD : length (b .deletes) ≤ nd

@@ -322,6 +322,116 @@ fn nine_blocks_used() {
     full(&mut table, &mut scratch);
 }
 
+// A table of three levels: the root in block 1, its children in blocks 2 and 8, and five leaves below each.
+fn three_levels(table: &mut [u8], scratch: &mut [u8]) {
+    table::format(table);
+    add_many(table, scratch, 300);
+    table::rebuild(table, scratch);
+}
+
+// What the calls say of a damaged table: in a range of block 2, in one of block 8, and of the whole.
+fn damaged(name: &[u8], table: &mut [u8], scratch: &mut [u8]) {
+    say(name);
+    look(table);
+    find(b"  report, the first places", table, 0, 1, 0);
+    find(b"  report, the last places", table, 1017, 1018, 0);
+    find_top(b"  top 1 of the first places", table, 0, 1, 1);
+    add(b"  add, a first place", table, scratch, 1, 1, 1);
+    show(b"  rebuild", table::rebuild(table, scratch));
+}
+
+fn set_bytes(table: &mut [u8], at: usize, n: usize, value: u8)
+    requires { ⌜ at + n ≤ length (now table) ⌝ }
+{
+    let mut i = 0;
+    while i < n {
+        table[at + i] = value;
+        i += 1;
+    }
+}
+
+// A table of three levels in which the n bytes from `at` on have this value.
+fn changed(name: &[u8], at: usize, n: usize, value: u8)
+    requires { ⌜ at + n ≤ 65536 ⌝ }
+{
+    let mut table = [0u8; 65536];
+    let mut scratch = [0u8; 65536];
+    three_levels(&mut table, &mut scratch);
+    set_bytes(&mut table, at, n, value);
+    damaged(name, &mut table, &mut scratch);
+}
+
+fn as_built() {
+    changed(b"three levels\n", 0, 0, 0);
+}
+
+// The second entry of block 8 begins before the range of block 8: block 8 and the entry leading to it show it.
+fn low_before_the_range() {
+    changed(
+        b"an entry that begins before its node's range\n",
+        16424,
+        8,
+        0,
+    );
+}
+
+// Both entries of the root name block 2: the root shows it, whatever else is read.
+fn block_named_twice() {
+    changed(b"two entries that name one block\n", 2085, 1, 2);
+}
+
+fn own_block_named() {
+    changed(b"an entry that names its own node's block\n", 2085, 1, 1);
+}
+
+// No child has 200 points.
+fn size_of_200() {
+    changed(b"an entry of size 200\n", 2086, 1, 200);
+}
+
+// The second entry of the root has a highest at place 0, before the child's range.
+fn highest_outside() {
+    changed(
+        b"an entry whose highest lies outside the child's range\n",
+        2096,
+        4,
+        0,
+    );
+}
+
+// Adds n spots of this rank, from place 0 on.
+fn add_row(table: &mut [u8], scratch: &mut [u8], n: u64, rank: i32)
+    requires { ⌜ n ≤ 65536 ⌝ }
+{
+    let mut i = 0;
+    while i < n {
+        table::add(table, scratch, spot::unbias(2147483648 + i), rank, 0);
+        i += 1;
+    }
+}
+
+// The root has 40 points, and 64 additions wait in it, 44 of them for the leaf in block 3, which is empty and damaged. An addition elsewhere brings a batch down.
+fn damaged_on_the_way() {
+    let mut table = [0u8; 65536];
+    let mut scratch = [0u8; 65536];
+    table::format(&mut table);
+    add_row(&mut table, &mut scratch, 40, 100);
+    table::rebuild(&mut table, &mut scratch);
+    add_row(&mut table, &mut scratch, 64, 1);
+    table[8191] = 1;
+    say(b"a damaged leaf for which additions wait\n");
+    look(&table);
+    add(
+        b"  add, a place of the other leaf",
+        &mut table,
+        &mut scratch,
+        -5,
+        1,
+        1,
+    );
+    withdraw(b"  withdraw, a waiting one", &mut table, &mut scratch, 5, 1);
+}
+
 fn main() {
     eight_blocks();
     a_byte_short();
@@ -331,6 +441,13 @@ fn main() {
     header_of_version_2();
     fresh();
     nine_blocks_used();
+    as_built();
+    low_before_the_range();
+    block_named_twice();
+    own_block_named();
+    size_of_200();
+    highest_outside();
+    damaged_on_the_way();
     let mut larger = [165u8; 65536];
     show(b"format, 32 blocks", table::format(&mut larger));
     look(&larger);

@@ -76,7 +76,7 @@ points-small t b k i =
 -- P is no higher than the top of the entry that leads to it
 points-below : (a : Asked) (n : Node) (k : ℕ) → agrees a n ≡ true → List·Memᴰ k (keys (n .points)) → k < allKeys → rankKey k ≤ ceiling a
 unfolding agrees
-points-below Root n k h i l = let s : rankKey k < allKeys = rank-small k l in omega arith
+points-below (Root b) n k h i l = let s : rankKey k < allKeys = rank-small k l in omega arith
 points-below (Child e) n k h i l = ⊎-elim empty highest (or-either (isEmpty (n .points)) (isHighest (e .top) (keys (n .points))) (all-at _ h 1))
   where
     empty : isEmpty (n .points) ≡ true → rankKey k ≤ rankKey (e .top)

@@ -54,7 +54,7 @@ waitingAbove t p = waitingBy (storeOf t) (above p)
 
 -- what a node's rank keys don't exceed
 abbrev pub ceiling : Asked → ℕ
-ceiling Root = allKeys
+ceiling (Root b) = allKeys
 ceiling (Child e) = rankKey (e .top)
 
 -- the nodes above keep the rules

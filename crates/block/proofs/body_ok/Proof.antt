@@ -47,27 +47,41 @@ rises-under-requires-2 c κs = search needs
 returns : tie.Need-returns
 unfolding bodyFine
 returns c =
-    let a = c .before .before .before .before .before .before .before .before .before .before .args in
+    let at-rises = c .before .before .before in
+    let at-floor = at-rises .before .before in
+    let a = at-floor .before .before .before .before .before .args in
     and-stop (restFine (now (a .s)) (a .blocks) (a .a) (a .h))
-    (lists-are (now (a .s)) (a .blocks) (a .a) (a .h) (c .before .before .before .before .before .floor-of .ensures) (c .before .before .before .before .points-of .ensures) (c .before .before .before .rises-under .ensures) (c .before .rises-under2 .ensures)) (c .if1 .taken)
+    (lists-are (now (a .s)) (a .blocks) (a .a) (a .h) (at-floor .floor-of .ensures) (at-rises .before .points-of .ensures) (at-rises .rises-under .ensures) (c .before .rises-under2 .ensures)) (c .if1 .taken)
 
 apart-ok-requires : tie.Need-apart-ok-requires
 apart-ok-requires c κs =
-    let a = c .before .before .before .before .before .before .before .before .before .before .args in
+    let at-rises = c .before .before .before in
+    let at-floor = at-rises .before .before in
+    let start = at-floor .before .before .before .before .before in
+    let a = start .args in
     let ok =
-    sym (lists-are (now (a .s)) (a .blocks) (a .a) (a .h) (c .before .before .before .before .before .floor-of .ensures) (c .before .before .before .before .points-of .ensures) (c .before .before .before .rises-under .ensures) (c .before .rises-under2 .ensures))
+    sym (lists-are (now (a .s)) (a .blocks) (a .a) (a .h) (at-floor .floor-of .ensures) (at-rises .before .points-of .ensures) (at-rises .rises-under .ensures) (c .before .rises-under2 .ensures))
     ∙ not-false _ (c .if1 .left)
     in
-    (omega (arith, c .before .before .before .before .before .before .before .before .before .before .pre), omega (arith, c .before .before .before .before .before .before .before .before .before .before .pre), inserts-rise (now (a .s)) (a .blocks) (a .a) (a .h) ok, deletes-rise (now (a .s)) (a .blocks) (a .a) (a .h) ok)
+    (omega (arith, start .pre), omega (arith, start .pre), inserts-rise (now (a .s)) (a .blocks) (a .a) (a .h) ok, deletes-rise (now (a .s)) (a .blocks) (a .a) (a .h) ok)
 
 zeros-requires : tie.Need-zeros-requires
 zeros-requires c κs = search needs
 
+own-of-requires : tie.Need-own-of-requires
+own-of-requires c κs = search needs
+
+above-tops-requires : tie.Need-above-tops-requires
+above-tops-requires c κs = search needs
+
 entries-ok-requires : tie.Need-entries-ok-requires
 entries-ok-requires c κs = search needs
 
-first-ok-requires : tie.Need-first-ok-requires
-first-ok-requires c κs = omega (arith, c .before .before .before .before .before .before .before .before .before .before .before .before .before .before .pre)
+blocks-ok-requires : tie.Need-blocks-ok-requires
+blocks-ok-requires c κs =
+    let at-lists = c .before .before .before .before .before in
+    let at-floor = at-lists .before .before .before .before .before in
+    omega (arith, at-floor .before .before .before .before .before .pre)
 
 agrees-ok-requires : tie.Need-agrees-ok-requires
 agrees-ok-requires c κs = search needs
@@ -75,10 +89,17 @@ agrees-ok-requires c κs = search needs
 returns-2 : tie.Need-returns-2
 unfolding bodyFine
 returns-2 c =
-    let a = c .before .before .before .before .before .before .before .before .before .before .before .before .before .before .before .before .args in
+    let at-entries = c .before .before in
+    let at-zeros = at-entries .before .before .before in
+    let at-lists = at-zeros .before .before in
+    let at-rises = at-lists .before .before .before in
+    let at-floor = at-rises .before .before in
+    let a = at-floor .before .before .before .before .before .args in
     and-go (listsFine (now (a .s)) (a .a) (a .h))
-    (lists-are (now (a .s)) (a .blocks) (a .a) (a .h) (c .before .before .before .before .before .before .before .before .before .before .before .floor-of .ensures) (c .before .before .before .before .before .before .before .before .before .before .points-of .ensures) (c .before .before .before .before .before .before .before .before .before .rises-under .ensures) (c .before .before .before .before .before .before .before .rises-under2 .ensures)) (c .before .before .before .before .before .before .if1 .left)
-    (rest-is (now (a .s)) (a .blocks) (a .a) (a .h) (c .before .before .before .before .before .before .before .before .before .before .points-of .ensures) (c .before .before .before .before .before .apart-ok .ensures) (c .before .before .before .before .zeros .ensures) (c .before .before .entries-ok .ensures) (c .before .first-ok .ensures) (c .agrees-ok .ensures))
+    (lists-are (now (a .s)) (a .blocks) (a .a) (a .h) (at-floor .floor-of .ensures) (at-rises .before .points-of .ensures) (at-rises .rises-under .ensures) (at-lists .before .rises-under2 .ensures))
+    (at-lists .if1 .left)
+    (rest-is (now (a .s)) (a .blocks) (a .a) (a .h) (at-rises .before .points-of .ensures) (at-floor .floor-of .ensures) (at-entries .before .before .own-of .ensures) (at-entries .before .above-tops .ensures)
+    (at-zeros .before .apart-ok .ensures) (at-zeros .zeros .ensures) (at-entries .entries-ok .ensures) (c .before .blocks-ok .ensures) (c .agrees-ok .ensures))
 
 pub body-ok-spec : {M : Type 1} → statement M
 body-ok-spec =
@@ -98,7 +119,9 @@ body-ok-spec =
     returns
     apart-ok-requires
     zeros-requires
+    own-of-requires
+    above-tops-requires
     entries-ok-requires
-    first-ok-requires
+    blocks-ok-requires
     agrees-ok-requires
     returns-2)

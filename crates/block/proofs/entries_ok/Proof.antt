@@ -1,21 +1,39 @@
--- `block::entries_ok` meets its contract: the loop tests each entry; its invariant is `TestsInv`.
+-- `block::entries_ok` meets its contract: the loop goes from the last entry to the second, and the first comes after it; the invariant is `EntriesInv`.
 -- Assumes nothing.
-use Prim.Native.Nat.{_≤_, _-_}
+use Prim.Native.Nat.{_<_}
 use native.Mathlib.Omega.{arith}
 use denote.Ref.{now}
-use Rattle.block.specs.Checks.{entryFine}
-use Rattle.block.proofs.Passes.{TestsInv, tests-start, tests-next, tests-end}
+use Rattle.block.proofs.Passes.{EntriesInv, entries-none, entries-start, entries-next, entries-end}
 use Rattle.block.proofs.entries_ok.Statement.{statement}
 use Rattle.block.proofs.entries_ok.Tie as tie
 
 abbrev Inv-loop : tie.InvT-loop
-Inv-loop s n blocks full low ok₀ i₀ ok i = (i ≤ n) × TestsInv (entryFine blocks full low s) 28 n 8 ok i
+Inv-loop s c blocks own low floor ok₀ last₀ next₀ i₀ ok last next i = (i < c) × EntriesInv s c blocks own low floor ok last next i
 
 abbrev μ-loop : tie.MeasureT-loop
-μ-loop s n blocks full low ok₀ i₀ ok i = n - i
+μ-loop s c blocks own low floor ok₀ last₀ next₀ i₀ ok last next i = i
+
+returns : tie.Need-returns Inv-loop μ-loop
+returns c =
+    let a = c .before .before .args in
+    entries-none (now (a .s)) (a .c) (a .blocks) (a .own) (a .low) (a .floor) (c .if1 .taken)
+
+sub-i : tie.Need-sub-i Inv-loop μ-loop
+sub-i c = omega arith
 
 loop-holds : tie.Need-loop-holds Inv-loop μ-loop
-loop-holds c = let a = c .before .args in (omega arith, tests-start (entryFine (a .blocks) (a .full) (a .low) (now (a .s))) 28 (a .c) 8)
+loop-holds c =
+    let a = c .before .before .args in
+    (omega arith, entries-start (now (a .s)) (a .c) (a .blocks) (a .own) (a .low) (a .floor) (omega arith))
+
+mul-read-key : tie.Need-mul-read-key Inv-loop μ-loop
+mul-read-key c = omega arith
+
+add-read-key : tie.Need-add-read-key Inv-loop μ-loop
+add-read-key c = omega arith
+
+read-key-requires : tie.Need-read-key-requires Inv-loop μ-loop
+read-key-requires c κs = omega arith
 
 mul-entry-ok : tie.Need-mul-entry-ok Inv-loop μ-loop
 mul-entry-ok c = omega arith
@@ -26,23 +44,31 @@ add-entry-ok c = omega arith
 entry-ok-requires : tie.Need-entry-ok-requires Inv-loop μ-loop
 entry-ok-requires c κs = omega arith
 
-add-i : tie.Need-add-i Inv-loop μ-loop
-add-i c = omega arith
+sub-i-2 : tie.Need-sub-i-2 Inv-loop μ-loop
+sub-i-2 c = omega arith
 
 loop-less : tie.Need-loop-less Inv-loop μ-loop
 loop-less c = omega arith
 
 loop-again : tie.Need-loop-again Inv-loop μ-loop
 loop-again c =
-    let a = c .before .before .before .before .args in
-    let l = c .before .before .loop in
-    (omega arith, tests-next (entryFine (a .blocks) (a .full) (a .low) (now (a .s))) 28 (a .c) 8 (l .ok) (l .i) (l .inv .1) (omega arith) (c .entry-ok .ensures))
+    let l = c .before .before .before .loop in
+    let a = c .before .before .before .before .before .before .args in (
+      omega arith,
+      entries-next (now (a .s)) (a .c) (a .blocks) (a .own) (a .low) (a .floor) (l .ok) (l .last) (l .next) (l .i) (l .inv .1) (omega arith) (omega arith) (c .before .read-key .ensures) (c .entry-ok .ensures),
+    )
 
-returns : tie.Need-returns Inv-loop μ-loop
-returns c =
-    let a = c .before .before .before .args in
-    let l = c .before .loop in
-    tests-end (entryFine (a .blocks) (a .full) (a .low) (now (a .s))) 28 (a .c) 8 (l .ok) (l .i) (l .inv .1) (omega arith)
+read64-requires : tie.Need-read64-requires Inv-loop μ-loop
+read64-requires c κs = omega arith
+
+entry-ok-requires-2 : tie.Need-entry-ok-requires-2 Inv-loop μ-loop
+entry-ok-requires-2 c κs = omega arith
+
+returns-2 : tie.Need-returns-2 Inv-loop μ-loop
+returns-2 c =
+    let l = c .before .before .before .loop in
+    let a = c .before .before .before .before .before .before .args in
+    entries-end (now (a .s)) (a .c) (a .blocks) (a .own) (a .low) (a .floor) (l .ok) (l .last) (l .next) (l .i) (l .inv .1) (omega arith) (omega arith) (c .before .read64 .ensures .0) (c .entry-ok2 .ensures)
 
 pub entries-ok-spec : {M : Type 1} → statement M
 entries-ok-spec =
@@ -50,11 +76,18 @@ entries-ok-spec =
     (tie.spec
     Inv-loop
     μ-loop
+    returns
+    sub-i
     loop-holds
+    mul-read-key
+    add-read-key
+    read-key-requires
     mul-entry-ok
     add-entry-ok
     entry-ok-requires
-    add-i
+    sub-i-2
     loop-less
     loop-again
-    returns)
+    read64-requires
+    entry-ok-requires-2
+    returns-2)

@@ -1,9 +1,9 @@
 -- `block::floor_of` meets its contract: by the variant.
 -- Assumes nothing.
 use borrow.Author.Needs.{needs}
-use Rattle.block.specs.Checks.{floorOf}
 use Rattle.block.proofs.floor_of.Statement.{statement}
 use Rattle.block.proofs.floor_of.Tie as tie
+use Rattle.block.specs.NodeRules.{floorOf}
 
 enum-told : tie.Need-enum-told
 enum-told c = search needs

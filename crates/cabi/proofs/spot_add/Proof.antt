@@ -22,7 +22,8 @@ returns : tie.Need-returns
 returns c =
     record {
       answer = c .before .before .before .before .before .add .result;
-      is = c .pack .ensures;
+      number = search needs;
+      detail = search needs;
       keeps = rw (toZ-ofZ w32 (c .before .before .before .before .before .before .before .before .before .before .args .place) (c .before .before .before .before .before .before .before .before .before .before .fits .place), toZ-ofZ w32 (c .before .before .before .before .before .before .before .before .before .before .args .rank) (c .before .before .before .before .before .before .before .before .before .before .fits .rank)) at (c .before .before .before .before .before .add .ensures);
     }
 

@@ -27,7 +27,8 @@ returns : tie.Need-returns
 returns c =
     record {
       answer = c .before .before .before .before .before .report .result;
-      is = c .pack .ensures;
+      number = search needs;
+      detail = search needs;
       keeps =
           rw (toZ-ofZ w32 (c .before .before .before .before .before .before .before .before .before .before .before .args .x1) (c .before .before .before .before .before .before .before .before .before .before .before .fits .x1), toZ-ofZ w32 (c .before .before .before .before .before .before .before .before .before .before .before .args .x2) (c .before .before .before .before .before .before .before .before .before .before .before .fits .x2), toZ-ofZ w32 (c .before .before .before .before .before .before .before .before .before .before .before .args .y) (c .before .before .before .before .before .before .before .before .before .before .before .fits .y)) at (c .before .before .before .before .before .report .ensures);
     }

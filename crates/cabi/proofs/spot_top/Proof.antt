@@ -22,7 +22,8 @@ returns : tie.Need-returns
 returns c =
     record {
       answer = c .before .before .before .before .before .top .result;
-      is = c .pack .ensures;
+      number = search needs;
+      detail = search needs;
       keeps =
           rw (toZ-ofZ w32 (c .before .before .before .before .before .before .before .before .before .before .before .args .x1) (c .before .before .before .before .before .before .before .before .before .before .before .fits .x1), toZ-ofZ w32 (c .before .before .before .before .before .before .before .before .before .before .before .args .x2) (c .before .before .before .before .before .before .before .before .before .before .before .fits .x2)) at (c .before .before .before .before .before .top .ensures);
     }

@@ -24,7 +24,7 @@ same-length-3 : tie.Need-same-length-3
 same-length-3 c = search needs
 
 returns : tie.Need-returns
-returns c = (c .before .before .before .before .before .before .before .before .before .settle .ensures .0, grow-fails _ _ _ _ _ _ _ _ (c .not-grown .ensures))
+returns c = let s = c .before .before .before .before .before .before .before .before .before .settle .ensures in (s .0, grow-fails (s .1) (c .not-grown .ensures))
 
 add-t19 : tie.Need-add-t19
 add-t19 c = omega (arith, c .before .before .before .before .before .before .before .before .before .before .before .before .before .before .before .before .before .pre .deep)

@@ -5,7 +5,12 @@ use mathlib.Core.Path.{_≡_}
 use native.Mathlib.Omega.{arith}
 use borrow.Author.Tests.{not-false}
 use borrow.Author.Needs.{needs}
+use mathlib.Core.List.{List·Memᴰ}
+use Prim.Native.Nat.{ℕ}
 use Rattle.octets.specs.Lists.{every}
+use Rattle.spot.specs.Keys.{allKeys, within}
+use Rattle.spot.specs.Spots.{keys}
+use Rattle.buffer.specs.Buffer.{held, named}
 use Rattle.node.proofs.Fits.{all-fit, keys-fit}
 use Rattle.node.specs.Bytes.{spotFits, keyFits}
 use Rattle.journal.proofs.Kept.{kept-trans, undoable-kept}
@@ -19,6 +24,13 @@ fit-spots c = search (needs, all-fit)
 
 fit-keys : (c : tie.Start) → every keyFits (c .args .deletes .keys) ≡ true
 fit-keys c = keys-fit (c .args .deletes .keys) (λ i. search needs)
+
+-- so they lie in the root's range
+all-spots : (c : tie.Start) (k : ℕ) → List·Memᴰ k (keys (held (c .args .inserts))) → within 0 allKeys k ≡ true
+all-spots c = spots-within (c .args .inserts .n) (c .args .inserts .spots) (fit-spots c)
+
+all-keys : (c : tie.Start) (k : ℕ) → List·Memᴰ k (named (c .args .deletes)) → within 0 allKeys k ≡ true
+all-keys c = keys-within (c .args .deletes .n) (c .args .deletes .keys) (fit-keys c)
 
 slice-aggregate-save : tie.Need-slice-aggregate-save
 slice-aggregate-save c = search needs
@@ -45,6 +57,9 @@ undo-requires c κs =
     let s = c .before .before .before .before .before .before .before .before .before .before .before .before .before .before .before .before .before .before .before .save .ensures in
     undoable-kept (kept-trans (s .0) (c .before .before .before .before .before .before .before .before .before .before .grow .ensures .0)) (heavy-starts (c .before .before .before .before .before .before .before .before .before .before .before .before .before .before .before .before .before .before .before .before .before .before .before .before .before .pre))
 
+refused-requires : tie.Need-refused-requires
+refused-requires c κs = search needs
+
 same-length : tie.Need-same-length
 same-length c = search needs
 
@@ -53,8 +68,9 @@ same-length-2 c = search needs
 
 returns : tie.Need-returns
 returns c =
-    let s = c .before .before .before .before .before .before .before .before .before .before .before .before .before .before .before .before .before .before .before .before .before .before .save .ensures in
-    heavy-undone (c .before .before .before .before .before .before .before .before .before .before .before .before .before .before .before .before .before .before .before .before .before .before .before .before .before .before .before .before .pre) (s .0) (s .1) (c .before .before .before .before .before .before .before .before .before .before .before .before .before .before .before .before .before .spare-blocks .ensures) (c .before .before .before .before .before .before .before .before .before .before .before .before .before .grow .ensures .0) _ _ (c .before .before .undo .ensures)
+    let s = c .before .before .before .before .before .before .before .before .before .before .before .before .before .before .before .before .before .before .before .before .before .before .before .save .ensures in
+    let g = c .before .before .before .before .before .before .before .before .before .before .before .before .before .before .grow .ensures in
+    heavy-undone (c .before .before .before .before .before .before .before .before .before .before .before .before .before .before .before .before .before .before .before .before .before .before .before .before .before .before .before .before .before .pre) (s .0) (s .1) (c .before .before .before .before .before .before .before .before .before .before .before .before .before .before .before .before .before .before .spare-blocks .ensures) (g .0) (g .1) (c .refused .ensures) (c .before .before .before .undo .ensures) (all-spots (c .before .before .before .before .before .before .before .before .before .before .before .before .before .before .before .before .before .before .before .before .before .before .before .before .before .before .before .before .before)) (all-keys (c .before .before .before .before .before .before .before .before .before .before .before .before .before .before .before .before .before .before .before .before .before .before .before .before .before .before .before .before .before))
 
 finish-requires : tie.Need-finish-requires
 finish-requires c κs =
@@ -70,11 +86,9 @@ same-length-4 c = search needs
 
 returns-2 : tie.Need-returns-2
 returns-2 c =
-    let a = c .before .before .before .before .before .before .before .before .before .before .before .before .before .before .before .before .before .before .before .before .before .before .before .before .before .before .before .args in
     let s = c .before .before .before .before .before .before .before .before .before .before .before .before .before .before .before .before .before .before .before .before .before .save .ensures in
     let g = c .before .before .before .before .before .before .before .before .before .before .before .before .grow .ensures in
-    heavy-done (c .before .before .before .before .before .before .before .before .before .before .before .before .before .before .before .before .before .before .before .before .before .before .before .before .before .before .before .pre) (s .0) (s .1) (c .before .before .before .before .before .before .before .before .before .before .before .before .before .before .before .before .spare-blocks .ensures) (g .0) (g .1) (not-false _ (c .before .before .before .before .before .if1 .left)) (c .before .before .finish .ensures)
-    (spots-within (a .inserts .n) (a .inserts .spots) (fit-spots (c .before .before .before .before .before .before .before .before .before .before .before .before .before .before .before .before .before .before .before .before .before .before .before .before .before .before .before))) (keys-within (a .deletes .n) (a .deletes .keys) (fit-keys (c .before .before .before .before .before .before .before .before .before .before .before .before .before .before .before .before .before .before .before .before .before .before .before .before .before .before .before)))
+    heavy-done (c .before .before .before .before .before .before .before .before .before .before .before .before .before .before .before .before .before .before .before .before .before .before .before .before .before .before .before .pre) (s .0) (s .1) (c .before .before .before .before .before .before .before .before .before .before .before .before .before .before .before .before .spare-blocks .ensures) (g .0) (g .1) (not-false _ (c .before .before .before .before .before .if1 .left)) (c .before .before .finish .ensures) (all-spots (c .before .before .before .before .before .before .before .before .before .before .before .before .before .before .before .before .before .before .before .before .before .before .before .before .before .before .before)) (all-keys (c .before .before .before .before .before .before .before .before .before .before .before .before .before .before .before .before .before .before .before .before .before .before .before .before .before .before .before))
 
 pub heavy-spec : {M : Type 1} → statement M
 heavy-spec =
@@ -87,6 +101,7 @@ heavy-spec =
     grow-requires
     slice-aggregate-undo
     undo-requires
+    refused-requires
     same-length
     same-length-2
     returns

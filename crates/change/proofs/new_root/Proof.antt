@@ -1,6 +1,6 @@
 -- `change::new_root` meets its contract.
 -- Assumes nothing.
-use mathlib.Core.Path.{subst⁻¹}
+use mathlib.Core.Path.{refl, subst⁻¹}
 use Prim.Native.Nat.{ℕ, _<_}
 use native.Mathlib.Omega.{arith}
 use borrow.Author.Tests.{not-false}
@@ -8,7 +8,7 @@ use borrow.Author.Needs.{needs}
 use Rattle.block.specs.Table.{blocksOf}
 use Rattle.journal.proofs.Kept.{kept-refl, kept-trans, undoable-kept}
 use Rattle.change.proofs.Settles.{crown-fails, crown-done, last-inside, room-above}
-use Rattle.change.proofs.Crown.{crown-works, crown-stores}
+use Rattle.change.proofs.Crown.{crown-works, crown-stores, crown-whole}
 use Rattle.change.proofs.new_root.Statement.{statement}
 use Rattle.change.proofs.new_root.Tie as tie
 
@@ -16,7 +16,7 @@ not-grown-requires : tie.Need-not-grown-requires
 not-grown-requires c κs = search needs
 
 returns : tie.Need-returns
-returns c = (kept-refl, crown-fails _ _ _ _ _ _ _ _ (c .not-grown .ensures))
+returns c = (kept-refl, crown-fails (c .not-grown .ensures) (λ f low high kids finds. refl))
 
 last-of-requires : tie.Need-last-of-requires
 last-of-requires c κs =
@@ -47,7 +47,9 @@ same-length-3 : tie.Need-same-length-3
 same-length-3 c = search needs
 
 returns-2 : tie.Need-returns-2
-returns-2 c = (c .before .before .before .before .before .before .before .before .before .fill .ensures .0, crown-fails _ _ _ _ _ _ _ _ (c .not-grown2 .ensures))
+returns-2 c =
+    let f = c .before .before .before .before .before .before .before .before .before .fill .ensures in
+    (f .0, crown-fails (c .not-grown2 .ensures) (crown-whole (c .before .before .before .before .before .before .before .before .before .before .before .before .before .over .ensures) (f .1) (c .before .before .before .before .before .before .before .before .before .before .before .before .before .before .before .before .before .before .before .pre .zero)))
 
 write-node-requires : tie.Need-write-node-requires
 write-node-requires c κs =

@@ -1,30 +1,43 @@
--- `edit::spill` meets its contract. The loop's invariant: `Lowering`, what P and I have become.
+-- `edit::spill` meets its contract. The loop's invariant: `Lowering`, what P has become and what has gathered.
 -- Assumes nothing.
 use mathlib.Core.Path.{_≡_}
 use native.Mathlib.Omega.{arith}
 use borrow.Author.Needs.{needs}
 use lib.ListN.{length}
+use Rattle.buffer.specs.Buffer.{held}
 use Rattle.buffer.proofs.Lists.{length-image}
-use Rattle.edit.proofs.Lowered.{Lowering, lowering-none, lowest-new, one-fewer, lowering-more, lowering-all}
+use Rattle.edit.proofs.Lowered.{Lowering, lowering-none, lowest-new, one-fewer, lowering-more, lowering-all, spilled-none}
 use Rattle.edit.proofs.spill.Statement.{statement}
 use Rattle.edit.proofs.spill.Tie as tie
 use Rattle.edit.proofs.spill.Reads as reads
 use Rattle.edit.proofs.spill.Lts as lts
+use Rattle.buffer.proofs.empty.Reads as empty-reads
 use Rattle.buffer.proofs.lowest.Reads as lowest-reads
+use Rattle.buffer.proofs.merge.Reads as merge-reads
 use Rattle.buffer.proofs.put.Reads as put-reads
 use Rattle.buffer.proofs.without.Reads as without-reads
 
 abbrev Inv-loop : tie.InvT-loop
-Inv-loop level entries deletes points₀ inserts₀ points inserts = Lowering points₀ inserts₀ deletes points inserts
+Inv-loop n size level entries deletes points₀ gathered₀ points gathered = Lowering (n .points) (n .inserts) (n .deletes) points gathered
 
 abbrev μ-loop : tie.MeasureT-loop
-μ-loop level entries deletes points₀ inserts₀ points inserts = points .n
+μ-loop n size level entries deletes points₀ gathered₀ points gathered = points .n
+
+lengths : (c : tie.Start Inv-loop μ-loop) → (length (c .args .n .points .spots) ≡ 80) × (length (c .args .n .inserts .spots) ≡ 80)
+lengths c = (search (needs, length-image), search (needs, length-image))
+
+returns : tie.Need-returns Inv-loop μ-loop
+returns c = spilled-none (c .before .args .n) (c .before .pre .0) (omega arith)
+
+empty-requires : tie.Need-empty-requires Inv-loop μ-loop
+empty-requires c κs = search needs
 
 loop-holds : tie.Need-loop-holds Inv-loop μ-loop
 loop-holds c =
-    let s = c .before .before .before .before in
+    let s = c .before .before .before .before .before in
     let n = s .args .n in
-    lowering-none (n .points) (n .inserts) (n .deletes) (search (needs, length-image)) (s .pre .0 .points) (s .pre .0 .inserts) (s .pre .2)
+    let g = c .empty in
+    lowering-none (n .points) (n .inserts) (g .result) (n .deletes) (lengths s .0) (s .pre .0 .points) (s .pre .2) (omega arith) (g .ensures .0) (g .ensures .1)
 
 lowest-requires : tie.Need-lowest-requires Inv-loop μ-loop
 lowest-requires c κs = (c .before .before .loop .inv .points, omega arith)
@@ -34,12 +47,12 @@ without-requires c κs = c .before .before .before .loop .inv .points
 
 put-requires : tie.Need-put-requires Inv-loop μ-loop
 put-requires c κs =
-    let s = c .before .before .before .before .before .before .before .before .before in
     let l = c .before .before .before .before .loop in
+    let s = c .before .before .before .before .before .before .before .before .before .before in
     let q = c .before .lowest in
-    (l .inv .inserts, omega (arith, s .pre .1, l .inv .total), lowest-new (l .points) (l .inserts) (q .result) (q .ensures) (l .inv .apart))
+    (l .inv .gathered, omega (arith, s .pre .0 .points .fits, l .inv .total), lowest-new (l .points) (held (l .gathered)) (q .result) (q .ensures) (l .inv .apart))
 
-long : (c : lts.After-put (lowest-reads.Asked, lowest-reads.Learnt, without-reads.Asked, without-reads.Learnt, put-reads.Asked, put-reads.Learnt) reads.Pre reads.Post Inv-loop μ-loop)
+long : (c : lts.After-put (empty-reads.Asked, empty-reads.Learnt, lowest-reads.Asked, lowest-reads.Learnt, without-reads.Asked, without-reads.Learnt, put-reads.Asked, put-reads.Learnt, merge-reads.Asked, merge-reads.Learnt) reads.Pre reads.Post Inv-loop μ-loop)
     → length (c .before .without .result .spots) ≡ 80
 long c = search (needs, length-image)
 
@@ -53,16 +66,26 @@ loop-less c =
 loop-again : tie.Need-loop-again Inv-loop μ-loop
 loop-again c =
     let l = c .before .before .before .before .before .loop in
+    let s = c .before .before .before .before .before .before .before .before .before .before .before in
     let q = c .before .before .lowest in
     let p = c .before .without in
-    let i = c .put in
-    lowering-more (l .points) (l .inserts) (p .result) (i .result) (q .result) (l .inv) (q .ensures) (omega arith) (p .ensures .1) (long c) (p .ensures .2) (i .ensures .0) (i .ensures .1) (i .ensures .2)
+    let g = c .put in
+    lowering-more (l .points) (l .gathered) (p .result) (g .result) (q .result) (l .inv) (s .pre .0 .inserts) (q .ensures) (omega arith) (p .ensures .1) (long c) (p .ensures .2) (g .ensures .0)
+    (g .ensures .1) (g .ensures .2)
 
-returns : tie.Need-returns Inv-loop μ-loop
-returns c =
-    let s = c .before .before .before .before .before .before .before in
+merge-requires : tie.Need-merge-requires Inv-loop μ-loop
+merge-requires c κs =
     let l = c .before .before .loop in
-    lowering-all (s .args .n) (l .points) (l .inserts) (l .inv) (omega arith) (s .pre .0 .deletes)
+    let s = c .before .before .before .before .before .before .before .before in
+    (l .inv .gathered, s .pre .0 .inserts, omega (arith, s .pre .1, l .inv .total, l .inv .full))
+
+returns-2 : tie.Need-returns-2 Inv-loop μ-loop
+returns-2 c =
+    let l = c .before .before .before .loop in
+    let s = c .before .before .before .before .before .before .before .before .before in
+    let i = c .merge in
+    lowering-all (s .args .n) (l .points) (l .gathered) (i .result) (l .inv) (omega arith) (omega arith) (s .pre .0) (lengths s .1) (search (needs, length-image)) (i .ensures .1)
+    (i .ensures .2)
 
 pub spill-spec : {M : Type 1} → statement M
 spill-spec =
@@ -70,10 +93,13 @@ spill-spec =
     (tie.spec
     Inv-loop
     μ-loop
+    returns
+    empty-requires
     loop-holds
     lowest-requires
     without-requires
     put-requires
     loop-less
     loop-again
-    returns)
+    merge-requires
+    returns-2)

@@ -3,18 +3,18 @@
 use borrow.Author.Needs.{needs}
 use native.Mathlib.Omega.{arith}
 use Prim.Native.Nat.{ℕ, _<_, _≤_, _+_, _-_, _*_}
-use mathlib.Core.Path.{_≡_, sym, _∙_}
+use mathlib.Core.Path.{_≡_, refl, sym, _∙_}
 use mathlib.Core.Bool.{true, false, false≢true}
 use mathlib.Core.Logic.{inl}
-use borrow.Author.Tests.{not-false}
+use borrow.Author.Tests.{not-true, not-false}
 use lib.ListN.{length}
 use Rattle.buffer.proofs.Lists.{length-image}
 use Rattle.buffer.proofs.Laws.{held-length, named-length}
 use Rattle.block.specs.declared.Asked.the-variants.{Child}
 use Rattle.journal.proofs.Kept.{kept-refl, kept-trans, undoable-kept}
 use Rattle.fill.proofs.Works.{round-failed}
-use Rattle.fill.proofs.Turns.{child-bare, child-above, both-same, replaced-ready, post-end, post-insert, tops-bare, tops-lower, post-child, post-both}
-use Rattle.fill.proofs.Whole.{Filling, fill-start, fill-ends, fill-turn, fill-fails, fill-over, take-fails, take-done, loaded-works, filled-stores}
+use Rattle.fill.proofs.Turns.{child-bare, child-above, both-same, replaced-ready, post-end, post-insert, post-failed, tops-bare, tops-lower, post-child, post-both}
+use Rattle.fill.proofs.Whole.{Filling, fill-start, fill-ends, fill-turn, fill-fails, fill-over, take-fails, part-valid, fill-whole, take-done, loaded-works, filled-stores}
 use borrow.Fn.Kinds.{In}
 use borrow.Fn.PlainCycle.{Measures, is, falls, and}
 use Rattle.fill.proofs.fill.Reads as fill
@@ -37,6 +37,7 @@ use Rattle.buffer.proofs.highest.Reads as highest-reads
 use Rattle.edit.proofs.best_child.Reads as best-child-reads
 use Rattle.edit.proofs.entry_for.Reads as entry-for-reads
 use Rattle.fill.proofs.failed.Reads as failed-reads
+use Rattle.fill.proofs.not_taken.Reads as not-taken-reads
 use Rattle.fill.proofs.from_inserts.Reads as from-inserts-reads
 use Rattle.fill.proofs.from_top.Reads as from-top-reads
 use Rattle.fill.proofs.with_child.Reads as with-child-reads
@@ -108,7 +109,7 @@ abbrev round-claims : ℕ → round-lts.Claims
 round-claims t = (best-child-reads.Asked, best-child-reads.Learnt, without-deletes-reads.Asked, without-deletes-reads.Learnt, from-child-below t, from-child.Post, highest-reads.Asked, highest-reads.Learnt, from-inserts-reads.Asked, from-inserts-reads.Learnt, entry-reads.Asked, entry-reads.Learnt, rank-key-reads.Asked, rank-key-reads.Learnt, from-both-below t, from-both.Post)
 
 abbrev take-top-claims : ℕ → take-top-lts.Claims
-take-top-claims t = (block-ok-reads.Asked, block-ok-reads.Learnt, load-reads.Asked, load-reads.Learnt, highest-reads.Asked, highest-reads.Learnt, without-point-reads.Asked, without-point-reads.Learnt, fill-below t, fill.Post, write-node-reads.Asked, write-node-reads.Learnt, entry-for-reads.Asked, entry-for-reads.Learnt)
+take-top-claims t = (block-ok-reads.Asked, block-ok-reads.Learnt, not-taken-reads.Asked, not-taken-reads.Learnt, load-reads.Asked, load-reads.Learnt, highest-reads.Asked, highest-reads.Learnt, without-point-reads.Asked, without-point-reads.Learnt, fill-below t, fill.Post, write-node-reads.Asked, write-node-reads.Learnt, entry-for-reads.Asked, entry-for-reads.Learnt)
 
 abbrev fill-Inv-loop : fill-lts.InvT-loop
 fill-Inv-loop t₀ s₀ map₀ level node₀ rounds₀ t s map node rounds = Filling t₀ s₀ map₀ level node₀ t s map node × (rounds ≤ 128) × (length (node .points .spots) ≡ 80)
@@ -118,7 +119,7 @@ fill-μ-loop t₀ s₀ map₀ level node₀ rounds₀ t s map node rounds = 128 
 
 -- the arrays are of their length
 round-long : (t : ℕ) (c : fill-lts.After-round (fill-claims t) (fill-at t) fill.Post fill-Inv-loop fill-μ-loop) → length (c .round .result .node .points .spots) ≡ 80
-round-long t c = search (needs, length-image, c .round .ok .1 .1 .1 .1 .0 .1 .1 .1 .1 .0)
+round-long t c = search (needs, length-image, c .round .ok .1 .1 .1 .1 .1 .0 .1 .1 .1 .1 .0)
 
 load-long : (t : ℕ) (c : take-top-lts.After-load (take-top-claims t) (take-top-at t) take-top.Post) → (length (c .load .result .inserts .spots) ≡ 80) × (length (c .load .result .deletes .keys) ≡ 32)
 load-long t c = (search (needs, length-image), search (needs, length-image))
@@ -201,7 +202,7 @@ from-both-failed-requires : (t : ℕ) → from-both-lts.Need-failed-requires (fr
 from-both-failed-requires t c κs = search needs
 
 from-both-returns : (t : ℕ) → from-both-lts.Need-returns (from-both-claims t) (from-both-at t) from-both.Post
-from-both-returns t c = let w = c .before .before .before .before .before .pre .1 in let e = c .failed .ensures in (kept-refl, round-failed (w .0) kept-refl (e .0) (e .2))
+from-both-returns t c = let w = c .before .before .before .before .before .pre .1 in let e = c .failed .ensures in (kept-refl, round-failed (w .0) kept-refl (e .0) (e .2) (λ ni nd lo hi rank x es₀ f full z p. e .3))
 
 from-both-entry-requires : (t : ℕ) → from-both-lts.Need-entry-requires (from-both-claims t) (from-both-at t) from-both.Post
 from-both-entry-requires t c κs = search needs
@@ -229,7 +230,7 @@ from-both-same-length-3 : (t : ℕ) → from-both-lts.Need-same-length-3 (from-b
 from-both-same-length-3 t c = search needs
 
 from-both-returns-2 : (t : ℕ) → from-both-lts.Need-returns-2 (from-both-claims t) (from-both-at t) from-both.Post
-from-both-returns-2 t c = let w = c .before .before .before .before .before .before .before .before .before .before .before .before .before .before .before .before .before .before .pre .1 in let q = c .before .before .before .before .before .before .before .before .before .take-top .ensures in let e = c .failed2 .ensures in (q .0, round-failed (w .0) (q .0) (e .0) (e .2))
+from-both-returns-2 t c = let w = c .before .before .before .before .before .before .before .before .before .before .before .before .before .before .before .before .before .before .pre .1 in let q = c .before .before .before .before .before .before .before .before .before .take-top .ensures in let e = c .failed2 .ensures in (q .0, post-failed (w .0) (c .before .before .before .before .before .before .before .before .before .before .before .before .before .before .if1 .left) (q .0) (c .before .before .before .before .before .before .before .before .before .before .before .before .before .entry .ensures) (w .2 .best) (q .1) (e .0) (e .2) (e .3))
 
 from-both-with-child-requires : (t : ℕ) → from-both-lts.Need-with-child-requires (from-both-claims t) (from-both-at t) from-both.Post
 from-both-with-child-requires t c κs = let w = c .before .before .before .before .before .before .before .before .before .before .before .before .before .before .before .before .before .pre .1 in (w .2 .inside, w .0 .entries .few)
@@ -256,7 +257,7 @@ from-child-failed-requires : (t : ℕ) → from-child-lts.Need-failed-requires (
 from-child-failed-requires t c κs = search needs
 
 from-child-returns : (t : ℕ) → from-child-lts.Need-returns (from-child-claims t) (from-child-at t) from-child.Post
-from-child-returns t c = let w = c .before .before .before .before .before .pre .1 in let e = c .failed .ensures in (kept-refl, round-failed (w .0) kept-refl (e .0) (e .2))
+from-child-returns t c = let w = c .before .before .before .before .before .pre .1 in let e = c .failed .ensures in (kept-refl, round-failed (w .0) kept-refl (e .0) (e .2) (λ ni nd lo hi rank x es₀ f full z p. e .3))
 
 from-child-entry-requires : (t : ℕ) → from-child-lts.Need-entry-requires (from-child-claims t) (from-child-at t) from-child.Post
 from-child-entry-requires t c κs = search needs
@@ -284,7 +285,7 @@ from-child-same-length-3 : (t : ℕ) → from-child-lts.Need-same-length-3 (from
 from-child-same-length-3 t c = search needs
 
 from-child-returns-2 : (t : ℕ) → from-child-lts.Need-returns-2 (from-child-claims t) (from-child-at t) from-child.Post
-from-child-returns-2 t c = let w = c .before .before .before .before .before .before .before .before .before .before .before .before .before .before .before .before .before .before .pre .1 in let q = c .before .before .before .before .before .before .before .before .before .take-top .ensures in let e = c .failed2 .ensures in (q .0, round-failed (w .0) (q .0) (e .0) (e .2))
+from-child-returns-2 t c = let w = c .before .before .before .before .before .before .before .before .before .before .before .before .before .before .before .before .before .before .pre .1 in let q = c .before .before .before .before .before .before .before .before .before .take-top .ensures in let e = c .failed2 .ensures in (q .0, post-failed (w .0) (c .before .before .before .before .before .before .before .before .before .before .before .before .before .before .if1 .left) (q .0) (c .before .before .before .before .before .before .before .before .before .before .before .before .before .entry .ensures) (w .2 .best) (q .1) (e .0) (e .2) (e .3))
 
 from-child-with-child-requires : (t : ℕ) → from-child-lts.Need-with-child-requires (from-child-claims t) (from-child-at t) from-child.Post
 from-child-with-child-requires t c κs = let w = c .before .before .before .before .before .before .before .before .before .before .before .before .before .before .before .before .before .pre .1 in (w .2 .inside, w .0 .entries .few)
@@ -402,22 +403,31 @@ round-returns-6 t c =
 take-top-block-ok-requires : (t : ℕ) → take-top-lts.Need-block-ok-requires (take-top-claims t) (take-top-at t) take-top.Post
 take-top-block-ok-requires t c κs = let w = c .before .before .before .before .pre .1 in omega (arith, w .0 .whole, w .2)
 
+take-top-not-taken-requires : (t : ℕ) → take-top-lts.Need-not-taken-requires (take-top-claims t) (take-top-at t) take-top.Post
+take-top-not-taken-requires t c κs = search needs
+
 take-top-same-length : (t : ℕ) → take-top-lts.Need-same-length (take-top-claims t) (take-top-at t) take-top.Post
 take-top-same-length t c = search needs
 
 take-top-returns : (t : ℕ) → take-top-lts.Need-returns (take-top-claims t) (take-top-at t) take-top.Post
-take-top-returns t c = let w = c .before .before .before .before .before .before .pre .1 in (kept-refl, take-fails (w .0) kept-refl)
+take-top-returns t c =
+    let w = c .before .before .before .before .before .before .before .pre .1 in
+    let refused = sym (c .before .before .block-ok .ensures) ∙ not-true _ (c .before .if1 .taken) in
+    (kept-refl, take-fails (w .0) kept-refl (c .not-taken .ensures) (part-valid (c .before .before .before .before .before .before .before .args .t .now) refused))
 
 take-top-load-requires : (t : ℕ) → take-top-lts.Need-load-requires (take-top-claims t) (take-top-at t) take-top.Post
 take-top-load-requires t c κs =
     let w = c .before .before .before .before .before .before .before .pre .1 in
     record { level = c .before .before .before .before .before .before .before .args .level; asked = Child (c .before .before .before .before .before .before .before .args .e); ok = sym (c .before .before .block-ok .ensures) ∙ not-false _ (c .before .if1 .left); inside = omega (arith, w .0 .whole, w .2) }
 
+take-top-not-taken-requires-2 : (t : ℕ) → take-top-lts.Need-not-taken-requires-2 (take-top-claims t) (take-top-at t) take-top.Post
+take-top-not-taken-requires-2 t c κs = search needs
+
 take-top-same-length-2 : (t : ℕ) → take-top-lts.Need-same-length-2 (take-top-claims t) (take-top-at t) take-top.Post
 take-top-same-length-2 t c = search needs
 
 take-top-returns-2 : (t : ℕ) → take-top-lts.Need-returns-2 (take-top-claims t) (take-top-at t) take-top.Post
-take-top-returns-2 t c = let w = c .before .before .before .before .before .before .before .before .before .pre .1 in (kept-refl, take-fails (w .0) kept-refl)
+take-top-returns-2 t c = let w = c .before .before .before .before .before .before .before .before .before .before .pre .1 in (kept-refl, take-fails (w .0) kept-refl (c .not-taken2 .ensures) (λ lo hi order full low sound. refl))
 
 take-top-highest-requires : (t : ℕ) → take-top-lts.Need-highest-requires (take-top-claims t) (take-top-at t) take-top.Post
 take-top-highest-requires t c κs = let h = c .if2 .left in (c .before .load .ensures .points, omega (arith, h))
@@ -430,6 +440,9 @@ take-top-fill-requires t c κs =
     let w = c .before .before .before .before .before .before .before .before .before .before .before .before .before .before .pre .1 in
     (omega (arith, c .before .before .before .before .before .before .before .before .before .before .before .before .before .before .pre .0), loaded-works (c .before .before .before .before .before .before .before .before .before .before .before .before .before .before .args .e) (w .0) (w .3) (sym (c .before .before .before .before .before .before .before .before .before .block-ok .ensures) ∙ not-false _ (c .before .before .before .before .before .before .before .before .if1 .left)) (c .before .before .before .before .before .before .load .ensures) (c .before .before .before .without-point .ensures))
 
+take-top-not-taken-requires-3 : (t : ℕ) → take-top-lts.Need-not-taken-requires-3 (take-top-claims t) (take-top-at t) take-top.Post
+take-top-not-taken-requires-3 t c κs = search needs
+
 take-top-same-length-3 : (t : ℕ) → take-top-lts.Need-same-length-3 (take-top-claims t) (take-top-at t) take-top.Post
 take-top-same-length-3 t c = search needs
 
@@ -440,7 +453,10 @@ take-top-same-length-5 : (t : ℕ) → take-top-lts.Need-same-length-5 (take-top
 take-top-same-length-5 t c = search needs
 
 take-top-returns-3 : (t : ℕ) → take-top-lts.Need-returns-3 (take-top-claims t) (take-top-at t) take-top.Post
-take-top-returns-3 t c = let w = c .before .before .before .before .before .before .before .before .before .before .before .before .before .before .before .before .before .before .before .before .before .before .before .pre .1 in let k = c .before .before .before .before .before .before .before .before .fill .ensures .0 in (k, take-fails (w .0) k)
+take-top-returns-3 t c =
+    let w = c .before .before .before .before .before .before .before .before .before .before .before .before .before .before .before .before .before .before .before .before .before .before .before .before .pre .1 in
+    let k = c .before .before .before .before .before .before .before .before .before .fill .ensures in
+    (k .0, take-fails (w .0) (k .0) (c .not-taken3 .ensures) (fill-whole (c .before .before .before .before .before .before .before .before .before .before .before .before .before .before .before .before .load .ensures) (c .before .before .before .before .before .before .before .before .before .before .before .before .before .before .highest .ensures) (c .before .before .before .before .before .before .before .before .before .before .before .before .before .without-point .ensures) (k .1)))
 
 take-top-write-node-requires : (t : ℕ) → take-top-lts.Need-write-node-requires (take-top-claims t) (take-top-at t) take-top.Post
 take-top-write-node-requires t c κs =
@@ -469,7 +485,7 @@ take-top-returns-4 t c =
     let i = c .before .before .before .before .before .before .before .before .before .before .before .before .before .before .before .before .before .before .before .before .before .before .before .before .before .before .before .load .result .inserts in
     let d = c .before .before .before .before .before .before .before .before .before .before .before .before .before .before .before .before .before .before .before .before .before .before .before .before .before .before .before .load .result .deletes in
     let long = load-long t (c .before .before .before .before .before .before .before .before .before .before .before .before .before .before .before .before .before .before .before .before .before .before .before .before .before .before .before) in
-    (kept-trans (k .0) (q .0), take-done (w .0) (w .2) (sym (c .before .before .before .before .before .before .before .before .before .before .before .before .before .before .before .before .before .before .before .before .before .before .before .before .before .before .before .before .before .before .block-ok .ensures) ∙ not-false _ (c .before .before .before .before .before .before .before .before .before .before .before .before .before .before .before .before .before .before .before .before .before .before .before .before .before .before .before .before .before .if1 .left)) (c .before .before .before .before .before .before .before .before .before .before .before .before .before .before .before .before .before .before .before .before .before .before .before .before .before .before .before .load .ensures) (c .before .before .before .before .before .before .before .before .before .before .before .before .before .before .before .before .before .before .before .before .before .before .before .before .before .highest .ensures) (c .before .before .before .before .before .before .before .before .before .before .before .before .before .before .before .before .before .before .before .before .before .before .before .before .without-point .ensures) (k .1) (not-false _ (c .before .before .before .before .before .before .before .before .before .before .before .before .if3 .left)) (k .0) (q .0) (q .1) (c .entry-for .ensures) (omega (arith, held-length i (long .0) (l .inserts .fits))) (omega (arith, named-length d (long .1) (l .deletes .fits))))
+    (kept-trans (k .0) (q .0), take-done (c .before .before .before .before .before .before .before .before .before .before .before .before .before .before .before .before .before .before .before .before .before .before .before .before .before .before .before .load .ensures) (c .before .before .before .before .before .before .before .before .before .before .before .before .before .before .before .before .before .before .before .before .before .before .before .before .before .highest .ensures) (c .before .before .before .before .before .before .before .before .before .before .before .before .before .before .before .before .before .before .before .before .before .before .before .before .without-point .ensures) (w .0) (w .2) (sym (c .before .before .before .before .before .before .before .before .before .before .before .before .before .before .before .before .before .before .before .before .before .before .before .before .before .before .before .before .before .before .block-ok .ensures) ∙ not-false _ (c .before .before .before .before .before .before .before .before .before .before .before .before .before .before .before .before .before .before .before .before .before .before .before .before .before .before .before .before .before .if1 .left)) (k .1) (not-false _ (c .before .before .before .before .before .before .before .before .before .before .before .before .if3 .left)) (k .0) (q .0) (q .1) (c .entry-for .ensures) (omega (arith, held-length i (long .0) (l .inserts .fits))) (omega (arith, named-length d (long .1) (l .deletes .fits))))
 
 pub +fill+from-both+from-child+round+take-top-spec : {M : Type 1} → statement M
 +fill+from-both+from-child+round+take-top-spec =
@@ -478,4 +494,4 @@ pub +fill+from-both+from-child+round+take-top-spec : {M : Type 1} → statement 
     (λ t. from-both-lts.spec (from-both-claims t) (from-both-at t) from-both.Post (from-both-failed-requires t) (from-both-returns t) (from-both-entry-requires t) (from-both-sub-take-top t) (from-both-take-top-requires t) (from-both-failed-requires-2 t) (from-both-same-length t) (from-both-same-length-2 t) (from-both-same-length-3 t) (from-both-returns-2 t) (from-both-with-child-requires t) (from-both-from-inserts-requires t) (from-both-same-length-4 t) (from-both-same-length-5 t) (from-both-same-length-6 t) (from-both-returns-3 t))
     (λ t. from-child-lts.spec (from-child-claims t) (from-child-at t) from-child.Post (from-child-failed-requires t) (from-child-returns t) (from-child-entry-requires t) (from-child-sub-take-top t) (from-child-take-top-requires t) (from-child-failed-requires-2 t) (from-child-same-length t) (from-child-same-length-2 t) (from-child-same-length-3 t) (from-child-returns-2 t) (from-child-with-child-requires t) (from-child-from-top-requires t) (from-child-same-length-4 t) (from-child-same-length-5 t) (from-child-same-length-6 t) (from-child-returns-3 t))
     (λ t. round-lts.spec (round-claims t) (round-at t) round.Post (round-best-child-requires t) (round-without-deletes-requires t) (round-returns t) (round-from-child-requires t) (round-same-length t) (round-same-length-2 t) (round-same-length-3 t) (round-returns-2 t) (round-highest-requires t) (round-from-inserts-requires t) (round-returns-3 t) (round-entry-requires t) (round-rank-key-requires t) (round-rank-key-requires-2 t) (round-from-child-requires-2 t) (round-same-length-4 t) (round-same-length-5 t) (round-same-length-6 t) (round-returns-4 t) (round-from-both-requires t) (round-same-length-7 t) (round-same-length-8 t) (round-same-length-9 t) (round-returns-5 t) (round-from-inserts-requires-2 t) (round-returns-6 t))
-    (λ t. take-top-lts.spec (take-top-claims t) (take-top-at t) take-top.Post (take-top-block-ok-requires t) (take-top-same-length t) (take-top-returns t) (take-top-load-requires t) (take-top-same-length-2 t) (take-top-returns-2 t) (take-top-highest-requires t) (take-top-without-point-requires t) (take-top-fill-requires t) (take-top-same-length-3 t) (take-top-same-length-4 t) (take-top-same-length-5 t) (take-top-returns-3 t) (take-top-write-node-requires t) (take-top-entry-for-requires t) (take-top-same-length-6 t) (take-top-same-length-7 t) (take-top-same-length-8 t) (take-top-returns-4 t))
+    (λ t. take-top-lts.spec (take-top-claims t) (take-top-at t) take-top.Post (take-top-block-ok-requires t) (take-top-not-taken-requires t) (take-top-same-length t) (take-top-returns t) (take-top-load-requires t) (take-top-not-taken-requires-2 t) (take-top-same-length-2 t) (take-top-returns-2 t) (take-top-highest-requires t) (take-top-without-point-requires t) (take-top-fill-requires t) (take-top-not-taken-requires-3 t) (take-top-same-length-3 t) (take-top-same-length-4 t) (take-top-same-length-5 t) (take-top-returns-3 t) (take-top-write-node-requires t) (take-top-entry-for-requires t) (take-top-same-length-6 t) (take-top-same-length-7 t) (take-top-same-length-8 t) (take-top-returns-4 t))

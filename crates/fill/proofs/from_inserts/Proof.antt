@@ -18,7 +18,7 @@ returns : tie.Need-returns
 returns c =
     let s = c .before .before .before in
     let e = c .failed .ensures in
-    record { lifted = lifted-failed (s .args .n) (c .failed .result) (s .pre .0) (e .1) (e .2); raised = λ h. absurd (true≢false (sym h ∙ e .0)) }
+    record { lifted = lifted-failed (s .args .n) (c .failed .result) (s .pre .0) (e .1) (e .2) (e .3); raised = λ h. absurd (true≢false (sym h ∙ e .0)) }
 
 raise-insert-requires : tie.Need-raise-insert-requires
 raise-insert-requires c κs =

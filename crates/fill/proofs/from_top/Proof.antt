@@ -19,7 +19,7 @@ returns c =
     let d = c .drop-child .ensures in
     let there = sym (c .before .before .holds-key .ensures) ∙ c .before .if1 .taken in
     record {
-      lifted = record { over = refl; tidy = d .tidy; entries = d .entries; level = d .level; points = omega (arith, d .points); inserts = d .inserts; deletes = d .deletes };
+      lifted = record { over = refl; whole = refl; tidy = d .tidy; entries = d .entries; level = d .level; points = omega (arith, d .points); inserts = d .inserts; deletes = d .deletes };
       raised = λ h g. absurd (true≢false (sym there ∙ g));
       dropped = λ h g. d .holds;
     }
@@ -35,7 +35,7 @@ returns-2 c =
     let s = c .before .before .before .before .before in
     let e = c .failed .ensures in
     record {
-      lifted = lifted-failed (s .args .n) (c .failed .result) (s .pre .0) (e .1) (e .2);
+      lifted = lifted-failed (s .args .n) (c .failed .result) (s .pre .0) (e .1) (e .2) (e .3);
       raised = λ h. absurd (true≢false (sym h ∙ e .0));
       dropped = λ h. absurd (true≢false (sym h ∙ e .0));
     }
@@ -50,7 +50,7 @@ returns-3 c =
     let d = c .raise-child .ensures in
     let off = sym (c .before .before .before .before .holds-key .ensures) ∙ c .before .before .before .if1 .left in
     record {
-      lifted = record { over = refl; tidy = d .tidy; entries = d .entries; level = d .level; points = d .points; inserts = d .inserts; deletes = d .deletes };
+      lifted = record { over = refl; whole = refl; tidy = d .tidy; entries = d .entries; level = d .level; points = d .points; inserts = d .inserts; deletes = d .deletes };
       raised = λ h g. d .holds;
       dropped = λ h g. absurd (true≢false (sym g ∙ off));
     }

@@ -33,7 +33,7 @@ returns-2 : tie.Need-returns-2
 returns-2 c = search needs
 
 load-requires : tie.Need-load-requires
-load-requires c κs = record { level = _; asked = Root; ok = sym (c .before .before .block-ok .ensures) ∙ not-false _ (c .before .if2 .left); inside = omega arith }
+load-requires c κs = record { level = _; asked = Root 1; ok = sym (c .before .before .block-ok .ensures) ∙ not-false _ (c .before .if2 .left); inside = omega arith }
 
 threshold-requires : tie.Need-threshold-requires
 threshold-requires c κs = search needs

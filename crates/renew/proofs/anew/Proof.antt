@@ -1,9 +1,10 @@
 -- `renew::anew` meets its contract: gathered, and built.
 -- Assumes nothing.
+use mathlib.Core.Path.{refl}
 use mathlib.Core.List.{List}
 use borrow.Author.Tests.{not-true, not-false}
 use Rattle.spot.specs.declared.Spot.{Spot}
-use Rattle.renew.proofs.Renewing.{amended-none, renew-broken, renew-segment, renew-built}
+use Rattle.renew.proofs.Renewing.{amended-none, renew-broken, renew-few, renew-segment, renew-built}
 use borrow.Author.Needs.{needs}
 use Rattle.renew.proofs.anew.Statement.{statement}
 use Rattle.renew.proofs.anew.Tie as tie
@@ -23,7 +24,7 @@ returns c = renew-broken _ _ (c .before .before .before .before .gather .ensures
 build-table-requires : tie.Need-build-table-requires
 build-table-requires c κs =
     let ok = not-false _ (c .before .before .if1 .left) in
-    let few = c .before .before .before .before .before .before .gather .ensures .few ok in
+    let few = renew-few (c .before .before .before .before .before .before .before .before .before .before .before .pre .0) (c .before .before .before .before .before .before .before .before .before .before .before .pre .1) (c .before .before .before .before .before .before .gather .ensures) ok in
     (c .before .before .before .before .before .before .before .before .before .before .before .pre .0, few, renew-segment (c .before .before .before .before .before .before .before .before .before .before .before .pre .0) (c .before .before .before .before .before .before .before .before .before .before .before .pre .1) (c .before .before .before .before .before .before .gather .ensures) ok (λ (l : List Spot). l) (amended-none _ _) few (λ u. u))
 
 same-length-3 : tie.Need-same-length-3
@@ -33,7 +34,7 @@ same-length-4 : tie.Need-same-length-4
 same-length-4 c = search needs
 
 returns-2 : tie.Need-returns-2
-returns-2 c = renew-built (c .before .before .before .before .before .before .before .before .before .before .before .before .before .before .pre .0) (c .before .before .before .before .before .before .before .before .before .before .before .before .before .before .pre .1) (c .before .before .before .before .before .before .before .before .before .gather .ensures) (not-false _ (c .before .before .before .before .before .if1 .left)) (λ (l : List Spot). l) (amended-none _ _) _ (c .before .before .build-table .ensures)
+returns-2 c = renew-built (c .before .before .before .before .before .before .before .before .before .before .before .before .before .before .pre .0) (c .before .before .before .before .before .before .before .before .before .before .before .before .before .before .pre .1) (c .before .before .before .before .before .before .before .before .before .gather .ensures) (not-false _ (c .before .before .before .before .before .if1 .left)) (λ (l : List Spot). l) (amended-none _ _) refl (c .before .before .build-table .ensures)
 
 pub anew-spec : {M : Type 1} → statement M
 anew-spec =

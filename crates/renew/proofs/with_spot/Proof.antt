@@ -9,7 +9,7 @@ use Rattle.spot.specs.Spots.{put, without}
 use Rattle.spot.specs.declared.Spot.{Spot}
 use Rattle.block.specs.Table.{capacity}
 use Rattle.tree.proofs.Says.{replaced-rises}
-use Rattle.renew.proofs.Renewing.{renew-broken, renew-amendable, renew-full, renew-segment, renew-built}
+use Rattle.renew.proofs.Renewing.{renew-broken, renew-amendable, renew-full, renew-segment, renew-fits, renew-built}
 use borrow.Author.Needs.{needs}
 use native.Mathlib.Omega.{arith}
 use Rattle.renew.proofs.with_spot.Statement.{statement}
@@ -56,7 +56,14 @@ same-length-6 : tie.Need-same-length-6
 same-length-6 c = search needs
 
 returns-3 : tie.Need-returns-3
-returns-3 c = renew-built (c .before .before .before .before .before .before .before .before .before .before .before .before .before .before .before .before .before .before .before .before .pre .0) (c .before .before .before .before .before .before .before .before .before .before .before .before .before .before .before .before .before .before .before .before .pre .1) (c .before .before .before .before .before .before .before .before .before .before .before .before .before .before .before .gather .ensures) (not-false _ (c .before .before .before .before .before .before .before .before .before .before .before .if1 .left)) (λ (l : List Spot). put (c .before .before .before .before .before .before .before .before .before .before .before .before .before .before .before .before .before .before .before .before .args .s) (without (c .before .before .before .before .before .before .before .before .before .before .before .before .before .before .before .before .before .before .before .before .args .s .key) l)) (c .before .before .before .before .before .before .before .before .before .put-in .ensures) _ (c .before .before .build-table .ensures)
+returns-3 c =
+    let start = c .before .before .before .before .before .before .before .before .before .before .before .before .before .before .before .before .before .before .before .before in
+    let got = c .before .before .before .before .before .before .before .before .before .before .before .before .before .before .before .gather .ensures in
+    let in-place = c .before .before .before .before .before .before .before .before .before .put-in .ensures in
+    let few : c .before .before .before .before .before .before .before .before .before .put-in .result ≤ capacity (length (now (start .args .table))) = omega (arith, c .before .before .before .before .before .before .capacity-of .ensures) in
+    let ok = not-false _ (c .before .before .before .before .before .before .before .before .before .before .before .if1 .left) in
+    let with-it : List Spot → List Spot = λ (l : List Spot). put (start .args .s) (without (start .args .s .key) l) in
+    renew-built (start .pre .0) (start .pre .1) got ok with-it in-place (renew-fits (start .pre .0) (start .pre .1) got ok with-it in-place few) (c .before .before .build-table .ensures)
 
 pub with-spot-spec : {M : Type 1} → statement M
 with-spot-spec =

@@ -33,7 +33,10 @@ same-length-2 c = search needs
 returns-2 : tie.Need-returns-2
 returns-2 c =
     let full : capacity (length (now (c .before .before .before .before .before .before .before .before .before .before .before .args .table))) ≤ c .before .before .before .before .before .before .count-table .result .spots = omega (arith, c .before .before .capacity-of .ensures) in
-    add-turned _ _ (c .before .before .before .before .before .before .before .before .before .before .before .args .s) (c .before .before .before .before .before .before .before .before .before .before .before .pre .1) (c .before .before .before .before .before .before .count-table .ensures .spots (not-false _ (c .before .before .before .if1 .left))) full (c .before .before .before .before .before .before .before .before .before .before .before .pre .2)
+    let start = c .before .before .before .before .before .before .before .before .before .before .before in
+    let counted = c .before .before .before .before .before .before .count-table .ensures in
+    let ok = not-false _ (c .before .before .before .if1 .left) in
+    add-turned _ _ (start .args .s) _ (counted .ok) ok (counted .spots ok) full (start .pre .2)
 
 add-put-within : tie.Need-add-put-within
 add-put-within c = search needs
@@ -50,7 +53,8 @@ same-length-4 c = search needs
 returns-3 : tie.Need-returns-3
 returns-3 c =
     let room : c .before .before .before .before .before .before .before .before .before .before .before .before .before .count-table .result .spots < capacity (length (now (c .before .before .before .before .before .before .before .before .before .before .before .before .before .before .before .before .before .before .args .table))) = omega (arith, c .before .before .before .before .before .before .before .before .before .capacity-of .ensures) in
-    add-counted _ _ (c .before .before .before .before .before .before .before .before .before .before .before .before .before .before .before .before .before .before .args .s) (c .before .before .before .before .before .before .before .before .before .before .before .before .before .before .before .before .before .before .pre .1) (c .before .before .before .before .before .before .before .before .before .before .before .before .before .count-table .ensures .spots (not-false _ (c .before .before .before .before .before .before .before .before .before .before .if1 .left))) room (c .before .before .before .before .put-within .ensures)
+    let start = c .before .before .before .before .before .before .before .before .before .before .before .before .before .before .before .before .before .before in
+    add-counted _ _ (start .args .s) (start .pre .2) (c .before .before .before .before .before .before .before .before .before .before .before .before .before .count-table .ensures .spots (not-false _ (c .before .before .before .before .before .before .before .before .before .before .if1 .left))) room (c .before .before .before .before .put-within .ensures)
 
 pub put-counted-spec : {M : Type 1} → statement M
 put-counted-spec =

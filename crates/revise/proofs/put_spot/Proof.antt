@@ -1,6 +1,6 @@
 -- `revise::put_spot` meets its contract: by the lookup and the bound, and by the count where the bound is at capacity.
 -- Assumes nothing.
-use Rattle.revise.proofs.Calls.{lent-long, bound-few, looked-live, looked-none, add-header, add-lost, add-below, add-replaced}
+use Rattle.revise.proofs.Calls.{lent-long, bound-few, looked-is, add-header, add-lost, add-below, add-replaced}
 use Rattle.block.specs.Table.{capacity}
 use borrow.Author.Tests.{not-true, not-false}
 use lib.ListN.{length}
@@ -60,11 +60,13 @@ same-length-3 c = search needs
 returns-2 : tie.Need-returns-2
 returns-2 c =
     let below : c .before .before .before .before .before .before .before .before .before .before .before .before .before .bound-of .result < capacity (length (now (c .before .before .before .before .before .before .before .before .before .before .before .before .before .before .before .before .before .before .before .before .args .table))) = omega (arith, c .before .before .before .before .before .before .before .before .capacity-of .ensures) in
-    add-below _ _ (c .before .before .before .before .before .before .before .before .before .before .before .before .before .before .before .before .before .before .before .before .args .s) (sym (c .before .before .before .before .before .before .before .before .before .before .before .before .before .before .before .before .header-ok .ensures) ∙ not-false _ (c .before .before .before .before .before .before .before .before .before .before .before .before .before .before .before .if1 .left)) (c .before .before .before .before .before .before .before .before .before .before .before .before .before .bound-of .ensures .0) below (c .before .before .before .before .put-within2 .ensures)
+    let start = c .before .before .before .before .before .before .before .before .before .before .before .before .before .before .before .before .before .before .before .before in
+    let found = looked-is (c .before .before .before .before .before .before .before .before .before .before .before .look-up .ensures) (c .before .before .before .before .before .before .before .before .before .enum-told3 .given .1) in
+    add-below _ _ (start .args .s) found (c .before .before .before .before .before .before .before .before .before .before .before .before .before .bound-of .ensures .0) below (c .before .before .before .before .put-within2 .ensures)
 
 put-counted-requires : tie.Need-put-counted-requires
 put-counted-requires c κs =
-    (c .before .before .before .before .before .before .before .before .before .before .before .before .before .before .before .pre, sym (c .before .before .before .before .before .before .before .before .before .before .before .header-ok .ensures) ∙ not-false _ (c .before .before .before .before .before .before .before .before .before .before .if1 .left), looked-none (c .before .before .before .before .before .before .look-up .ensures) (c .before .before .before .before .enum-told3 .given .1))
+    (c .before .before .before .before .before .before .before .before .before .before .before .before .before .before .before .pre, sym (c .before .before .before .before .before .before .before .before .before .before .before .header-ok .ensures) ∙ not-false _ (c .before .before .before .before .before .before .before .before .before .before .if1 .left), looked-is (c .before .before .before .before .before .before .look-up .ensures) (c .before .before .before .before .enum-told3 .given .1))
 
 same-length-4 : tie.Need-same-length-4
 same-length-4 c = search needs
@@ -80,8 +82,9 @@ same-length-6 c = search needs
 
 returns-4 : tie.Need-returns-4
 returns-4 c =
-    add-replaced _ _ (c .before .before .before .before .before .before .before .before .before .before .before .before .before .before .before .before .before .before .args .s) (sym (c .before .before .before .before .before .before .before .before .before .before .before .before .before .before .header-ok .ensures) ∙ not-false _ (c .before .before .before .before .before .before .before .before .before .before .before .before .before .if1 .left)) (c .before .before .before .before .before .before .before .before .before .before .before .bound-of .ensures .0)
-    (looked-live (c .before .before .before .before .before .before .before .before .before .look-up .ensures) (c .before .before .before .before .before .before .before .enum-told2 .given .1)) (c .before .before .before .before .put-within .ensures)
+    let start = c .before .before .before .before .before .before .before .before .before .before .before .before .before .before .before .before .before .before in
+    let found = looked-is (c .before .before .before .before .before .before .before .before .before .look-up .ensures) (c .before .before .before .before .before .before .before .enum-told2 .given .1) in
+    add-replaced _ _ (start .args .s) (c .before .before .before .before .before .before .before .before .before .before .before .bound-of .ensures .0) found (c .before .before .before .before .put-within .ensures)
 
 same-length-7 : tie.Need-same-length-7
 same-length-7 c = search needs

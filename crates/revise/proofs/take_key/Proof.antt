@@ -1,6 +1,6 @@
 -- `revise::take_key` meets its contract: by the lookup.
 -- Assumes nothing.
-use Rattle.revise.proofs.Calls.{lent-long, bound-few, looked-live, looked-none, drop-header, drop-lost, drop-uncounted, drop-none, drop-live}
+use Rattle.revise.proofs.Calls.{lent-long, bound-few, looked-is, drop-header, drop-lost, drop-uncounted, drop-none, drop-live}
 use mathlib.Core.Path.{sym, _∙_}
 use borrow.Author.Tests.{not-true, not-false}
 use denote.Ref.{now}
@@ -35,7 +35,7 @@ same-length-2 c = search needs
 
 returns-2 : tie.Need-returns-2
 returns-2 c =
-    drop-uncounted _ _ (c .before .before .before .before .before .before .before .before .before .before .before .before .args .k) (c .before .before .before .before .before .bound-of .ensures .0) (looked-live (c .before .before .before .look-up .ensures) (c .before .enum-told2 .given .1)) (c .if2 .taken)
+    drop-uncounted _ _ (c .before .before .before .before .before .before .before .before .before .before .before .before .args .k) (c .before .before .before .before .before .bound-of .ensures .0) (looked-is (c .before .before .before .look-up .ensures) (c .before .enum-told2 .given .1)) (c .if2 .taken)
 
 sub-take-within : tie.Need-sub-take-within
 sub-take-within c = search needs
@@ -62,16 +62,15 @@ same-length-5 c = search needs
 
 returns-4 : tie.Need-returns-4
 returns-4 c =
-    drop-live _ _ (c .before .before .before .before .before .before .before .before .before .before .before .before .before .before .before .before .before .before .before .args .k) (sym (c .before .before .before .before .before .before .before .before .before .before .before .before .before .before .before .header-ok .ensures) ∙ not-false _ (c .before .before .before .before .before .before .before .before .before .before .before .before .before .before .if1 .left)) (c .before .before .before .before .before .before .before .before .before .before .before .before .bound-of .ensures .0)
-    (looked-live (c .before .before .before .before .before .before .before .before .before .before .look-up .ensures) (c .before .before .before .before .before .before .before .before .enum-told2 .given .1)) (c .before .before .before .before .take-within .ensures)
+    let start = c .before .before .before .before .before .before .before .before .before .before .before .before .before .before .before .before .before .before .before in
+    let found = looked-is (c .before .before .before .before .before .before .before .before .before .before .look-up .ensures) (c .before .before .before .before .before .before .before .before .enum-told2 .given .1) in
+    drop-live _ _ (start .args .k) (c .before .before .before .before .before .before .before .before .before .before .before .before .bound-of .ensures .0) found (c .before .before .before .before .take-within .ensures)
 
 same-length-6 : tie.Need-same-length-6
 same-length-6 c = search needs
 
 returns-5 : tie.Need-returns-5
-returns-5 c =
-    drop-none _ _ (c .before .before .before .before .before .before .before .before .before .before .before .args .k) (sym (c .before .before .before .before .before .before .before .header-ok .ensures) ∙ not-false _ (c .before .before .before .before .before .before .if1 .left))
-    (looked-none (c .before .before .look-up .ensures) (c .enum-told3 .given .1))
+returns-5 c = drop-none _ _ (c .before .before .before .before .before .before .before .before .before .before .before .args .k) (looked-is (c .before .before .look-up .ensures) (c .enum-told3 .given .1))
 
 pub take-key-spec : {M : Type 1} → statement M
 take-key-spec =

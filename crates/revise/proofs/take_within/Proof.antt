@@ -1,11 +1,10 @@
--- `revise::take_within` meets its contract: one delete in the tree, or all laid out anew without it.
+-- `revise::take_within` meets its contract: one delete in the tree, or where that has no room all laid out anew without it.
 -- Assumes nothing.
-use Rattle.revise.proofs.Ends.{lent-again, out-tree, out-anew, out-broken}
+use Rattle.revise.proofs.Ends.{lent-again, out-tree, out-lost, out-anew, out-broken}
 use mathlib.Core.List.{List, [], _∷_, _++_}
 use Prim.Native.Nat.{ℕ}
 use mathlib.Core.Path.{ap, _∙_}
 use borrow.Author.Needs.{needs}
-use native.Mathlib.Omega.{arith}
 use Rattle.revise.proofs.take_within.Statement.{statement}
 use Rattle.revise.proofs.take_within.Tie as tie
 
@@ -19,7 +18,19 @@ push-key-requires : tie.Need-push-key-requires
 push-key-requires c κs = search needs
 
 change-requires : tie.Need-change-requires
-change-requires c κs = record { header = c .before .before .before .before .before .before .before .pre .1; lent = c .before .before .before .before .before .before .before .pre .0 .room; few = c .before .before .before .before .before .before .before .pre .2; one = omega (arith, c .before .before .push-key .ensures .0, c .before .before .before .before .empty .ensures .0, c .before .before .before .empty-keys .ensures .0) }
+change-requires c κs = search needs
+
+enum-told : tie.Need-enum-told
+enum-told c = search needs
+
+enum-told-2 : tie.Need-enum-told-2
+enum-told-2 c = search needs
+
+enum-told-3 : tie.Need-enum-told-3
+enum-told-3 c = search needs
+
+without-key-requires : tie.Need-without-key-requires
+without-key-requires c κs = lent-again (c .before .before .before .before .before .before .before .before .before .before .before .before .before .before .before .before .pre .0) (c .before .before .before .before .before .before .before .before .change .ensures)
 
 same-length : tie.Need-same-length
 same-length c = search needs
@@ -28,10 +39,9 @@ same-length-2 : tie.Need-same-length-2
 same-length-2 c = search needs
 
 returns : tie.Need-returns
-returns c = out-tree (c .before .before .before .before .before .before .before .before .before .before .before .before .before .args .k) (c .before .before .before .before .before .change .ensures) (c .before .before .before .before .before .before .before .before .before .before .empty .ensures .1) (c .before .before .before .before .before .before .before .before .push-key .ensures .1 ∙ ap (λ (l : List ℕ). l ++ (c .before .before .before .before .before .before .before .before .before .before .before .before .before .args .k ∷ [])) (c .before .before .before .before .before .before .before .before .before .empty-keys .ensures .1)) (c .if1 .taken)
-
-without-key-requires : tie.Need-without-key-requires
-without-key-requires c κs = lent-again (c .before .before .before .before .before .before .before .before .before .before .before .before .before .before .before .pre .0) (c .before .before .before .before .before .before .before .change .ensures)
+returns c =
+    let start = c .before .before .before .before .before .before .before .before .before .before .before .before .before .before .before .before .before .before .before .before .before .before in
+    out-anew (start .args .k) (c .before .before .before .before .before .before .before .before .before .before .before .before .before .before .change .ensures) (c .before .before .before .before .before .before .before .before .enum-told3 .given .1) (c .before .before .before .before .before .without-key .ensures) (c .if1 .taken)
 
 same-length-3 : tie.Need-same-length-3
 same-length-3 c = search needs
@@ -40,7 +50,11 @@ same-length-4 : tie.Need-same-length-4
 same-length-4 c = search needs
 
 returns-2 : tie.Need-returns-2
-returns-2 c = out-anew (c .before .before .before .before .before .before .before .before .before .before .before .before .before .before .before .before .before .before .before .before .before .args .k) (c .before .before .before .before .before .before .before .before .before .before .before .before .before .change .ensures) (c .before .before .before .before .before .before .before .before .if1 .left) (c .before .before .before .before .before .without-key .ensures) (c .if2 .taken)
+returns-2 c =
+    let start = c .before .before .before .before .before .before .before .before .before .before .before .before .before .before in
+    let ins = c .before .before .before .before .before .before .before .before .before .before .before .empty .ensures .1 in
+    let dels = c .before .before .before .before .before .before .before .before .before .push-key .ensures .1 ∙ ap (λ (l : List ℕ). l ++ (start .args .k ∷ [])) (c .before .before .before .before .before .before .before .before .before .before .empty-keys .ensures .1) in
+    out-tree (start .args .k) (c .before .before .before .before .before .before .change .ensures) ins dels (c .enum-told .given .1)
 
 same-length-5 : tie.Need-same-length-5
 same-length-5 c = search needs
@@ -49,7 +63,18 @@ same-length-6 : tie.Need-same-length-6
 same-length-6 c = search needs
 
 returns-3 : tie.Need-returns-3
-returns-3 c = out-broken (c .before .before .before .before .before .before .before .before .before .before .before .before .before .before .before .before .before .before .before .before .before .args .k) (c .before .before .before .before .before .before .before .before .before .before .before .before .before .change .ensures) (c .before .before .before .before .before .before .before .before .if1 .left) (c .before .before .before .before .before .without-key .ensures) (c .if2 .left)
+returns-3 c = out-lost (c .before .before .before .before .before .before .before .before .before .before .before .before .before .before .args .k) (c .before .before .before .before .before .before .change .ensures) (c .enum-told2 .given .1)
+
+same-length-7 : tie.Need-same-length-7
+same-length-7 c = search needs
+
+same-length-8 : tie.Need-same-length-8
+same-length-8 c = search needs
+
+returns-4 : tie.Need-returns-4
+returns-4 c =
+    let start = c .before .before .before .before .before .before .before .before .before .before .before .before .before .before .before .before .before .before .before .before .before .before in
+    out-broken (start .args .k) (c .before .before .before .before .before .before .before .before .before .before .before .before .before .before .change .ensures) (c .before .before .before .before .before .before .before .before .enum-told3 .given .1) (c .before .before .before .before .before .without-key .ensures) (c .if1 .left)
 
 pub take-within-spec : {M : Type 1} → statement M
 take-within-spec =
@@ -59,13 +84,19 @@ take-within-spec =
     empty-keys-requires
     push-key-requires
     change-requires
+    enum-told
+    enum-told-2
+    enum-told-3
+    without-key-requires
     same-length
     same-length-2
     returns
-    without-key-requires
     same-length-3
     same-length-4
     returns-2
     same-length-5
     same-length-6
-    returns-3)
+    returns-3
+    same-length-7
+    same-length-8
+    returns-4)

@@ -1,21 +1,21 @@
--- `script::turn` meets its contract: the call on what lies behind the first 8 bytes, and its answer in them.
+-- `script::turn` meets its contract: the step on what lies behind the first 8 bytes, and its answer in them.
 -- Assumes nothing.
 use borrow.Author.Needs.{needs}
 use Rattle.script.proofs.Turns.{turned}
 use Rattle.script.proofs.turn.Statement.{statement}
 use Rattle.script.proofs.turn.Tie as tie
 
-sub-call : tie.Need-sub-call
-sub-call c = search needs
+sub-step : tie.Need-sub-step
+sub-step c = search needs
 
-part-call-start : tie.Need-part-call-start
-part-call-start c = search needs
+part-step-start : tie.Need-part-step-start
+part-step-start c = search needs
 
-part-call-end : tie.Need-part-call-end
-part-call-end c = search needs
+part-step-end : tie.Need-part-step-end
+part-step-end c = search needs
 
-call-requires : tie.Need-call-requires
-call-requires c κs = search needs
+step-requires : tie.Need-step-requires
+step-requires c κs = search needs
 
 cast-write32 : tie.Need-cast-write32
 cast-write32 c = search needs
@@ -43,17 +43,21 @@ same-length-4 c = search needs
 
 returns : tie.Need-returns
 returns c =
-    let call = c .before .before .before .before .before .before .before .before .before .before .before .before .before .before .before .before .before .before .call in
-    turned _ _ _ _ _ (call .result) _ _ _ (call .last .1 .1 .1 .1 .1 .0) (c .before .before .before .before .before .before .before .write32 .last .0) _ (c .before .before .before .before .before .before .before .before .before .before .before .before .before .before .before .before .before .before .before .before .before .before .before .before .before .before .before .before .pre .1) (call .kept .1 .1 .1 .1 .1 .0) (call .ensures) (c .before .before .before .before .before .before .before .write32 .ensures) (c .before .before .write322 .ensures)
+    let w = c .before .before .before .before .before .before .before in
+    let p = w .before .before .before .before .before .before .before .before .before .before .before in
+    let q = p .before .before .before .before .before .before .before .before .before .before .pre in
+    turned _ _ _ _ _ (p .step .result) _ _ _ (p .step .last .1 .1 .1 .1 .1 .0) (w .write32 .last .0) _ (q .1) (p .step .kept .1 .1 .1 .1 .1 .0) (p .step .ensures)
+    (w .write32 .ensures)
+    (c .before .before .write322 .ensures)
 
 pub turn-spec : {M : Type 1} → statement M
 turn-spec =
     tie.close
     (tie.spec
-    sub-call
-    part-call-start
-    part-call-end
-    call-requires
+    sub-step
+    part-step-start
+    part-step-end
+    step-requires
     cast-write32
     write32-requires
     cast-write32-2

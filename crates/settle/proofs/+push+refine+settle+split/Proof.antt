@@ -3,18 +3,23 @@
 use borrow.Author.Needs.{needs}
 use native.Mathlib.Omega.{arith}
 use Prim.Native.Nat.{ℕ, _<_, _+_, _-_, _*_}
-use mathlib.Core.Path.{_≡_, sym, ap, _∙_}
+use mathlib.Core.Path.{_≡_, refl, sym, ap, _∙_}
+use mathlib.Core.Bool.{false}
+use mathlib.Core.List.{List}
 use borrow.Author.Tests.{not-true, not-false}
 use lib.ListN.{length}
 use Rattle.node.specs.declared.Entries.{Entries}
+use Rattle.buffer.specs.Buffer.{held, named}
 use Rattle.buffer.proofs.Lists.{length-image}
 use Rattle.journal.proofs.Kept.{kept-refl, kept-trans, undoable-kept}
 use Rattle.batch.proofs.Opened.{receives}
+use Rattle.settle.specs.declared.Settled.{Settled}
+use Rattle.settle.specs.Settling.{Standing, PlacePost, SettlePost}
 use Rattle.settle.proofs.Ways.{may-push, sizes-right, both-few, cut-halves, refined-stores, last-inside, received}
 use Rattle.settle.proofs.Readying.{stands, points-few, must-cut, stands-push, push-kept, left-push, right-push}
-use Rattle.settle.proofs.Storing.{place-fails, place-one, settle-fails, settle-placed}
-use Rattle.settle.proofs.Splitting.{place-two}
-use Rattle.settle.proofs.Pushing.{work-as, push-fails, push-none, push-done}
+use Rattle.settle.proofs.Storing.{place-fails, place-one, settle-refused, settle-placed}
+use Rattle.settle.proofs.Splitting.{left-whole, right-whole, place-two}
+use Rattle.settle.proofs.Pushing.{work-as, push-fails, push-stops, push-none, push-done}
 use Rattle.settle.proofs.Refining.{refine-fails, refine-done}
 use borrow.Fn.Kinds.{In}
 use borrow.Fn.PlainCycle.{Measures, is, falls, and}
@@ -101,6 +106,19 @@ load-long : (t : ℕ) (c : settle-lts.After-load (settle-claims t) (settle-at t)
     → (length (c .load .result .entries .list) ≡ 8) × (length (c .load .result .inserts .spots) ≡ 80) × (length (c .load .result .deletes .keys) ≡ 32)
 load-long t c = (search (needs, length-image, c .load .ok .1 .1 .1 .0), search (needs, length-image, c .load .ok .1 .1 .1 .1 .1 .0), search (needs, length-image, c .load .ok .1 .1 .1 .1 .1 .1 .0))
 
+-- the node that took in the batch stands for its block
+stood : (t : ℕ) (c : settle-lts.After-take-in (settle-claims t) (settle-at t) settle.Post)
+    → Standing (c .before .before .before .before .before .before .before .before .before .args .t .now) (c .before .before .before .before .before .before .before .before .before .args .s .now) (c .before .before .before .before .before .before .before .before .before .args .map .now) (c .before .before .before .before .before .before .before .before .before .args .b) (c .before .before .before .before .before .before .before .before .before .args .level) (c .before .before .before .before .before .before .before .before .before .args .asked) (c .take-in .result) (c .before .before .before .before .before .before .before .before .before .args .spare) (c .before .before .before .before .before .before .before .before .before .args .left)
+stood t c =
+    let long = load-long t (c .before) in
+    stands (c .before .before .before .before .before .before .before .before .before .args .asked) (c .before .before .before .before .before .before .before .before .before .pre .1) (sym (c .before .before .before .before .block-ok .ensures) ∙ not-false _ (c .before .before .before .if1 .left)) (c .before .load .ensures) (c .take-in .ensures) (long .0) (long .1) (long .2)
+
+-- what became of it became of the part
+settle-taken : (t : ℕ) (c : settle-lts.After-take-in (settle-claims t) (settle-at t) settle.Post) {t′ : List ℕ} {r : Settled}
+    → PlacePost (c .before .before .before .before .before .before .before .before .before .args .t .now) t′ (c .before .before .before .before .before .before .before .before .before .args .level) (c .before .before .before .before .before .before .before .before .before .args .b) (c .before .before .before .before .before .before .before .before .before .args .asked) (c .take-in .result) (c .before .before .before .before .before .before .before .before .before .args .spare) (c .before .before .before .before .before .before .before .before .before .args .left) r
+    → SettlePost (c .before .before .before .before .before .before .before .before .before .args .t .now) t′ (c .before .before .before .before .before .before .before .before .before .args .level) (c .before .before .before .before .before .before .before .before .before .args .b) (c .before .before .before .before .before .before .before .before .before .args .asked) (held (c .before .before .before .before .before .before .before .before .before .args .inserts)) (named (c .before .before .before .before .before .before .before .before .before .args .deletes)) (c .before .before .before .before .before .before .before .before .before .args .spare) (c .before .before .before .before .before .before .before .before .before .args .left) r
+settle-taken t c = settle-placed (stood t c) (received (c .before .before .before .before .before .before .before .before .before .args .level) (c .before .before .before .before .before .before .before .before .before .args .asked) (c .before .load .ensures) (c .take-in .ensures))
+
 push-handed-requires : (t : ℕ) → push-lts.Need-handed-requires (push-claims t) (push-at t) push.Post
 push-handed-requires t c κs = search needs
 
@@ -111,7 +129,7 @@ push-handed-requires-2 : (t : ℕ) → push-lts.Need-handed-requires-2 (push-cla
 push-handed-requires-2 t c κs = search needs
 
 push-returns-2 : (t : ℕ) → push-lts.Need-returns-2 (push-claims t) (push-at t) push.Post
-push-returns-2 t c = (kept-refl, work-as (c .handed2 .ensures) (push-fails _ (c .before .before .before .before .before .before .before .before .before .before .pre .1) kept-refl (omega arith)))
+push-returns-2 t c = (kept-refl, work-as (c .handed2 .ensures) (push-fails false _ (c .before .before .before .before .before .before .before .before .before .before .pre .1) kept-refl (omega arith) (λ lo hi f o. refl)))
 
 push-pick-requires : (t : ℕ) → push-lts.Need-pick-requires (push-claims t) (push-at t) push.Post
 push-pick-requires t c κs = let w = c .before .before .before .before .before .before .before .before .before .pre .1 in let m = may-push (c .before .before .before .before .before .before .before .before .before .args .level) (c .before .before .before .before .before .before .before .before .before .args .n .entries .n) (c .if2 .left) in (w .works .tidy, m .1, w .works .entries .few, w .rise)
@@ -139,7 +157,10 @@ push-same-length-3 : (t : ℕ) → push-lts.Need-same-length-3 (push-claims t) (
 push-same-length-3 t c = search needs
 
 push-returns-3 : (t : ℕ) → push-lts.Need-returns-3 (push-claims t) (push-at t) push.Post
-push-returns-3 t c = let k = c .before .before .before .before .before .before .before .before .before .settle .ensures in (k .0, work-as (c .handed3 .ensures) (push-fails _ (c .before .before .before .before .before .before .before .before .before .before .before .before .before .before .before .before .before .before .before .before .before .before .before .before .pre .1) (k .0) (k .1 .fewer)))
+push-returns-3 t c =
+    let k = c .before .before .before .before .before .before .before .before .before .settle .ensures in
+    let m = may-push (c .before .before .before .before .before .before .before .before .before .before .before .before .before .before .before .before .before .before .before .before .before .before .before .before .args .level) (c .before .before .before .before .before .before .before .before .before .before .before .before .before .before .before .before .before .before .before .before .before .before .before .before .args .n .entries .n) (c .before .before .before .before .before .before .before .before .before .before .before .before .before .before .before .if2 .left) .0 in
+    (k .0, work-as (c .handed3 .ensures) (push-stops (c .before .before .before .before .before .before .before .before .before .before .before .before .before .before .before .before .before .before .before .before .before .before .before .before .pre .1) (k .0) m (c .before .before .before .before .before .before .before .before .before .before .before .before .before .entry .ensures) (c .before .before .before .before .before .before .before .before .before .before .before .before .before .before .pick .ensures) (k .1)))
 
 push-put-back-requires : (t : ℕ) → push-lts.Need-put-back-requires (push-claims t) (push-at t) push.Post
 push-put-back-requires t c κs = let p = c .before .before .before .before .before .before .before .before .before .before .before .before .before .pick .ensures in let m = may-push (c .before .before .before .before .before .before .before .before .before .before .before .before .before .before .before .before .before .before .before .before .before .before .before .args .level) (c .before .before .before .before .before .before .before .before .before .before .before .before .before .before .before .before .before .before .before .before .before .before .before .args .n .entries .n) (c .before .before .before .before .before .before .before .before .before .before .before .before .before .before .if2 .left) .2 in let z = ap (λ (es : Entries). es .n) (p .entries) in (omega (arith, z, p .there), omega (arith, z, m))
@@ -199,7 +220,7 @@ settle-same-length : (t : ℕ) → settle-lts.Need-same-length (settle-claims t)
 settle-same-length t c = search needs
 
 settle-returns : (t : ℕ) → settle-lts.Need-returns (settle-claims t) (settle-at t) settle.Post
-settle-returns t c = let e = c .not-settled .ensures in (kept-refl, settle-fails (e .0) (omega (arith, e .1)))
+settle-returns t c = let e = c .not-settled .ensures in (kept-refl, settle-refused (e .0) (omega (arith, e .1)) (sym (c .before .before .block-ok .ensures) ∙ not-true _ (c .before .if1 .taken)))
 
 settle-load-requires : (t : ℕ) → settle-lts.Need-load-requires (settle-claims t) (settle-at t) settle.Post
 settle-load-requires t c κs = let w = c .before .before .before .before .before .before .before .pre .1 in record { level = c .before .before .before .before .before .before .before .args .level; asked = c .before .before .before .before .before .before .before .args .asked; ok = (sym (c .before .before .block-ok .ensures) ∙ not-false _ (c .before .if1 .left)); inside = omega (arith, w .undoable .whole, w .inside) }
@@ -211,7 +232,7 @@ settle-must-split-requires : (t : ℕ) → settle-lts.Need-must-split-requires (
 settle-must-split-requires t c κs = search needs
 
 settle-split-requires : (t : ℕ) → settle-lts.Need-split-requires (settle-claims t) (settle-at t) settle.Post
-settle-split-requires t c κs = let long = load-long t (c .before .before .before .before .before .before) in let st = stands (c .before .before .before .before .before .before .before .before .before .before .before .before .before .before .args .asked) (c .before .before .before .before .before .before .before .before .before .before .before .before .before .before .pre .1) (sym (c .before .before .before .before .before .before .before .before .before .block-ok .ensures) ∙ not-false _ (c .before .before .before .before .before .before .before .before .if1 .left)) (c .before .before .before .before .before .before .load .ensures) (c .before .before .before .before .before .take-in .ensures) (long .0) (long .1) (long .2) in (omega (arith, c .before .before .before .before .before .before .before .before .before .before .before .before .before .before .pre .0), (st, must-cut st (c .before .before .before .before .must-split .ensures) (c .before .before .before .if2 .taken)))
+settle-split-requires t c κs = let st = stood t (c .before .before .before .before .before) in (omega (arith, c .before .before .before .before .before .before .before .before .before .before .before .before .before .before .pre .0), (st, must-cut st (c .before .before .before .before .must-split .ensures) (c .before .before .before .if2 .taken)))
 
 settle-same-length-2 : (t : ℕ) → settle-lts.Need-same-length-2 (settle-claims t) (settle-at t) settle.Post
 settle-same-length-2 t c = search needs
@@ -223,10 +244,10 @@ settle-same-length-4 : (t : ℕ) → settle-lts.Need-same-length-4 (settle-claim
 settle-same-length-4 t c = search needs
 
 settle-returns-2 : (t : ℕ) → settle-lts.Need-returns-2 (settle-claims t) (settle-at t) settle.Post
-settle-returns-2 t c = let long = load-long t (c .before .before .before .before .before .before .before .before .before .before .before .before .before) in let st = stands (c .before .before .before .before .before .before .before .before .before .before .before .before .before .before .before .before .before .before .before .before .before .args .asked) (c .before .before .before .before .before .before .before .before .before .before .before .before .before .before .before .before .before .before .before .before .before .pre .1) (sym (c .before .before .before .before .before .before .before .before .before .before .before .before .before .before .before .before .block-ok .ensures) ∙ not-false _ (c .before .before .before .before .before .before .before .before .before .before .before .before .before .before .before .if1 .left)) (c .before .before .before .before .before .before .before .before .before .before .before .before .before .load .ensures) (c .before .before .before .before .before .before .before .before .before .before .before .before .take-in .ensures) (long .0) (long .1) (long .2) in let k = c .before .before .before .before .before .before .split .ensures in (k .0, settle-placed st (received (c .before .before .before .before .before .before .before .before .before .before .before .before .before .before .before .before .before .before .before .before .before .args .level) (c .before .before .before .before .before .before .before .before .before .before .before .before .before .before .before .before .before .before .before .before .before .args .asked) (c .before .before .before .before .before .before .before .before .before .before .before .before .before .load .ensures) (c .before .before .before .before .before .before .before .before .before .before .before .before .take-in .ensures)) (k .1))
+settle-returns-2 t c = let k = c .before .before .before .before .before .before .split .ensures in (k .0, settle-taken t (c .before .before .before .before .before .before .before .before .before .before .before .before) (k .1))
 
 settle-refine-requires : (t : ℕ) → settle-lts.Need-refine-requires (settle-claims t) (settle-at t) settle.Post
-settle-refine-requires t c κs = let long = load-long t (c .before .before .before .before .before .before) in let st = stands (c .before .before .before .before .before .before .before .before .before .before .before .before .before .before .args .asked) (c .before .before .before .before .before .before .before .before .before .before .before .before .before .before .pre .1) (sym (c .before .before .before .before .before .before .before .before .before .block-ok .ensures) ∙ not-false _ (c .before .before .before .before .before .before .before .before .if1 .left)) (c .before .before .before .before .before .before .load .ensures) (c .before .before .before .before .before .take-in .ensures) (long .0) (long .1) (long .2) in (omega (arith, c .before .before .before .before .before .before .before .before .before .before .before .before .before .before .pre .0), stands-push st (points-few (c .before .before .before .before .before .take-in .ensures) (c .before .before .before .before .must-split .ensures) (c .before .before .before .if2 .left)))
+settle-refine-requires t c κs = let st = stood t (c .before .before .before .before .before) in (omega (arith, c .before .before .before .before .before .before .before .before .before .before .before .before .before .before .pre .0), stands-push st (points-few (c .before .before .before .before .before .take-in .ensures) (c .before .before .before .before .must-split .ensures) (c .before .before .before .if2 .left)))
 
 settle-not-settled-requires-2 : (t : ℕ) → settle-lts.Need-not-settled-requires-2 (settle-claims t) (settle-at t) settle.Post
 settle-not-settled-requires-2 t c κs = search needs
@@ -241,7 +262,10 @@ settle-same-length-7 : (t : ℕ) → settle-lts.Need-same-length-7 (settle-claim
 settle-same-length-7 t c = search needs
 
 settle-returns-3 : (t : ℕ) → settle-lts.Need-returns-3 (settle-claims t) (settle-at t) settle.Post
-settle-returns-3 t c = let e = c .not-settled2 .ensures in let k = c .before .before .before .before .before .before .before .before .before .refine .ensures in (k .0, settle-fails (e .0) (omega (arith, e .1, k .1 .work .fewer)))
+settle-returns-3 t c =
+    let e = c .not-settled2 .ensures in
+    let k = c .before .before .before .before .before .before .before .before .before .refine .ensures in
+    (k .0, settle-taken t (c .before .before .before .before .before .before .before .before .before .before .before .before .before .before .before) (place-fails (e .0) (omega (arith, e .1, k .1 .work .fewer)) (e .2) (λ lo hi f low sound apart o. k .1 .work .whole lo hi f o)))
 
 settle-store-one-requires : (t : ℕ) → settle-lts.Need-store-one-requires (settle-claims t) (settle-at t) settle.Post
 settle-store-one-requires t c κs = let w = c .before .before .before .before .before .before .before .before .before .before .before .before .before .before .before .before .before .before .before .before .before .before .before .before .before .before .before .pre .1 in let k = c .before .before .before .before .before .before .before .before .before .before .before .before .refine .ensures in (undoable-kept (k .0) (w .undoable), rw (k .0 .table) (w .inside), refined-stores (k .1) (not-false _ (c .before .before .before .before .if3 .left)), k .1 .work .works .tidy)
@@ -256,13 +280,13 @@ settle-same-length-10 : (t : ℕ) → settle-lts.Need-same-length-10 (settle-cla
 settle-same-length-10 t c = search needs
 
 settle-returns-4 : (t : ℕ) → settle-lts.Need-returns-4 (settle-claims t) (settle-at t) settle.Post
-settle-returns-4 t c = let long = load-long t (c .before .before .before .before .before .before .before .before .before .before .before .before .before .before .before .before .before .before .before .before .before .before .before .before .before .before) in let st = stands (c .before .before .before .before .before .before .before .before .before .before .before .before .before .before .before .before .before .before .before .before .before .before .before .before .before .before .before .before .before .before .before .before .before .before .args .asked) (c .before .before .before .before .before .before .before .before .before .before .before .before .before .before .before .before .before .before .before .before .before .before .before .before .before .before .before .before .before .before .before .before .before .before .pre .1) (sym (c .before .before .before .before .before .before .before .before .before .before .before .before .before .before .before .before .before .before .before .before .before .before .before .before .before .before .before .before .before .block-ok .ensures) ∙ not-false _ (c .before .before .before .before .before .before .before .before .before .before .before .before .before .before .before .before .before .before .before .before .before .before .before .before .before .before .before .before .if1 .left)) (c .before .before .before .before .before .before .before .before .before .before .before .before .before .before .before .before .before .before .before .before .before .before .before .before .before .before .load .ensures) (c .before .before .before .before .before .before .before .before .before .before .before .before .before .before .before .before .before .before .before .before .before .before .before .before .before .take-in .ensures) (long .0) (long .1) (long .2) in let k = c .before .before .before .before .before .before .before .before .before .before .before .before .before .before .before .before .before .before .before .refine .ensures in let q = c .before .before .before .before .before .before .store-one .ensures in (kept-trans (k .0) (q .0), settle-placed st (received (c .before .before .before .before .before .before .before .before .before .before .before .before .before .before .before .before .before .before .before .before .before .before .before .before .before .before .before .before .before .before .before .before .before .before .args .level) (c .before .before .before .before .before .before .before .before .before .before .before .before .before .before .before .before .before .before .before .before .before .before .before .before .before .before .before .before .before .before .before .before .before .before .args .asked) (c .before .before .before .before .before .before .before .before .before .before .before .before .before .before .before .before .before .before .before .before .before .before .before .before .before .before .load .ensures) (c .before .before .before .before .before .before .before .before .before .before .before .before .before .before .before .before .before .before .before .before .before .before .before .before .before .take-in .ensures)) (place-one st (k .1) (not-false _ (c .before .before .before .before .before .before .before .before .before .before .before .if3 .left)) (q .1)))
+settle-returns-4 t c = let st = stood t (c .before .before .before .before .before .before .before .before .before .before .before .before .before .before .before .before .before .before .before .before .before .before .before .before .before) in let k = c .before .before .before .before .before .before .before .before .before .before .before .before .before .before .before .before .before .before .before .refine .ensures in let q = c .before .before .before .before .before .before .store-one .ensures in (kept-trans (k .0) (q .0), settle-taken t (c .before .before .before .before .before .before .before .before .before .before .before .before .before .before .before .before .before .before .before .before .before .before .before .before .before) (place-one st (k .1) (not-false _ (c .before .before .before .before .before .before .before .before .before .before .before .if3 .left)) (q .1)))
 
 split-not-settled-requires : (t : ℕ) → split-lts.Need-not-settled-requires (split-claims t) (split-at t) split.Post
 split-not-settled-requires t c κs = search needs
 
 split-returns : (t : ℕ) → split-lts.Need-returns (split-claims t) (split-at t) split.Post
-split-returns t c = let e = c .not-settled .ensures in (kept-refl, place-fails (e .0) (omega (arith, e .1)))
+split-returns t c = let e = c .not-settled .ensures in (kept-refl, place-fails (e .0) (omega (arith, e .1)) (e .2) (λ lo hi f low sound apart o. refl))
 
 split-last-of-requires : (t : ℕ) → split-lts.Need-last-of-requires (split-claims t) (split-at t) split.Post
 split-last-of-requires t c κs = let w = c .before .before .before .before .pre .1 .0 in let h = c .if1 .left in (omega (arith, h), omega (arith, w .less, w .spares .few))
@@ -274,7 +298,7 @@ split-not-settled-requires-2 : (t : ℕ) → split-lts.Need-not-settled-requires
 split-not-settled-requires-2 t c κs = search needs
 
 split-returns-2 : (t : ℕ) → split-lts.Need-returns-2 (split-claims t) (split-at t) split.Post
-split-returns-2 t c = let e = c .not-settled2 .ensures in (kept-refl, place-fails (e .0) (omega (arith, e .1)))
+split-returns-2 t c = let e = c .not-settled2 .ensures in (kept-refl, place-fails (e .0) (omega (arith, e .1)) (e .2) (λ lo hi f low sound apart o. refl))
 
 split-sub-refine : (t : ℕ) → split-lts.Need-sub-refine (split-claims t) (split-at t) split.Post
 split-sub-refine t c = let h = c .before .before .before .before .before .before .before .before .before .before .if1 .left in omega (arith, h)
@@ -295,7 +319,11 @@ split-same-length-3 : (t : ℕ) → split-lts.Need-same-length-3 (split-claims t
 split-same-length-3 t c = search needs
 
 split-returns-3 : (t : ℕ) → split-lts.Need-returns-3 (split-claims t) (split-at t) split.Post
-split-returns-3 t c = let e = c .not-settled3 .ensures in let k = c .before .before .before .before .before .before .before .before .before .refine .ensures in (k .0, place-fails (e .0) (omega (arith, e .1, k .1 .work .fewer)))
+split-returns-3 t c =
+    let w = c .before .before .before .before .before .before .before .before .before .before .before .before .before .before .before .before .before .before .before .before .before .before .before .before .pre .1 in
+    let e = c .not-settled3 .ensures in
+    let k = c .before .before .before .before .before .before .before .before .before .refine .ensures in
+    (k .0, place-fails (e .0) (omega (arith, e .1, k .1 .work .fewer)) (e .2) (λ lo hi f low sound apart o. left-whole (w .0) (w .1) (c .before .before .before .before .before .before .before .before .before .before .before .before .before .before .before .before .before .before .halve .ensures) lo hi f o (k .1)))
 
 split-refine-requires-2 : (t : ℕ) → split-lts.Need-refine-requires-2 (split-claims t) (split-at t) split.Post
 split-refine-requires-2 t c κs = let w = c .before .before .before .before .before .before .before .before .before .before .before .before .before .before .before .before .before .before .before .before .before .before .before .before .before .before .pre .1 in let k = c .before .before .before .before .before .before .before .before .before .before .before .refine .ensures in (omega (arith, c .before .before .before .before .before .before .before .before .before .before .before .before .before .before .before .before .before .before .before .before .before .before .before .before .before .before .pre .0), push-kept (right-push (w .0) (w .1) (c .before .before .before .before .before .before .before .before .before .before .before .before .before .before .before .before .before .before .before .before .halve .ensures) (both-few (c .before .before .before .before .before .before .before .before .before .before .before .before .before .before .before .before .before .before .before .before .halve .result .left .points .n) (c .before .before .before .before .before .before .before .before .before .before .before .before .before .before .before .before .before .before .before .before .halve .result .right .points .n) (c .before .before .before .before .before .before .before .before .before .before .before .before .before .before .before .if2 .left) .1)) (k .0) (k .1 .work .fewer))
@@ -313,7 +341,13 @@ split-same-length-6 : (t : ℕ) → split-lts.Need-same-length-6 (split-claims t
 split-same-length-6 t c = search (needs, c .before .before .before .before .before .before .before .before .before .before .before .before .before .before .before .before .before .before .before .before .before .refine .ensures .0 .mapped, c .before .before .before .before .before .before .before .before .before .refine2 .ensures .0 .mapped)
 
 split-returns-4 : (t : ℕ) → split-lts.Need-returns-4 (split-claims t) (split-at t) split.Post
-split-returns-4 t c = let e = c .not-settled4 .ensures in let k = c .before .before .before .before .before .before .before .before .before .before .before .before .before .before .before .before .before .before .before .before .before .refine .ensures in let j = c .before .before .before .before .before .before .before .before .before .refine2 .ensures in (kept-trans (k .0) (j .0), place-fails (e .0) (omega (arith, e .1, k .1 .work .fewer, j .1 .work .fewer)))
+split-returns-4 t c =
+    let w = c .before .before .before .before .before .before .before .before .before .before .before .before .before .before .before .before .before .before .before .before .before .before .before .before .before .before .before .before .before .before .before .before .before .before .before .before .pre .1 in
+    let e = c .not-settled4 .ensures in
+    let k = c .before .before .before .before .before .before .before .before .before .before .before .before .before .before .before .before .before .before .before .before .before .refine .ensures in
+    let j = c .before .before .before .before .before .before .before .before .before .refine2 .ensures in
+    let went = not-false _ (c .before .before .before .before .before .before .before .before .before .before .before .before .before .if3 .left) in
+    (kept-trans (k .0) (j .0), place-fails (e .0) (omega (arith, e .1, k .1 .work .fewer, j .1 .work .fewer)) (e .2) (λ lo hi f low sound apart o. right-whole (w .0) (w .1) (c .before .before .before .before .before .before .before .before .before .before .before .before .before .before .before .before .before .before .before .before .before .before .before .before .before .before .before .before .before .before .halve .ensures) lo hi f o (k .1) went (j .1)))
 
 split-store-two-requires : (t : ℕ) → split-lts.Need-store-two-requires (split-claims t) (split-at t) split.Post
 split-store-two-requires t c κs = let w = c .before .before .before .before .before .before .before .before .before .before .before .before .before .before .before .before .before .before .before .before .before .before .before .before .before .before .before .before .before .before .before .before .before .before .before .before .before .before .pre .1 .0 in let h = c .before .before .before .before .before .before .before .before .before .before .before .before .before .before .before .before .before .before .before .before .before .before .before .before .before .before .before .before .before .before .before .before .before .before .if1 .left in let k = c .before .before .before .before .before .before .before .before .before .before .before .before .before .before .before .before .before .before .before .before .before .before .before .refine .ensures in let j = c .before .before .before .before .before .before .before .before .before .before .before .refine2 .ensures in let same = j .0 .table ∙ k .0 .table in
@@ -330,7 +364,7 @@ split-same-length-9 t c = search (needs, c .before .before .before .before .befo
 
 split-returns-5 : (t : ℕ) → split-lts.Need-returns-5 (split-claims t) (split-at t) split.Post
 split-returns-5 t c = let w = c .before .before .before .before .before .before .before .before .before .before .before .before .before .before .before .before .before .before .before .before .before .before .before .before .before .before .before .before .before .before .before .before .before .before .before .before .before .before .before .before .before .before .before .before .before .pre .1 in let h = c .before .before .before .before .before .before .before .before .before .before .before .before .before .before .before .before .before .before .before .before .before .before .before .before .before .before .before .before .before .before .before .before .before .before .before .before .before .before .before .before .before .if1 .left in let k = c .before .before .before .before .before .before .before .before .before .before .before .before .before .before .before .before .before .before .before .before .before .before .before .before .before .before .before .before .before .before .refine .ensures in let j = c .before .before .before .before .before .before .before .before .before .before .before .before .before .before .before .before .before .before .refine2 .ensures in let q = c .before .before .before .before .before .before .store-two .ensures in
-    (kept-trans (kept-trans (k .0) (j .0)) (q .0), place-two (w .0) (omega (arith, h)) (c .before .before .before .before .before .before .before .before .before .before .before .before .before .before .before .before .before .before .before .before .before .before .before .before .before .before .before .before .before .before .before .before .before .before .before .before .before .before .before .before .last-of .ensures) (w .1) (c .before .before .before .before .before .before .before .before .before .before .before .before .before .before .before .before .before .before .before .before .before .before .before .before .before .before .before .before .before .before .before .before .before .before .before .before .before .before .before .halve .ensures) (k .1) (not-false _ (c .before .before .before .before .before .before .before .before .before .before .before .before .before .before .before .before .before .before .before .before .before .before .if3 .left)) (k .0 .table) (j .1) (not-false _ (c .before .before .before .before .before .before .before .before .before .before .if4 .left)) (j .0 .table) (q .1))
+    (kept-trans (kept-trans (k .0) (j .0)) (q .0), place-two (w .0) (w .1) (c .before .before .before .before .before .before .before .before .before .before .before .before .before .before .before .before .before .before .before .before .before .before .before .before .before .before .before .before .before .before .before .before .before .before .before .before .before .before .before .halve .ensures) (k .1) (not-false _ (c .before .before .before .before .before .before .before .before .before .before .before .before .before .before .before .before .before .before .before .before .before .before .if3 .left)) (omega (arith, h)) (c .before .before .before .before .before .before .before .before .before .before .before .before .before .before .before .before .before .before .before .before .before .before .before .before .before .before .before .before .before .before .before .before .before .before .before .before .before .before .before .before .last-of .ensures) (j .1) (not-false _ (c .before .before .before .before .before .before .before .before .before .before .if4 .left)) (j .0 .table) (q .1))
 
 pub +push+refine+settle+split-spec : {M : Type 1} → statement M
 +push+refine+settle+split-spec =

@@ -1,0 +1,359 @@
+-- Demand 2, from the promises of the calls alone.
+-- Assumes nothing.
+use mathlib.Core.Path.{_≡_, refl, ap, ap₂, sym, subst, _∙_}
+use mathlib.Core.Logic.{_⊎_, inl, inr, ⊎-elim, _↔_}
+use mathlib.Core.Bool.{Bool, true, false, cond, not, _&&_, true≢false}
+use mathlib.Core.List.{List, [], _++_, List·Memᴰ}
+use mathlib.Core.Option.{Option, none, some, Option·some-injective, Option·none-ne-some}
+use Prim.Native.Nat.{ℕ, zero, suc, _-_, _*_, _/_, _≤_, _<_}
+use native.Mathlib.Omega.{arith}
+use lib.ListN.{length, take, drop, length-take}
+use lib.Seq.{take-all}
+use lib.Dec.{leb}
+use lib.IntN.{ℤ}
+use lib.Signed.{leZ}
+use borrow.Author.Tests.{leb-true, le-leb, eq-eqb, eqb-true}
+use Rattle.octets.specs.Lists.{keep}
+use Rattle.octets.proofs.Lists.{mem-same, mem-take}
+use Rattle.octets.proofs.Tests.{and-left, and-right, and-both, refuted}
+use Rattle.octets.proofs.Order.{less-or-not}
+use Rattle.spot.specs.declared.Spot.{Spot}
+use Rattle.spot.specs.Keys.{key, signed32, unsigned32}
+use Rattle.spot.specs.Spots.{spotsBytes, byRank}
+use Rattle.spot.specs.Query.{query, topQuery, wants}
+use Rattle.spot.proofs.Signed.{Fits, signed-fits, fits-signed}
+use Rattle.spot.proofs.Orders.{key-inj, report-wants, top-wants}
+use Rattle.spot.proofs.Ranks.{byRank-from, byRank-in}
+use Rattle.spot.proofs.Canon.{keep-rises}
+use Rattle.block.specs.declared.Answer.{Answer}
+use Rattle.block.specs.Header.{headOf}
+use Rattle.block.proofs.Facts.{head-facts}
+use Rattle.tree.specs.Lookup.{live, isLive, withKey}
+use Rattle.tree.specs.Walk.{Walk, spots, Finds, liveSpots, liveCount, walkTable}
+use Rattle.tree.specs.Top.{topTable}
+use Rattle.tree.specs.Sound.{sound}
+use Rattle.tree.proofs.Tables.{live-rises, report-finds, counted, sound-header}
+use Rattle.tree.proofs.Tops.{top-finds, top-rises}
+use Rattle.revise.specs.Numbers.{addNumber}
+use Rattle.table.specs.Calls.{Call, add, withdraw, report, top, argumentsFit}
+use Rattle.table.specs.Answers.{lengths, lengthNumber, unlessRefused, spotsAnswer, outputLeft}
+use Rattle.table.specs.Queries.{walkAnswer, QueryPost, ReportPost, TopPost}
+use Rattle.table.specs.Updates.{AddPost, WithdrawPost}
+use Rattle.table.specs.Model.{PlainSpot, hasIdentity, placeBefore, rankHigher, asBytes}
+use Rattle.table.specs.Demands.{LiveSpot, OfPlaces, InOrder, AtCapacity, ReportOf, TopOf, HandedOut, AddedTo, WithdrawnFrom, Demand2}
+use Rattle.table.proofs.Plain.{toKeySpot, SpotFits, identity-key, keyed-bytes, two-fit}
+use Rattle.table.proofs.Alive.{plain, Small, keyed-plain, plain-length, plain-take, plain-fit, plain-mem, mem-plain, rises-in-order, falls-in-order, take-order, take-first, same-order, first-order, before-apart, higher-apart, alive-fits, kept-small, kept-live, live-kept, all-live, live-count}
+
+-- ---- what a query hands out
+
+module _ (c : Call) (w : Walk) (found : List Spot) (whole : Finds w found) (small : Small found) (t out map : List ℕ) (r : Answer) (out′ map′ : List ℕ)
+    (lent : lengthNumber (lengths t out map []) c ≡ 0) (p : QueryPost c w t out map r out′ map′) where
+  answered : r ≡ spotsAnswer (length out) (length (plain found))
+  unfolding unlessRefused walkAnswer
+  answered =
+      p .answered ∙ ap₂ (λ (n : ℕ) (v : Walk). unlessRefused n (walkAnswer (length out) v)) lent (whole .1) ∙
+      ap (spotsAnswer (length out)) (sym (plain-length found))
+
+  bytes : asBytes (plain found) ≡ spotsBytes found
+  bytes = keyed-bytes (plain found) (plain-fit found small) ∙ ap spotsBytes (keyed-plain found)
+
+  left : (n : ℕ) → r .number ≡ n → out′ ≡ outputLeft n found out
+  left n e = p .output ∙ ap₂ (λ (m : ℕ) (v : Walk). outputLeft m (spots v) out) e (whole .1)
+
+  pub handed-out : HandedOut (plain found) out r out′
+  unfolding outputLeft
+  handed-out =
+      record {
+        answer = answered;
+        output = λ z. left 0 z ∙ ap₂ (λ (bs : List ℕ) (n : ℕ). bs ++ drop (12 * n) out) (sym bytes) (sym (plain-length found));
+        refused = λ n. go (r .number) refl n;
+      }
+    where
+      go : (n : ℕ) → r .number ≡ n → (n ≡ 0 → ⊥) → out′ ≡ out
+      go zero e n = absurd (n refl)
+      go (suc m) e n = left (suc m) e
+
+-- ---- Report
+
+module _ (t : List ℕ) (g : sound t ≡ true) where
+  module _ (x1 x2 y : ℤ) (f1 : Fits x1) (f2 : Fits x2) (fy : Fits y) where
+    found : List Spot
+    found = keep (wants (query x1 x2 y)) (liveSpots t)
+
+    asked : (s : PlainSpot) → SpotFits s → leZ x1 (s .place) && leZ (s .place) x2 && leZ y (s .rank) ≡ wants (query x1 x2 y) (toKeySpot s)
+    asked s f = report-wants (s .place) (s .rank) x1 x2 (f .place) (f .rank) f1 f2 y fy
+
+    to : (s : PlainSpot) → List·Memᴰ s (plain found) → OfPlaces x1 x2 t s × (leZ y (s .rank) ≡ true)
+    unfolding found
+    to s i =
+        let m = plain-mem found (kept-small t g (wants (query x1 x2 y))) s i in
+        let l = kept-live t g (wants (query x1 x2 y)) s m in
+        let a = asked s (m .0) ∙ l .1 in
+        let b = and-left (leZ x1 (s .place) && leZ (s .place) x2) (leZ y (s .rank)) a in (
+          record { alive = l .0; low = and-left (leZ x1 (s .place)) (leZ (s .place) x2) b; high = and-right (leZ x1 (s .place)) (leZ (s .place) x2) b },
+          and-right (leZ x1 (s .place) && leZ (s .place) x2) (leZ y (s .rank)) a,
+        )
+
+    from : (s : PlainSpot) → OfPlaces x1 x2 t s × (leZ y (s .rank) ≡ true) → List·Memᴰ s (plain found)
+    unfolding found
+    from s h =
+        let f = alive-fits t s (h .0 .alive) in
+        let a = and-both (leZ x1 (s .place) && leZ (s .place) x2) (leZ y (s .rank)) (and-both (leZ x1 (s .place)) (leZ (s .place) x2) (h .0 .low) (h .0 .high)) (h .1) in
+        mem-plain found s f (live-kept t g (wants (query x1 x2 y)) s (h .0 .alive) (sym (asked s f) ∙ a))
+
+    report-of : ReportOf x1 x2 y t (plain found)
+    unfolding found
+    report-of =
+        record {
+          rise = rises-in-order found (kept-small t g (wants (query x1 x2 y))) (keep-rises (wants (query x1 x2 y)) 0 (liveSpots t) (live-rises t g));
+          each = λ s. (to s, from s);
+        }
+
+    is-found : (given : List PlainSpot) → ReportOf x1 x2 y t given → given ≡ plain found
+    is-found given h =
+        same-order placeBefore SpotFits before-apart given (plain found) (h .rise) (report-of .rise)
+        (λ s i. let l = h .each s .0 i in (report-of .each s .1 l, alive-fits t s (l .0 .alive)))
+        (λ s i. h .each s .1 (report-of .each s .0 i))
+
+    -- the definition settles the list: one that leaves a spot out, gives one twice or in another order is no such report
+    pub report-settled : (given other : List PlainSpot) → ReportOf x1 x2 y t given → ReportOf x1 x2 y t other → given ≡ other
+    report-settled given other g h = is-found given g ∙ sym (is-found other h)
+
+    report-given : (out map : List ℕ) (r : Answer) (out′ map′ : List ℕ) → lengthNumber (lengths t out map []) (report x1 x2 y) ≡ 0 → ReportPost x1 x2 y t out map r out′ map′
+        → (given : List PlainSpot) × ReportOf x1 x2 y t given × HandedOut given out r out′
+    unfolding found
+    report-given out map r out′ map′ l p = (
+      plain found,
+      report-of,
+      handed-out (report x1 x2 y) (walkTable t (query x1 x2 y)) found (report-finds t g (query x1 x2 y)) (kept-small t g (wants (query x1 x2 y))) t out map r out′ map′ l p,
+    )
+
+  -- ---- Top
+
+  module _ (x1 x2 : ℤ) (f1 : Fits x1) (f2 : Fits x2) (k : ℕ) where
+    of-places : List Spot
+    of-places = keep (wants (topQuery x1 x2 0)) (liveSpots t)
+
+    ranked : List PlainSpot
+    ranked = plain (byRank of-places)
+
+    few : Small of-places
+    unfolding of-places
+    few = kept-small t g (wants (topQuery x1 x2 0))
+
+    few-ranked : Small (byRank of-places)
+    few-ranked s i = few s (byRank-from of-places i)
+
+    asked-places : (s : PlainSpot) → SpotFits s → leZ x1 (s .place) && leZ (s .place) x2 ≡ wants (topQuery x1 x2 0) (toKeySpot s)
+    asked-places s f = top-wants (s .place) (s .rank) x1 x2 (f .place) (f .rank) f1 f2
+
+    to-places : (s : PlainSpot) → List·Memᴰ s ranked → OfPlaces x1 x2 t s
+    unfolding of-places ranked
+    to-places s i =
+        let m = plain-mem (byRank of-places) few-ranked s i in
+        let l = kept-live t g (wants (topQuery x1 x2 0)) s (m .0, byRank-from of-places (m .1)) in
+        let a = asked-places s (m .0) ∙ l .1 in
+        record { alive = l .0; low = and-left (leZ x1 (s .place)) (leZ (s .place) x2) a; high = and-right (leZ x1 (s .place)) (leZ (s .place) x2) a }
+
+    from-places : (s : PlainSpot) → OfPlaces x1 x2 t s → List·Memᴰ s ranked
+    unfolding of-places ranked
+    from-places s h =
+        let f = alive-fits t s (h .alive) in
+        let a = and-both (leZ x1 (s .place)) (leZ (s .place) x2) (h .low) (h .high) in
+        mem-plain (byRank of-places) s f (byRank-in of-places (live-kept t g (wants (topQuery x1 x2 0)) s (h .alive) (sym (asked-places s f) ∙ a)))
+
+    falls : InOrder rankHigher ranked
+    unfolding of-places ranked
+    falls = falls-in-order of-places few (keep-rises (wants (topQuery x1 x2 0)) 0 (liveSpots t) (live-rises t g))
+
+    -- fewer than k are all
+    all-of : length (take k ranked) < k → take k ranked ≡ ranked
+    all-of l =
+        ⊎-elim (λ (h : length ranked ≤ k). take-all k ranked h) (λ (h : k < length ranked). let e = length-take k ranked in let z : ⊥ = omega arith in absurd z)
+        (less-or-not (length ranked) k)
+
+    top-of : TopOf x1 x2 k t (take k ranked)
+    top-of =
+        record {
+          fall = take-order rankHigher k ranked falls;
+          wanted = λ s i. to-places s (mem-take k ranked i);
+          most = let e = length-take k ranked in omega arith;
+          all = λ l s h. mem-same (sym (all-of l)) (from-places s h);
+          highest = λ s h n r j. take-first rankHigher k ranked falls s (from-places s h) n r j;
+        }
+
+    is-first : (given : List PlainSpot) → TopOf x1 x2 k t given → given ≡ take k ranked
+    is-first given h =
+        first-order rankHigher SpotFits higher-apart k given ranked (h .fall) falls (λ s i. from-places s (h .wanted s i))
+        (λ s i. alive-fits t s (to-places s i .alive))
+        (h .most)
+        (λ l s i. h .all l s (to-places s i))
+        (λ s i n r j. h .highest s (to-places s i) n r j)
+
+    -- and so for Top
+    pub top-settled : (given other : List PlainSpot) → TopOf x1 x2 k t given → TopOf x1 x2 k t other → given ≡ other
+    top-settled given other g h = is-first given g ∙ sym (is-first other h)
+
+    top-given : (out map : List ℕ) (r : Answer) (out′ map′ : List ℕ) → lengthNumber (lengths t out map []) (top x1 x2 k) ≡ 0 → TopPost x1 x2 k t out map r out′ map′
+        → (given : List PlainSpot) × TopOf x1 x2 k t given × HandedOut given out r out′
+    unfolding of-places ranked
+    top-given out map r out′ map′ l p = (
+      plain (take k (byRank of-places)),
+      subst (TopOf x1 x2 k t) (sym (plain-take k (byRank of-places))) top-of,
+      handed-out (top x1 x2 k) (topTable t x1 x2 k) (take k (byRank of-places)) (top-finds t g x1 x2 k) (λ s i. few-ranked s (mem-take k (byRank of-places) i)) t out map r out′ map′ l
+          (p .exact (top-rises t g x1 x2 k)),
+    )
+
+-- ---- Add and Withdraw
+
+with-key : (k : ℕ) (o : Option ℕ) (before : ℕ → Option ℕ) → withKey k o before k ≡ o
+unfolding withKey
+with-key k o before = rw (eq-eqb k k refl)
+
+-- a spot that has the identity
+module _ (place rank : ℤ) (fp : Fits place) (fr : Fits rank) where
+  same-identity : (s : PlainSpot) → SpotFits s → hasIdentity place rank s ≡ true → (s .place ≡ place) × (s .rank ≡ rank)
+  same-identity s f h =
+      key-inj (s .place) (s .rank) place rank (f .place) (f .rank) fp fr (eqb-true _ _ (sym (identity-key place rank fp fr s f) ∙ h))
+
+  -- what is live once the track of the identity is changed
+  module _ (t t′ : List ℕ) (o : Option ℕ) (after : (k : ℕ) → live t′ k ≡ withKey (key place rank) o (live t) k) where
+    now : (s : PlainSpot) → SpotFits s → (b : Bool) → hasIdentity place rank s ≡ b → live t′ (key (s .place) (s .rank)) ≡ cond b o (live t (key (s .place) (s .rank)))
+    unfolding withKey
+    now s f b e =
+        after (key (s .place) (s .rank)) ∙
+        ap (λ (x : Bool). cond x o (live t (key (s .place) (s .rank)))) (sym (identity-key place rank fp fr s f) ∙ e)
+
+    -- the others are as they were
+    pub others : (s : PlainSpot) → LiveSpot t s → hasIdentity place rank s ≡ false → LiveSpot t′ s
+    others s h e = record { placeFits = h .placeFits; rankFits = h .rankFits; there = now s (alive-fits t s h) false e ∙ h .there }
+
+    -- one that is live afterwards has the identity, and what it was given there, or was live before
+    pub of-either : (s : PlainSpot) → LiveSpot t′ s
+        → ((hasIdentity place rank s ≡ true) × (o ≡ some (s .track))) ⊎ (LiveSpot t s × (hasIdentity place rank s ≡ false))
+    of-either s h = go (hasIdentity place rank s) refl
+      where
+        go : (b : Bool) → hasIdentity place rank s ≡ b
+            → ((hasIdentity place rank s ≡ true) × (o ≡ some (s .track))) ⊎ (LiveSpot t s × (hasIdentity place rank s ≡ false))
+        go true e = inl (e, sym (now s (alive-fits t′ s h) true e) ∙ h .there)
+        go false e = inr (record { placeFits = h .placeFits; rankFits = h .rankFits; there = sym (now s (alive-fits t′ s h) false e) ∙ h .there }, e)
+
+  module _ (t : List ℕ) (g : sound t ≡ true) where
+    none-live : isLive (live t (key place rank)) ≡ false ↔ ((s : PlainSpot) → LiveSpot t s → hasIdentity place rank s ≡ false)
+    none-live = (
+      λ n s h. refuted (hasIdentity place rank s)
+          (λ e.
+          let i = same-identity s (alive-fits t s h) e in
+          true≢false (ap isLive (sym (h .there) ∙ ap₂ (λ (p q : ℤ). live t (key p q)) (i .0) (i .1)) ∙ n)),
+      λ h. go (live t (key place rank)) refl h,
+    )
+      where
+        go : (o : Option ℕ) → live t (key place rank) ≡ o → ((s : PlainSpot) → LiveSpot t s → hasIdentity place rank s ≡ false) → isLive o ≡ false
+        go none e h = refl
+        go (some a) e h =
+            let s : PlainSpot = record { place = place; rank = rank; track = a } in
+            absurd
+            (true≢false
+            (sym (identity-key place rank fp fr s (record { place = fp; rank = fr }) ∙ eq-eqb (key place rank) (key place rank) refl) ∙
+            h s (record { placeFits = fits-signed place fp; rankFits = fits-signed rank fr; there = e })))
+
+    -- there are never more than the capacity
+    few-live : length (liveSpots t) ≤ 16 * (length t / 2048 - 1)
+    few-live = omega (arith, counted t g, head-facts (length t) (headOf t) (sound-header t g) .bound-most)
+
+    Full : Type 0
+    Full = AtCapacity t × ((s : PlainSpot) → LiveSpot t s → hasIdentity place rank s ≡ false)
+
+    due : ℕ
+    due = addNumber (length t) (liveCount t) (isLive (live t (key place rank)))
+
+    full-number : (due ≡ 4) ↔ Full
+    unfolding due addNumber liveCount Full
+    full-number = four (leb (16 * (length t / 2048 - 1)) (length (liveSpots t))) refl (isLive (live t (key place rank))) refl
+      where
+        four : (b : Bool) → leb (16 * (length t / 2048 - 1)) (length (liveSpots t)) ≡ b → (l : Bool) → isLive (live t (key place rank)) ≡ l
+            → _≡_ {A = ℕ} (cond (b && not l) 4 0) 4 ↔ Full
+        four true e false n =
+            let h = leb-true (16 * (length t / 2048 - 1)) (length (liveSpots t)) e in
+            let m = few-live in
+            (λ q. (record { spots = plain (liveSpots t); allLive = all-live t g; many = plain-length (liveSpots t) ∙ omega arith }, none-live .0 n), λ q. refl)
+        four true e true n = (λ (q : _≡_ {A = ℕ} 0 4). absurd (omega arith), λ q. absurd (true≢false (sym n ∙ none-live .1 (q .1))))
+        four false e l n = (
+          λ (q : _≡_ {A = ℕ} 0 4). absurd (omega arith),
+          λ q.
+              let many = live-count t g (q .0 .spots) (q .0 .allLive) in
+              let size = q .0 .many in
+              absurd (true≢false (sym (le-leb (16 * (length t / 2048 - 1)) (length (liveSpots t)) (omega arith)) ∙ e)),
+        )
+
+    not-full : (due ≡ 4 → ⊥) → due ≡ 0
+    unfolding due addNumber
+    not-full = go (leb (16 * (length t / 2048 - 1)) (liveCount t) && not (isLive (live t (key place rank))))
+      where
+        go : (b : Bool) → (_≡_ {A = ℕ} (cond b 4 0) 4 → ⊥) → _≡_ {A = ℕ} (cond b 4 0) 0
+        go true n = absurd (n refl)
+        go false n = refl
+
+    added-to : (track : ℕ) (w : List ℕ) (r : Answer) (t′ w′ : List ℕ) → lengthNumber (lengths t [] [] w) (add place rank track) ≡ 0 → AddPost place rank track t w r t′ w′
+        → AddedTo place rank track t r t′
+    unfolding due Full
+    added-to track w r t′ w′ l p =
+        let n : r .number ≡ due = p .update .number g l in
+        record {
+          full = (λ q. full-number .0 (sym n ∙ q), λ q. n ∙ full-number .1 q);
+          accepted = λ q. n ∙ not-full (λ e. q (n ∙ e));
+          after = λ z s. (
+            λ h. ⊎-elim
+                (λ (e : (hasIdentity place rank s ≡ true) × (some track ≡ some (s .track))).
+                let i = same-identity s (alive-fits t′ s h) (e .0) in
+                inl (λ j. record { place = i .0 j; rank = i .1 j; track = Option·some-injective _ _ (sym (e .1)) j }))
+                (λ (e : LiveSpot t s × (hasIdentity place rank s ≡ false)). inr e)
+                (of-either t t′ (some track) (p .update .liveAfter g z) s h),
+            ⊎-elim
+                (λ (e : s ≡ record { place = place; rank = rank; track = track }). subst (LiveSpot t′) (sym e) (new-live track t′ (p .update .liveAfter g z)))
+                (λ (e : LiveSpot t s × (hasIdentity place rank s ≡ false)). others t t′ (some track) (p .update .liveAfter g z) s (e .0) (e .1)),
+          );
+          refused = p .update .unchanged;
+          staysSound = p .update .staysSound g;
+        }
+      where
+        new-live : (track : ℕ) (t′ : List ℕ) → ((k : ℕ) → live t′ k ≡ withKey (key place rank) (some track) (live t) k)
+            → LiveSpot t′ (record { place = place; rank = rank; track = track })
+        new-live track t′ h =
+            record { placeFits = fits-signed place fp; rankFits = fits-signed rank fr; there = h (key place rank) ∙ with-key (key place rank) (some track) (live t) }
+
+    withdrawn-from : (w : List ℕ) (r : Answer) (t′ w′ : List ℕ) → lengthNumber (lengths t [] [] w) (withdraw place rank) ≡ 0 → WithdrawPost place rank t w r t′ w′
+        → WithdrawnFrom place rank t r t′
+    withdrawn-from w r t′ w′ l p =
+        let z : r .number ≡ 0 = p .update .number g l in
+        record {
+          accepted = z;
+          after = λ s. (
+            λ h. ⊎-elim (λ (e : (hasIdentity place rank s ≡ true) × (none ≡ some (s .track))). absurd (Option·none-ne-some _ (e .1)))
+                (λ (e : LiveSpot t s × (hasIdentity place rank s ≡ false)). e)
+                (of-either t t′ none (p .update .liveAfter g z) s h),
+            λ e. others t t′ none (p .update .liveAfter g z) s (e .0) (e .1),
+          );
+          staysSound = p .update .staysSound g;
+        }
+
+-- ---- the demand
+
+pub demand2 : Demand2
+unfolding argumentsFit
+demand2 =
+    record {
+      adds = λ place rank track t w r t′ w′ h p.
+          let f = two-fit place rank (and-left (signed32 place && signed32 rank) (unsigned32 track) (h .arguments)) in
+          added-to place rank (f .0) (f .1) t (h .table) track w r t′ w′ (h .lent) p;
+      withdraws = λ place rank t w r t′ w′ h p.
+          let f = two-fit place rank (h .arguments) in
+          withdrawn-from place rank (f .0) (f .1) t (h .table) w r t′ w′ (h .lent) p;
+      reports = λ x1 x2 y t out map r out′ map′ h p.
+          let f = two-fit x1 x2 (and-left (signed32 x1 && signed32 x2) (signed32 y) (h .arguments)) in
+          let fy = signed-fits y (and-right (signed32 x1 && signed32 x2) (signed32 y) (h .arguments)) in
+          report-given t (h .table) x1 x2 y (f .0) (f .1) fy out map r out′ map′ (h .lent) p;
+      tops = λ x1 x2 k t out map r out′ map′ h p.
+          let f = two-fit x1 x2 (and-left (signed32 x1 && signed32 x2) (unsigned32 k) (h .arguments)) in
+          top-given t (h .table) x1 x2 (f .0) (f .1) k out map r out′ map′ (h .lent) p;
+    }

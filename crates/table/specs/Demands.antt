@@ -1,0 +1,152 @@
+-- Demands 1 and 2, each as one statement, from what the calls promise. Places and ranks are whole numbers here, and a spot is live by the paper's own
+-- definition, one path down the tree: neither a walk nor the model stands between. Demand 3 is in History.
+-- Assumes nothing.
+use mathlib.Core.Path.{_≡_}
+use mathlib.Core.Logic.{_⊎_, _↔_}
+use Prim.Native.Nat.{ℕ, _-_, _*_, _/_, _≤_, _<_}
+use mathlib.Core.Bool.{Bool, true, false}
+use mathlib.Core.List.{List, [], _∷_, _++_, List·Memᴰ}
+use mathlib.Core.Option.{some}
+use lib.ListN.{length, drop}
+use lib.IntN.{ℤ}
+use lib.Signed.{leZ}
+use Rattle.octets.specs.Lists.{every, has}
+use Rattle.spot.specs.Keys.{key, signed32}
+use Rattle.spot.specs.Query.{query, topQuery}
+use Rattle.block.specs.declared.Answer.{Answer}
+use Rattle.tree.specs.Lookup.{live}
+use Rattle.tree.specs.Sound.{sound}
+use Rattle.table.specs.Calls.{Call, format, add, withdraw, report, top, count, check, rebuild, argumentsFit}
+use Rattle.table.specs.Answers.{lengths, lengthNumber, spotsAnswer}
+use Rattle.table.specs.Queries.{HandsOut, ReportPost, TopPost}
+use Rattle.table.specs.Updates.{AddPost, WithdrawPost}
+use Rattle.table.specs.Model.{PlainSpot, hasIdentity, placeBefore, rankHigher, asBytes}
+use Rattle.table.specs.History.{Event, MetBy, isQuery}
+
+-- ---- demand 1
+
+-- a call c, turned down at the table t
+pub record TurnedDown (c : Call) (t : List ℕ) (e : Event) : Type 0 where
+  -- "One that is turned down returns one of five numbers"
+  pub number : has (e .answer .number) (1 ∷ 2 ∷ 3 ∷ 4 ∷ 5 ∷ []) ≡ true
+  -- "detail 0", but for 5
+  pub detail : (e .answer .number ≡ 5 → ⊥) → e .answer .detail ≡ 0
+  -- "and changes no byte of it but scratch"
+  pub table : e .table′ ≡ t
+  pub output : isQuery c ≡ true → e .output′ ≡ e .output
+  pub readMap : isQuery c ≡ true → e .readMap′ ≡ e .readMap
+
+-- "On an unsound table a call that isn't refused still hands out only spots of its range from blocks marked read"
+abbrev pub OnlyMarked : Call → List ℕ → Event → Type 0
+OnlyMarked format t e = Unit {0}
+OnlyMarked (add place rank track) t e = Unit {0}
+OnlyMarked (withdraw place rank) t e = Unit {0}
+OnlyMarked (report x1 x2 y) t e = HandsOut (query x1 x2 y) t (e .output) (e .answer) (e .output′) (e .readMap′)
+OnlyMarked (top x1 x2 k) t e = HandsOut (topQuery x1 x2 0) t (e .output) (e .answer) (e .output′) (e .readMap′)
+OnlyMarked count t e = Unit {0}
+OnlyMarked check t e = Unit {0}
+OnlyMarked rebuild t e = Unit {0}
+
+-- what is claimed of a call that ended
+pub record AnyBytes (c : Call) (t : List ℕ) (e : Event) : Type 0 where
+  pub turnedDown : (e .answer .number ≡ 0 → ⊥) → TurnedDown c t e
+  pub handsOut : e .answer .number ≡ 0 → OnlyMarked c t e
+  -- the table is as long as it was
+  pub sized : length (e .table′) ≡ length t
+
+-- Demand 1: "every public call ends on arbitrary bytes and arguments and stays inside the memory lent to it. One that is turned down returns one of five
+-- numbers and changes no byte of it but scratch." No public call has a `requires`, and of each the check proves that it ends and that no index leaves what it is
+-- lent; the rest is said here of any bytes t, sound or not, any arguments, and anything lent.
+abbrev pub Demand1 : Type 0
+Demand1 = (t : List ℕ) (e : Event) → MetBy (e .call) t e → AnyBytes (e .call) t e
+
+-- ---- demand 2
+
+-- "An identity is live exactly when, going from the root down the one path whose ranges hold it, the first node that names it does so in P or I. Its
+-- track number is the one there": a live spot of t, "a place and a rank, both signed 32-bit, and a track number"
+pub record LiveSpot (t : List ℕ) (s : PlainSpot) : Type 0 where
+  pub placeFits : signed32 (s .place) ≡ true
+  pub rankFits : signed32 (s .rank) ≡ true
+  pub there : live t (key (s .place) (s .rank)) ≡ some (s .track)
+
+-- "of the live spots with x1 ≤ place ≤ x2". No test bounds the rank from above: "none shall be added"
+pub record OfPlaces (x1 x2 : ℤ) (t : List ℕ) (s : PlainSpot) : Type 0 where
+  pub alive : LiveSpot t s
+  pub low : leZ x1 (s .place) ≡ true
+  pub high : leZ (s .place) x2 ≡ true
+
+-- each comes before all that follow it: in order, and none twice
+abbrev pub InOrder : (PlainSpot → PlainSpot → Bool) → List PlainSpot → Type 0
+InOrder before [] = Unit {0}
+InOrder before (s ∷ ss) = (every (before s) ss ≡ true) × InOrder before ss
+
+-- all live spots, each once
+pub record AllLive (t : List ℕ) (ss : List PlainSpot) : Type 0 where
+  pub rise : InOrder placeBefore ss
+  pub each : (s : PlainSpot) → List·Memᴰ s ss ↔ LiveSpot t s
+
+-- "Report(x1, x2, y) gives all live spots with x1 ≤ place ≤ x2 and rank ≥ y, rising in place order"; it "holds each live spot of its range once, and
+-- nothing else"
+pub record ReportOf (x1 x2 y : ℤ) (t : List ℕ) (given : List PlainSpot) : Type 0 where
+  pub rise : InOrder placeBefore given
+  pub each : (s : PlainSpot) → List·Memᴰ s given ↔ (OfPlaces x1 x2 t s × (leZ y (s .rank) ≡ true))
+
+-- "Top(x1, x2, k) gives, of the live spots with x1 ≤ place ≤ x2, the k highest in rank order (all, if fewer), highest first"
+pub record TopOf (x1 x2 : ℤ) (k : ℕ) (t : List ℕ) (given : List PlainSpot) : Type 0 where
+  pub fall : InOrder rankHigher given
+  pub wanted : (s : PlainSpot) → List·Memᴰ s given → OfPlaces x1 x2 t s
+  pub most : length given ≤ k
+  pub all : length given < k → (s : PlainSpot) → OfPlaces x1 x2 t s → List·Memᴰ s given
+  pub highest : (s : PlainSpot) → OfPlaces x1 x2 t s → (List·Memᴰ s given → ⊥) → (r : PlainSpot) → List·Memᴰ r given → rankHigher r s ≡ true
+
+-- what a query answers and leaves of the output, where these are its spots
+pub record HandedOut (given : List PlainSpot) (out : List ℕ) (r : Answer) (out′ : List ℕ) : Type 0 where
+  -- 0, or 5: "more spots than output length div 12", with their number as the detail
+  pub answer : r ≡ spotsAnswer (length out) (length given)
+  -- "Accepted output is the spots, 12 bytes each as on the card, the rest of the output unchanged"
+  pub output : r .number ≡ 0 → out′ ≡ asBytes given ++ drop (12 * length given) out
+  pub refused : (r .number ≡ 0 → ⊥) → out′ ≡ out
+
+-- "Capacity is 16 spots for each block after block 0": so many are live
+pub record AtCapacity (t : List ℕ) : Type 0 where
+  pub spots : List PlainSpot
+  pub allLive : AllLive t spots
+  pub many : length spots ≡ 16 * (length t / 2048 - 1)
+
+-- "Add puts the spot in; one of the same identity is replaced"
+pub record AddedTo (place rank : ℤ) (track : ℕ) (t : List ℕ) (r : Answer) (t′ : List ℕ) : Type 0 where
+  -- 4: "capacity live spots and the identity not live"
+  pub full : (r .number ≡ 4) ↔ (AtCapacity t × ((s : PlainSpot) → LiveSpot t s → hasIdentity place rank s ≡ false))
+  pub accepted : (r .number ≡ 4 → ⊥) → r .number ≡ 0
+  pub after : r .number ≡ 0 → (s : PlainSpot)
+      → LiveSpot t′ s ↔ ((s ≡ record { place = place; rank = rank; track = track }) ⊎ (LiveSpot t s × (hasIdentity place rank s ≡ false)))
+  pub refused : (r .number ≡ 0 → ⊥) → t′ ≡ t
+  pub staysSound : sound t′ ≡ true
+
+-- "Withdraw takes out the spot of that identity; where there is none the set is unchanged and the call is accepted"
+pub record WithdrawnFrom (place rank : ℤ) (t : List ℕ) (r : Answer) (t′ : List ℕ) : Type 0 where
+  pub accepted : r .number ≡ 0
+  pub after : (s : PlainSpot) → LiveSpot t′ s ↔ (LiveSpot t s × (hasIdentity place rank s ≡ false))
+  pub staysSound : sound t′ ≡ true
+
+-- a sound table, arguments within their 32 bits, and lengths that are not refused
+pub record OnSound (c : Call) (t out map w : List ℕ) : Type 0 where
+  pub table : sound t ≡ true
+  pub arguments : argumentsFit c ≡ true
+  pub lent : lengthNumber (lengths t out map w) c ≡ 0
+
+-- Demand 2: "On every sound table, addition, withdrawal, report and top k do what the paper's four definitions say of the live spots. A report holds each
+-- live spot of its range once, and nothing else. The paper's search has no upper limit of rank, and since no tour uses one, none shall be added."
+pub record Demand2 : Type 0 where
+  pub adds : (place rank : ℤ) (track : ℕ) (t w : List ℕ) (r : Answer) (t′ w′ : List ℕ) → OnSound (add place rank track) t [] [] w
+      → AddPost place rank track t w r t′ w′
+      → AddedTo place rank track t r t′
+  pub withdraws : (place rank : ℤ) (t w : List ℕ) (r : Answer) (t′ w′ : List ℕ) → OnSound (withdraw place rank) t [] [] w
+      → WithdrawPost place rank t w r t′ w′
+      → WithdrawnFrom place rank t r t′
+  pub reports : (x1 x2 y : ℤ) (t out map : List ℕ) (r : Answer) (out′ map′ : List ℕ) → OnSound (report x1 x2 y) t out map []
+      → ReportPost x1 x2 y t out map r out′ map′
+      → (given : List PlainSpot) × ReportOf x1 x2 y t given × HandedOut given out r out′
+  pub tops : (x1 x2 : ℤ) (k : ℕ) (t out map : List ℕ) (r : Answer) (out′ map′ : List ℕ) → OnSound (top x1 x2 k) t out map []
+      → TopPost x1 x2 k t out map r out′ map′
+      → (given : List PlainSpot) × TopOf x1 x2 k t given × HandedOut given out r out′
