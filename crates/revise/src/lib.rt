@@ -15,6 +15,24 @@ ghost use Rattle.tree.specs.Walk.{liveSpots, liveCount};
 ghost use Rattle.lookup.specs.Answers.{lookedUp};
 ghost use Rattle.lookup.specs.declared.Looked.the-variants.{Nothing};
 ghost use Rattle.revise.specs.Revising.{Lent, Within, Revised};
+ghost use Rattle.revise.specs.Steps.{stepAfter};
+
+// What follows a change to the tree: the call answers with this number, or the live spots are laid out anew.
+pub enum Step {
+    Answer(u32),
+    Anew,
+}
+
+// A block on the way down that breaks a rule is answered, and nothing is laid out anew from such a table.
+fn step_after(o: change::Outcome) -> Step
+    ensures { λ r. ⌜ r ≡ stepAfter o ⌝ }
+{
+    match o {
+        change::Outcome::Done => Step::Answer(0),
+        change::Outcome::Broken => Step::Answer(3),
+        change::Outcome::NoRoom => Step::Anew,
+    }
+}
 
 // The spot put in, where the live spots are then no more than the bound.
 fn put_within(table: &mut [u8], scratch: &mut [u8], s: spot::Spot, bound: u64) -> u32
@@ -23,10 +41,9 @@ fn put_within(table: &mut [u8], scratch: &mut [u8], s: spot::Spot, bound: u64) -
 {
     let one = buffer::push(buffer::empty(), s);
     let none = buffer::empty_keys();
-    match change::change(table, scratch, one, none, bound) {
-        change::Outcome::Done => 0,
-        change::Outcome::Broken => 3,
-        change::Outcome::NoRoom => {
+    match step_after(change::change(table, scratch, one, none, bound)) {
+        Step::Answer(number) => number,
+        Step::Anew => {
             if renew::with_spot(table, scratch, s) {
                 return 0;
             }
@@ -85,10 +102,9 @@ fn take_within(table: &mut [u8], scratch: &mut [u8], k: u64, bound: u64) -> u32
 {
     let none = buffer::empty();
     let one = buffer::push_key(buffer::empty_keys(), k);
-    match change::change(table, scratch, none, one, bound) {
-        change::Outcome::Done => 0,
-        change::Outcome::Broken => 3,
-        change::Outcome::NoRoom => {
+    match step_after(change::change(table, scratch, none, one, bound)) {
+        Step::Answer(number) => number,
+        Step::Anew => {
             if renew::without_key(table, scratch, k) {
                 return 0;
             }
