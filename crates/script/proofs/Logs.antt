@@ -8,7 +8,7 @@ use lib.ListN.{length, take, drop}
 use Rattle.block.specs.declared.Answer.{Answer}
 use Rattle.tree.specs.Sound.{sound}
 use Rattle.table.specs.Calls.{Call, format, add, withdraw, report, top, count, check, rebuild, Lengths}
-use Rattle.table.specs.Model.{PlainSpot, Reply, takenOut, broughtIn, asBytes, outputAfter, refuse, accept, badTable, shortScratch, full, reply, fourBytes}
+use Rattle.table.specs.Model.{PlainSpot, Plain, begunEmpty, Reply, takenOut, broughtIn, asBytes, outputAfter, refuse, accept, badTable, shortScratch, full, reply, fourBytes}
 use Rattle.table.specs.History.{Event, History, AllAgreed, isQuery, replyIn}
 use Rattle.script.specs.Script.{Step, lentTo, logAfter}
 use Rattle.script.specs.Run.{entry, Held, heldAfter, passed, outputOf, InTurn, AllInTurn, entries}
@@ -16,35 +16,35 @@ use Rattle.script.proofs.Fronts.{drop-lent}
 
 -- ---- a call that is no query hands out nothing
 
-unless-refused : (b : Bool) (number detail : ℕ) (ss : List PlainSpot) (r : Reply) → r .given ≡ [] → cond b (refuse number detail ss) r .given ≡ []
+unless-refused : (b : Bool) (number detail : ℕ) (ps : Plain) (r : Reply) → r .given ≡ [] → cond b (refuse number detail ps) r .given ≡ []
 unfolding refuse
-unless-refused true number detail ss r e = refl
-unless-refused false number detail ss r e = e
+unless-refused true number detail ps r e = refl
+unless-refused false number detail ps r e = e
 
-accepts-none : (detail : ℕ) (ss : List PlainSpot) → accept detail [] ss .given ≡ []
+accepts-none : (detail : ℕ) (ps : Plain) → accept detail [] ps .given ≡ []
 unfolding accept
-accepts-none detail ss = refl
+accepts-none detail ps = refl
 
 -- 2 for want of scratch, where the table is right
-lent-scratch : (l : Lengths) (ss : List PlainSpot) (r : Reply) → r .given ≡ []
-    → cond (badTable (l .table)) (refuse 1 0 ss) (cond (shortScratch l) (refuse 2 0 ss) r) .given ≡ []
-lent-scratch l ss r e =
-    unless-refused (badTable (l .table)) 1 0 ss (cond (shortScratch l) (refuse 2 0 ss) r) (unless-refused (shortScratch l) 2 0 ss r e)
+lent-scratch : (l : Lengths) (ps : Plain) (r : Reply) → r .given ≡ []
+    → cond (badTable (l .table)) (refuse 1 0 ps) (cond (shortScratch l) (refuse 2 0 ps) r) .given ≡ []
+lent-scratch l ps r e =
+    unless-refused (badTable (l .table)) 1 0 ps (cond (shortScratch l) (refuse 2 0 ps) r) (unless-refused (shortScratch l) 2 0 ps r e)
 
-hands-none : (l : Lengths) (c : Call) (ss : List PlainSpot) → isQuery c ≡ false → reply l c ss .given ≡ []
+hands-none : (l : Lengths) (c : Call) (ps : Plain) → isQuery c ≡ false → reply l c ps .given ≡ []
 unfolding reply
-hands-none l format ss q = unless-refused (badTable (l .table)) 1 0 ss (accept 0 [] []) (accepts-none 0 [])
-hands-none l (add place rank track) ss q =
-    let after : List PlainSpot = broughtIn (record { place = place; rank = rank; track = track }) ss in
-    lent-scratch l ss (cond (full (l .table) place rank ss) (refuse 4 0 ss) (accept 0 [] after))
-    (unless-refused (full (l .table) place rank ss) 4 0 ss (accept 0 [] after) (accepts-none 0 after))
-hands-none l (withdraw place rank) ss q =
-    lent-scratch l ss (accept 0 [] (takenOut place rank ss)) (accepts-none 0 (takenOut place rank ss))
-hands-none l (report x1 x2 y) ss q = absurd (true≢false q)
-hands-none l (top x1 x2 k) ss q = absurd (true≢false q)
-hands-none l count ss q = unless-refused (badTable (l .table)) 1 0 ss (accept (length ss) [] ss) (accepts-none (length ss) ss)
-hands-none l check ss q = unless-refused (badTable (l .table)) 1 0 ss (accept 1 [] ss) (accepts-none 1 ss)
-hands-none l rebuild ss q = lent-scratch l ss (accept 0 [] ss) (accepts-none 0 ss)
+hands-none l format ps q = unless-refused (badTable (l .table)) 1 0 ps (accept 0 [] begunEmpty) (accepts-none 0 begunEmpty)
+hands-none l (add place rank track) ps q =
+    let after : Plain = record { spots = broughtIn (record { place = place; rank = rank; track = track }) (ps .spots) } in
+    lent-scratch l ps (cond (full (l .table) place rank (ps .spots)) (refuse 4 0 ps) (accept 0 [] after))
+    (unless-refused (full (l .table) place rank (ps .spots)) 4 0 ps (accept 0 [] after) (accepts-none 0 after))
+hands-none l (withdraw place rank) ps q =
+    let after : Plain = record { spots = takenOut place rank (ps .spots) } in lent-scratch l ps (accept 0 [] after) (accepts-none 0 after)
+hands-none l (report x1 x2 y) ps q = absurd (true≢false q)
+hands-none l (top x1 x2 k) ps q = absurd (true≢false q)
+hands-none l count ps q = unless-refused (badTable (l .table)) 1 0 ps (accept (length (ps .spots)) [] ps) (accepts-none (length (ps .spots)) ps)
+hands-none l check ps q = unless-refused (badTable (l .table)) 1 0 ps (accept 1 [] ps) (accepts-none 1 ps)
+hands-none l rebuild ps q = lent-scratch l ps (accept 0 [] ps) (accepts-none 0 ps)
 
 output-stays : (r : Reply) (out : List ℕ) → r .given ≡ [] → outputAfter r out ≡ out
 unfolding outputAfter
@@ -60,28 +60,28 @@ module _ (l : Lengths) where
   history-of h (c ∷ cs) (e ∷ es) a = (a .0 .called .fit, a .0 .called .met, history-of (passed (l .output) h e) cs es (a .1))
 
   -- the last table is sound
-  pub ends-sound : (h : Held) (ss : List PlainSpot) (es : List Event) → sound (h .table) ≡ true → AllAgreed (h .table) ss es
+  pub ends-sound : (h : Held) (ps : Plain) (es : List Event) → sound (h .table) ≡ true → AllAgreed (h .table) ps es
       → sound (heldAfter (l .output) h es .table) ≡ true
-  ends-sound h ss [] s g = s
-  ends-sound h ss (e ∷ es) s g = ends-sound (passed (l .output) h e) (replyIn (e .call) (h .table) ss e .next) es (g .0 .staysSound) (g .3)
+  ends-sound h ps [] s g = s
+  ends-sound h ps (e ∷ es) s g = ends-sound (passed (l .output) h e) (replyIn (e .call) (h .table) ps e .next) es (g .0 .staysSound) (g .3)
 
-  module _ (h : Held) (ss : List PlainSpot) (c : Step) (e : Event) (i : InTurn l h c e) where
-    reply-is : replyIn (e .call) (h .table) ss e ≡ reply (lentTo c l) (c .call) ss
-    reply-is = ap₂ (λ (k : Lengths) (x : Call). reply k x ss) (i .lent) (i .call)
+  module _ (h : Held) (ps : Plain) (c : Step) (e : Event) (i : InTurn l h c e) where
+    reply-is : replyIn (e .call) (h .table) ps e ≡ reply (lentTo c l) (c .call) ps
+    reply-is = ap₂ (λ (k : Lengths) (x : Call). reply k x ps) (i .lent) (i .call)
 
     -- the output of any call is left as the model says
-    output-left : (isQuery (e .call) ≡ true → e .output′ ≡ outputAfter (replyIn (e .call) (h .table) ss e) (e .output))
-        → e .output′ ≡ outputAfter (replyIn (e .call) (h .table) ss e) (e .output)
+    output-left : (isQuery (e .call) ≡ true → e .output′ ≡ outputAfter (replyIn (e .call) (h .table) ps e) (e .output))
+        → e .output′ ≡ outputAfter (replyIn (e .call) (h .table) ps e) (e .output)
     output-left p = go (isQuery (e .call)) refl
       where
-        go : (b : Bool) → isQuery (e .call) ≡ b → e .output′ ≡ outputAfter (replyIn (e .call) (h .table) ss e) (e .output)
+        go : (b : Bool) → isQuery (e .call) ≡ b → e .output′ ≡ outputAfter (replyIn (e .call) (h .table) ps e) (e .output)
         go true q = p q
-        go false q = i .called .outputKept q ∙ sym (output-stays (replyIn (e .call) (h .table) ss e) (e .output) (hands-none _ (e .call) ss q))
+        go false q = i .called .outputKept q ∙ sym (output-stays (replyIn (e .call) (h .table) ps e) (e .output) (hands-none _ (e .call) ps q))
 
     -- the model's entry for its step
     due : List ℕ
     due =
-        let r = reply (lentTo c l) (c .call) ss in
+        let r = reply (lentTo c l) (c .call) ps in
         fourBytes (r .answer .number) ++ fourBytes (r .answer .detail) ++
         (outputAfter r (take (c .output) (outputOf (l .output) h)) ++ drop (c .output) (outputOf (l .output) h))
 
@@ -89,7 +89,7 @@ module _ (l : Lengths) where
     rest-is : drop (length (e .output)) (outputOf (l .output) h) ≡ drop (c .output) (outputOf (l .output) h)
     rest-is = ap (λ (x : List ℕ). drop (length x) (outputOf (l .output) h)) (i .output) ∙ drop-lent (c .output) (outputOf (l .output) h)
 
-    entry-due : e .answer ≡ replyIn (e .call) (h .table) ss e .answer → e .output′ ≡ outputAfter (replyIn (e .call) (h .table) ss e) (e .output)
+    entry-due : e .answer ≡ replyIn (e .call) (h .table) ps e .answer → e .output′ ≡ outputAfter (replyIn (e .call) (h .table) ps e) (e .output)
         → entry (outputOf (l .output) h) e ≡ due
     unfolding due
     entry-due p o =
@@ -98,16 +98,16 @@ module _ (l : Lengths) where
         (ap₂ (λ (x y : List ℕ). x ++ y) (o ∙ ap₂ (λ (r : Reply) (x : List ℕ). outputAfter r x) reply-is (i .output)) rest-is)
 
   -- a run whose events all agree with the model writes the model's log
-  pub as-model : (h : Held) (ss : List PlainSpot) (cs : List Step) (es : List Event) → AllInTurn l h cs es → AllAgreed (h .table) ss es
-      → entries (l .output) h es ++ heldAfter (l .output) h es .log ≡ logAfter l cs ss (h .log)
+  pub as-model : (h : Held) (ps : Plain) (cs : List Step) (es : List Event) → AllInTurn l h cs es → AllAgreed (h .table) ps es
+      → entries (l .output) h es ++ heldAfter (l .output) h es .log ≡ logAfter l cs ps (h .log)
   unfolding due
-  as-model h ss [] [] a g = refl
-  as-model h ss [] (e ∷ es) a g = absurd a
-  as-model h ss (c ∷ cs) [] a g = absurd a
-  as-model h ss (c ∷ cs) (e ∷ es) a g =
+  as-model h ps [] [] a g = refl
+  as-model h ps [] (e ∷ es) a g = absurd a
+  as-model h ps (c ∷ cs) [] a g = absurd a
+  as-model h ps (c ∷ cs) (e ∷ es) a g =
       let room : ℕ = 8 + l .output in
       let rest : Held = passed (l .output) h e in
       append-assoc (entry (outputOf (l .output) h) e) (entries (l .output) rest es) (heldAfter (l .output) rest es .log)
-      ∙ ap₂ (λ (x y : List ℕ). x ++ y) (entry-due h ss c e (a .0) (g .0 .answer) (output-left h ss c e (a .0) (g .0 .output)))
-      (as-model rest (replyIn (e .call) (h .table) ss e .next) cs es (a .1) (g .3)
-      ∙ ap (λ (r : Reply). logAfter l cs (r .next) (drop room (h .log))) (reply-is h ss c e (a .0)))
+      ∙ ap₂ (λ (x y : List ℕ). x ++ y) (entry-due h ps c e (a .0) (g .0 .answer) (output-left h ps c e (a .0) (g .0 .output)))
+      (as-model rest (replyIn (e .call) (h .table) ps e .next) cs es (a .1) (g .3)
+      ∙ ap (λ (r : Reply). logAfter l cs (r .next) (drop room (h .log))) (reply-is h ps c e (a .0)))

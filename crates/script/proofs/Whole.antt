@@ -15,6 +15,7 @@ use Rattle.block.specs.Fresh.{formatted}
 use Rattle.tree.specs.Sound.{sound}
 use Rattle.tree.proofs.Fresh.{fresh-sized, fresh-sound}
 use Rattle.table.specs.Calls.{Lengths}
+use Rattle.table.specs.Model.{begunEmpty}
 use Rattle.table.specs.History.{History}
 use Rattle.table.proofs.Demand.{demand3}
 use Rattle.script.specs.Script.{callsIn, stepsOf, partOf}
@@ -84,8 +85,8 @@ module _ (script t w m log t′ w′ m′ log′ : List ℕ) (sized : tableSized
       record {
         runs = sym (and-both (tableSized (length t)) (leb 8 (partIn script log)) sized (ap (leb 8) (sym ep) ∙ le-leb 8 part p));
         refused = λ e. absurd (true≢false e);
-        answers = λ e. k .run .log ∙ as-model l h [] (stepsOf script (callsIn script)) (k .run .events) (k .run .inTurn) (k .agreed);
-        staysSound = λ e. ap sound (k .run .table) ∙ ends-sound l h [] (k .run .events) (fresh-sound (length t) sized) (k .agreed);
+        answers = λ e. k .run .log ∙ as-model l h begunEmpty (stepsOf script (callsIn script)) (k .run .events) (k .run .inTurn) (k .agreed);
+        staysSound = λ e. ap sound (k .run .table) ∙ ends-sound l h begunEmpty (k .run .events) (fresh-sound (length t) sized) (k .agreed);
         sameLengths = (nt, nw, nm, nl);
         happened = λ e. k;
       }

@@ -8,7 +8,7 @@ use lib.ListN.{replicate}
 use lib.IntN.{pos, negsuc}
 use Rattle.octets.specs.Bytes.{be}
 use Rattle.table.specs.Calls.{Call, add, report, count, Lengths}
-use Rattle.table.specs.Model.{eqZ, hasIdentity, placeBefore, ofPlaces, ofReport, takenOut, broughtIn, fourBytes, complement, outputAfter, refuse, accept, badTable, badMap, shortScratch, full, handOut, reply}
+use Rattle.table.specs.Model.{begunEmpty, eqZ, hasIdentity, placeBefore, ofPlaces, ofReport, takenOut, broughtIn, fourBytes, complement, outputAfter, refuse, accept, badTable, badMap, shortScratch, full, handOut, reply}
 use Rattle.script.specs.Script.{Step, callsIn, callOf, callAt, stepAt, stepsOf, partOf, logAfter}
 
 -- 65,536 bytes are more than the run has of anything
@@ -53,7 +53,7 @@ part = refl
 sizes : Lengths
 sizes = record { table = 18432; output = 17; readMap = 512; scratch = 18432 }
 
-model-log : logAfter sizes steps [] (replicate 151 1)
+model-log : logAfter sizes steps begunEmpty (replicate 151 1)
     ≡ (0 ∷ 0 ∷ 0 ∷ 0 ∷ 0 ∷ 0 ∷ 0 ∷ 0 ∷ [])
     ++ replicate 17 1
     ++ (0 ∷ 0 ∷ 0 ∷ 2 ∷ 0 ∷ 0 ∷ 0 ∷ 0 ∷ [])

@@ -12,7 +12,7 @@ use Rattle.block.specs.Fresh.{formatted}
 use Rattle.tree.specs.Sound.{sound}
 use Rattle.table.specs.Calls.{Call, format, add, withdraw, report, top, count, check, rebuild, Lengths, argumentsFit}
 use Rattle.table.specs.Answers.{lengths}
-use Rattle.table.specs.Model.{fourBytes}
+use Rattle.table.specs.Model.{begunEmpty, fourBytes}
 use Rattle.table.specs.History.{Event, MetBy, History, AllAgreed, isQuery}
 use Rattle.script.specs.Script.{Step, callsIn, stepsOf, lentTo, partOf, logAfter}
 
@@ -133,14 +133,14 @@ partIn script log = partOf (length log) (callsIn script)
 pub record Happened (script t w m log t′ w′ m′ log′ : List ℕ) : Type 0 where
   pub run : Run script (callsIn script) (lengthsIn t w m (partIn script log)) (held (formatted (length t)) w m log) t′ w′ m′ log′
   pub history : History (formatted (length t)) (run .events)
-  pub agreed : AllAgreed (formatted (length t)) [] (run .events)
+  pub agreed : AllAgreed (formatted (length t)) begunEmpty (run .events)
 
 -- a script was run, from an empty table on, or refused. It is refused where the table has no size that Format accepts, and where a part of the log is too
 -- short for an answer.
 pub record Ran (script t w m log t′ w′ m′ log′ : List ℕ) (r : Bool) : Type 0 where
   pub runs : r ≡ (tableSized (length t) && leb 8 (partIn script log))
   pub refused : r ≡ false → (t′ ≡ t) × (w′ ≡ w) × (m′ ≡ m) × (log′ ≡ log)
-  pub answers : r ≡ true → log′ ≡ logAfter (lengthsIn t w m (partIn script log)) (stepsOf script (callsIn script)) [] log
+  pub answers : r ≡ true → log′ ≡ logAfter (lengthsIn t w m (partIn script log)) (stepsOf script (callsIn script)) begunEmpty log
   pub staysSound : r ≡ true → sound t′ ≡ true
   pub sameLengths : (length t′ ≡ length t) × (length w′ ≡ length w) × (length m′ ≡ length m) × (length log′ ≡ length log)
   pub happened : r ≡ true → Happened script t w m log t′ w′ m′ log′

@@ -10,7 +10,7 @@ use mir.Val.{toZ}
 use Rattle.octets.specs.Bytes.{be}
 use Rattle.octets.specs.Lists.{records}
 use Rattle.table.specs.Calls.{Call, format, add, withdraw, report, top, count, check, rebuild, Lengths}
-use Rattle.table.specs.Model.{PlainSpot, reply, outputAfter, fourBytes}
+use Rattle.table.specs.Model.{Plain, reply, outputAfter, fourBytes}
 
 -- a call is 28 bytes; fewer at the end are no call
 abbrev pub callsIn : List ℕ → ℕ
@@ -56,12 +56,12 @@ lentTo c l =
 unfoldable pub partOf : ℕ → ℕ → ℕ
 partOf bytes n = cond (eqb n 0) 8 (bytes / n)
 
--- the model's log of these steps, begun with the spots ss, where the run has the lengths l: in each part the answer's number and detail, then the output as the
+-- the model's log of these steps, begun with ps, where the run has the lengths l: in each part the answer's number and detail, then the output as the
 -- call leaves it; the bytes of the part that it isn't lent stay as they were
-abbrev pub logAfter : Lengths → List Step → List PlainSpot → List ℕ → List ℕ
-logAfter l [] ss log = log
-logAfter l (c ∷ cs) ss log =
-    let r = reply (lentTo c l) (c .call) ss in
+abbrev pub logAfter : Lengths → List Step → Plain → List ℕ → List ℕ
+logAfter l [] ps log = log
+logAfter l (c ∷ cs) ps log =
+    let r = reply (lentTo c l) (c .call) ps in
     let output = take (l .output) (drop 8 log) in
     fourBytes (r .answer .number) ++ fourBytes (r .answer .detail) ++ (outputAfter r (take (c .output) output) ++ drop (c .output) output) ++
     logAfter l cs (r .next) (drop (8 + l .output) log)

@@ -14,7 +14,7 @@ use Rattle.tree.specs.Sound.{sound}
 use Rattle.tree.specs.Walk.{liveSpots}
 use Rattle.table.specs.Calls.{Call, format, add, withdraw, report, top, count, check, rebuild, argumentsFit}
 use Rattle.table.specs.Answers.{lengths}
-use Rattle.table.specs.Model.{PlainSpot, outputAfter}
+use Rattle.table.specs.Model.{Plain, begunEmpty, outputAfter}
 use Rattle.table.specs.History.{Event, MetBy, History, Agreed, FullExactly, MarksExactly, AllAgreed, Demand3, replyIn}
 use Rattle.tree.proofs.Fresh.{fresh-sized, fresh-sound, fresh-empty}
 use Rattle.octets.proofs.Tests.{and-left, and-right}
@@ -46,26 +46,26 @@ tree-laws =
     }
 
 -- the claim of one call, where the model holds the live spots
-record Step (t : List ℕ) (ss : List PlainSpot) (e : Event) : Type 0 where
-  agreed : Agreed (e .call) t (replyIn (e .call) t ss e .answer) (outputAfter (replyIn (e .call) t ss e) (e .output)) e
+record Step (t : List ℕ) (ps : Plain) (e : Event) : Type 0 where
+  agreed : Agreed (e .call) t (replyIn (e .call) t ps e .answer) (outputAfter (replyIn (e .call) t ps e) (e .output)) e
   sized : length (e .table′) ≡ length t
-  holds : keyed (replyIn (e .call) t ss e .next) ≡ liveSpots (e .table′)
-  fit : AllFit (replyIn (e .call) t ss e .next)
-  full : FullExactly (e .call) t ss e
-  held : length (replyIn (e .call) t ss e .next) ≤ 16 * (length (e .table′) / 2048 - 1)
+  holds : keyed (replyIn (e .call) t ps e .next .spots) ≡ liveSpots (e .table′)
+  fit : AllFit (replyIn (e .call) t ps e .next .spots)
+  full : FullExactly (e .call) t ps e
+  held : length (replyIn (e .call) t ps e .next .spots) ≤ 16 * (length (e .table′) / 2048 - 1)
 
-full-exactly : (c : Call) (t : List ℕ) (ss : List PlainSpot) (e : Event) → tableSized (length t) ≡ true → length ss ≤ 16 * (length t / 2048 - 1)
-    → e .answer ≡ replyIn c t ss e .answer
-    → FullExactly c t ss e
-full-exactly format t ss e z h a = tt
-full-exactly (add place rank track) t ss e z h a =
-    λ w. rw a (says-full (lengths t (e .output) (e .readMap) (e .scratch)) place rank track ss (bad-table (length t) ∙ ap not z) w h)
-full-exactly (withdraw place rank) t ss e z h a = tt
-full-exactly (report x1 x2 y) t ss e z h a = tt
-full-exactly (top x1 x2 k) t ss e z h a = tt
-full-exactly count t ss e z h a = tt
-full-exactly check t ss e z h a = tt
-full-exactly rebuild t ss e z h a = tt
+full-exactly : (c : Call) (t : List ℕ) (ps : Plain) (e : Event) → tableSized (length t) ≡ true → length (ps .spots) ≤ 16 * (length t / 2048 - 1)
+    → e .answer ≡ replyIn c t ps e .answer
+    → FullExactly c t ps e
+full-exactly format t ps e z h a = tt
+full-exactly (add place rank track) t ps e z h a =
+    λ w. rw a (says-full (lengths t (e .output) (e .readMap) (e .scratch)) place rank track ps (bad-table (length t) ∙ ap not z) w h)
+full-exactly (withdraw place rank) t ps e z h a = tt
+full-exactly (report x1 x2 y) t ps e z h a = tt
+full-exactly (top x1 x2 k) t ps e z h a = tt
+full-exactly count t ps e z h a = tt
+full-exactly check t ps e z h a = tt
+full-exactly rebuild t ps e z h a = tt
 
 marks-exactly : (c : Call) (t : List ℕ) (e : Event) → sound t ≡ true → argumentsFit c ≡ true → MetBy c t e → MarksExactly c t e
 unfolding argumentsFit
@@ -85,14 +85,14 @@ marks-exactly count t e s a p = tt
 marks-exactly check t e s a p = tt
 marks-exactly rebuild t e s a p = tt
 
-one-step : (t : List ℕ) (ss : List PlainSpot) (e : Event) → tableSized (length t) ≡ true → sound t ≡ true → keyed ss ≡ liveSpots t → AllFit ss
-    → length ss ≤ 16 * (length t / 2048 - 1)
+one-step : (t : List ℕ) (ps : Plain) (e : Event) → tableSized (length t) ≡ true → sound t ≡ true → keyed (ps .spots) ≡ liveSpots t → AllFit (ps .spots)
+    → length (ps .spots) ≤ 16 * (length t / 2048 - 1)
     → argumentsFit (e .call) ≡ true
     → MetBy (e .call) t e
-    → Step t ss e
-one-step t ss e z s same fit h a m =
+    → Step t ps e
+one-step t ps e z s same fit h a m =
     let k = step tree-laws (e .call) t e z s m in
-    let alike = subst (λ (l : List Spot). Like (replyIn (e .call) t ss e) (keyReplyIn (e .call) t l e)) same (like _ (e .call) ss a fit) in
+    let alike = subst (λ (l : List Spot). Like (replyIn (e .call) t ps e) (keyReplyIn (e .call) t l e)) same (like _ (e .call) ps a fit) in
     record {
       agreed =
           record {
@@ -105,21 +105,21 @@ one-step t ss e z s same fit h a m =
       sized = k .sized;
       holds = alike .next ∙ k .next;
       fit = alike .fit;
-      full = full-exactly (e .call) t ss e z h (k .agreed .answer ∙ sym (alike .answer));
-      held = rw (k .sized) (stays-held (length t) (lengths t (e .output) (e .readMap) (e .scratch)) refl (e .call) ss h);
+      full = full-exactly (e .call) t ps e z h (k .agreed .answer ∙ sym (alike .answer));
+      held = rw (k .sized) (stays-held (length t) (lengths t (e .output) (e .readMap) (e .scratch)) refl (e .call) ps h);
     }
 
 -- a whole history, from any sound table and a model that holds its live spots
-all-agreed : (t : List ℕ) (ss : List PlainSpot) (es : List Event) → tableSized (length t) ≡ true → sound t ≡ true → keyed ss ≡ liveSpots t → AllFit ss
-    → length ss ≤ 16 * (length t / 2048 - 1)
+all-agreed : (t : List ℕ) (ps : Plain) (es : List Event) → tableSized (length t) ≡ true → sound t ≡ true → keyed (ps .spots) ≡ liveSpots t → AllFit (ps .spots)
+    → length (ps .spots) ≤ 16 * (length t / 2048 - 1)
     → History t es
-    → AllAgreed t ss es
-all-agreed t ss [] z s same fit n h = tt
-all-agreed t ss (e ∷ es) z s same fit n h =
-    let k = one-step t ss e z s same fit n (h .0) (h .1) in
+    → AllAgreed t ps es
+all-agreed t ps [] z s same fit n h = tt
+all-agreed t ps (e ∷ es) z s same fit n h =
+    let k = one-step t ps e z s same fit n (h .0) (h .1) in
     (k .agreed, k .full, marks-exactly (e .call) t e s (h .0) (h .1), all-agreed (e .table′) _ es (ap tableSized (k .sized) ∙ z) (k .agreed .staysSound) (k .holds) (k .fit) (k .held) (h .2))
 
 -- every history of calls that keep their promises, from a formatted table on, answers as the model does
 pub demand3 : Demand3
 demand3 bytes z es h =
-    all-agreed (formatted bytes) [] es (ap tableSized (fresh-sized bytes z) ∙ z) (fresh-sound bytes z) (sym (fresh-empty bytes z)) tt (omega arith) h
+    all-agreed (formatted bytes) begunEmpty es (ap tableSized (fresh-sized bytes z) ∙ z) (fresh-sound bytes z) (sym (fresh-empty bytes z)) tt (omega arith) h

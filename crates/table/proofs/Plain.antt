@@ -22,7 +22,7 @@ use Rattle.tree.specs.Lookup.{isLive}
 use Rattle.table.specs.Calls.{Call, format, add, withdraw, report, top, count, check, rebuild, Lengths, argumentsFit}
 use Rattle.revise.specs.Numbers.{addNumber}
 use Rattle.table.specs.Answers.{lengthNumber, spotsAnswer, outputLeft}
-use Rattle.table.specs.Model.{PlainSpot, hasIdentity, placeBefore, rankHigher, ofPlaces, ofReport, chosen, insertBy, sortBy, listed, takenOut, broughtIn, highest, fourBytes, complement, asBytes, Reply, outputAfter, refuse, accept, badTable, badMap, shortScratch, full, handOut, reply}
+use Rattle.table.specs.Model.{PlainSpot, hasIdentity, placeBefore, rankHigher, ofPlaces, ofReport, chosen, insertBy, sortBy, listed, takenOut, broughtIn, highest, fourBytes, complement, asBytes, Plain, begunEmpty, Reply, outputAfter, refuse, accept, badTable, badMap, shortScratch, full, handOut, reply}
 use Rattle.table.proofs.Keyed.{KeyReply, keyReply, replyTo, refusedOr, accepted, gives}
 use Rattle.table.proofs.Orders.{model-places, model-ranks, model-identity, four-bytes, key-bytes}
 
@@ -212,35 +212,35 @@ keyed-bytes (s ∷ ss) h = ap₂ (λ (x y : List ℕ). x ++ y) (spot-bytes s (h 
 pub record Like (r : Reply) (k : KeyReply) : Type 0 where
   pub answer : r .answer ≡ k .answer
   pub output : (out : List ℕ) → outputAfter r out ≡ outputLeft (k .answer .number) (k .given) out
-  pub next : keyed (r .next) ≡ k .next
-  pub fit : AllFit (r .next)
+  pub next : keyed (r .next .spots) ≡ k .next
+  pub fit : AllFit (r .next .spots)
 
-like-accept : (d : ℕ) (next : List PlainSpot) → AllFit next → Like (accept d [] next) (accepted d (keyed next))
+like-accept : (d : ℕ) (next : Plain) → AllFit (next .spots) → Like (accept d [] next) (accepted d (keyed (next .spots)))
 unfolding accept accepted outputAfter outputLeft
 like-accept d next f = record { answer = refl; output = λ out. refl; next = refl; fit = f }
 
-like-next : (next : List PlainSpot) (keys : List Spot) → AllFit next → keyed next ≡ keys → Like (accept 0 [] next) (accepted 0 keys)
+like-next : (next : Plain) (keys : List Spot) → AllFit (next .spots) → keyed (next .spots) ≡ keys → Like (accept 0 [] next) (accepted 0 keys)
 like-next next keys f e = rw (← e) (like-accept 0 next f)
 
-module _ (ss : List PlainSpot) (fit : AllFit ss) where
+module _ (ps : Plain) (fit : AllFit (ps .spots)) where
   -- 1 and 2, by the lengths
   like-lengths : (sized lent : Bool) (x : Reply) (y : KeyReply) → Like x y
-      → Like (cond (not sized) (refuse 1 0 ss) (cond (not lent) (refuse 2 0 ss) x)) (refusedOr (cond sized (cond lent 0 2) 1) (keyed ss) y)
+      → Like (cond (not sized) (refuse 1 0 ps) (cond (not lent) (refuse 2 0 ps) x)) (refusedOr (cond sized (cond lent 0 2) 1) (keyed (ps .spots)) y)
   unfolding refuse refusedOr outputAfter outputLeft
   like-lengths true true x y h = h
   like-lengths true false x y h = record { answer = refl; output = λ out. refl; next = refl; fit = fit }
   like-lengths false lent x y h = record { answer = refl; output = λ out. refl; next = refl; fit = fit }
 
   -- 4
-  like-full : (b : Bool) (x : Reply) (y : KeyReply) → Like x y → Like (cond b (refuse 4 0 ss) x) (refusedOr (cond b 4 0) (keyed ss) y)
+  like-full : (b : Bool) (x : Reply) (y : KeyReply) → Like x y → Like (cond b (refuse 4 0 ps) x) (refusedOr (cond b 4 0) (keyed (ps .spots)) y)
   unfolding refuse refusedOr outputAfter outputLeft
   like-full true x y h = record { answer = refl; output = λ out. refl; next = refl; fit = fit }
   like-full false x y h = h
 
   -- 5
   like-out : (b : Bool) (found : List PlainSpot) → AllFit found
-      → Like (cond b (refuse 5 (length found) ss) (accept (length found) found ss))
-      (record { answer = record { number = cond b 5 0; detail = length found }; given = keyed found; next = keyed ss })
+      → Like (cond b (refuse 5 (length found) ps) (accept (length found) found ps))
+      (record { answer = record { number = cond b 5 0; detail = length found }; given = keyed found; next = keyed (ps .spots) })
   unfolding refuse accept outputAfter outputLeft
   like-out true found f = record { answer = refl; output = λ out. refl; next = refl; fit = fit }
   like-out false found f =
@@ -252,7 +252,7 @@ module _ (ss : List PlainSpot) (fit : AllFit ss) where
       }
 
   like-given : (bytes : ℕ) (found : List PlainSpot) (keys : List Spot) → AllFit found → keyed found ≡ keys
-      → Like (handOut bytes found ss) (gives bytes keys (keyed ss))
+      → Like (handOut bytes found ps) (gives bytes keys (keyed (ps .spots)))
   unfolding handOut gives spotsAnswer
   like-given bytes found keys f e = rw (← e, keyed-length found) (like-out (ltb (bytes / 12) (length found)) found f)
 
@@ -286,34 +286,34 @@ pub two-fit : (x y : ℤ) → signed32 x && signed32 y ≡ true → Fits x × Fi
 two-fit x y a = (signed-fits x (and-left (signed32 x) (signed32 y) a), signed-fits y (and-right (signed32 x) (signed32 y) a))
 
 -- every call is answered alike
-pub like : (l : Lengths) (c : Call) (ss : List PlainSpot) → argumentsFit c ≡ true → AllFit ss → Like (reply l c ss) (keyReply l c (keyed ss))
+pub like : (l : Lengths) (c : Call) (ps : Plain) → argumentsFit c ≡ true → AllFit (ps .spots) → Like (reply l c ps) (keyReply l c (keyed (ps .spots)))
 unfolding reply keyReply replyTo lengthNumber argumentsFit badMap
-like l format ss a h = rw (bad-table (l .table)) (like-lengths ss h (tableSized (l .table)) true _ _ (like-accept 0 [] tt))
-like l (add place rank track) ss a h =
+like l format ps a h = rw (bad-table (l .table)) (like-lengths ps h (tableSized (l .table)) true _ _ (like-accept 0 begunEmpty tt))
+like l (add place rank track) ps a h =
     let f = two-fit place rank (and-left (signed32 place && signed32 rank) (unsigned32 track) a) in
-    rw (bad-table (l .table), short-scratch l, full-number (l .table) place rank ss (f .0) (f .1) h)
-    (like-lengths ss h (tableSized (l .table)) (leb (l .table) (l .scratch)) _ _
-    (like-full ss h (full (l .table) place rank ss) _ _
-    (like-next _ _ (in-fit place rank (f .0) (f .1) track ss h) (keyed-in place rank (f .0) (f .1) track ss h))))
-like l (withdraw place rank) ss a h =
+    rw (bad-table (l .table), short-scratch l, full-number (l .table) place rank (ps .spots) (f .0) (f .1) h)
+    (like-lengths ps h (tableSized (l .table)) (leb (l .table) (l .scratch)) _ _
+    (like-full ps h (full (l .table) place rank (ps .spots)) _ _
+    (like-next _ _ (in-fit place rank (f .0) (f .1) track (ps .spots) h) (keyed-in place rank (f .0) (f .1) track (ps .spots) h))))
+like l (withdraw place rank) ps a h =
     let f = two-fit place rank a in
     rw (bad-table (l .table), short-scratch l)
-    (like-lengths ss h (tableSized (l .table)) (leb (l .table) (l .scratch)) _ _
-    (like-next _ _ (out-fit place rank (f .0) (f .1) ss h) (keyed-out place rank (f .0) (f .1) ss h)))
-like l (report x1 x2 y) ss a h =
+    (like-lengths ps h (tableSized (l .table)) (leb (l .table) (l .scratch)) _ _
+    (like-next _ _ (out-fit place rank (f .0) (f .1) (ps .spots) h) (keyed-out place rank (f .0) (f .1) (ps .spots) h)))
+like l (report x1 x2 y) ps a h =
     let f = two-fit x1 x2 (and-left (signed32 x1 && signed32 x2) (signed32 y) a) in
     let fy = signed-fits y (and-right (signed32 x1 && signed32 x2) (signed32 y) a) in
     rw (bad-table (l .table))
-    (like-lengths ss h (tableSized (l .table)) (eqb (l .readMap) 512) _ _
-    (like-given ss h (l .output) (chosen (ofReport x1 x2 y) ss) _ (chosen-fit (ofReport x1 x2 y) ss h) (keyed-report x1 x2 (f .0) (f .1) y fy ss h)))
-like l (top x1 x2 k) ss a h =
+    (like-lengths ps h (tableSized (l .table)) (eqb (l .readMap) 512) _ _
+    (like-given ps h (l .output) (chosen (ofReport x1 x2 y) (ps .spots)) _ (chosen-fit (ofReport x1 x2 y) (ps .spots) h) (keyed-report x1 x2 (f .0) (f .1) y fy (ps .spots) h)))
+like l (top x1 x2 k) ps a h =
     let f = two-fit x1 x2 (and-left (signed32 x1 && signed32 x2) (unsigned32 k) a) in
     rw (bad-table (l .table))
-    (like-lengths ss h (tableSized (l .table)) (eqb (l .readMap) 512) _ _
-    (like-given ss h (l .output) (highest x1 x2 k ss) _ (highest-fit x1 x2 (f .0) (f .1) k ss h) (keyed-highest x1 x2 (f .0) (f .1) k ss h)))
-like l count ss a h =
-    rw (bad-table (l .table), keyed-length ss) (like-lengths ss h (tableSized (l .table)) true _ _ (like-accept (length ss) ss h))
-like l check ss a h = rw (bad-table (l .table)) (like-lengths ss h (tableSized (l .table)) true _ _ (like-accept 1 ss h))
-like l rebuild ss a h =
+    (like-lengths ps h (tableSized (l .table)) (eqb (l .readMap) 512) _ _
+    (like-given ps h (l .output) (highest x1 x2 k (ps .spots)) _ (highest-fit x1 x2 (f .0) (f .1) k (ps .spots) h) (keyed-highest x1 x2 (f .0) (f .1) k (ps .spots) h)))
+like l count ps a h =
+    rw (bad-table (l .table), keyed-length (ps .spots)) (like-lengths ps h (tableSized (l .table)) true _ _ (like-accept (length (ps .spots)) ps h))
+like l check ps a h = rw (bad-table (l .table)) (like-lengths ps h (tableSized (l .table)) true _ _ (like-accept 1 ps h))
+like l rebuild ps a h =
     rw (bad-table (l .table), short-scratch l)
-    (like-lengths ss h (tableSized (l .table)) (leb (l .table) (l .scratch)) _ _ (like-accept 0 ss h))
+    (like-lengths ps h (tableSized (l .table)) (leb (l .table) (l .scratch)) _ _ (like-accept 0 ps h))

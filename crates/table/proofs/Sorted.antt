@@ -15,7 +15,7 @@ use Rattle.octets.proofs.Tests.{and-left, and-right, and-both, every-mem, every
 use Rattle.octets.proofs.Order.{less-or-not, not-leb}
 use Rattle.spot.specs.Keys.{key, signed32, unsigned32}
 use Rattle.table.specs.Calls.{Call, format, add, withdraw, report, top, count, check, rebuild, Lengths, argumentsFit}
-use Rattle.table.specs.Model.{PlainSpot, hasIdentity, placeBefore, chosen, insertBy, listed, takenOut, broughtIn, Reply, refuse, accept, badTable, badMap, shortScratch, full, handOut, reply}
+use Rattle.table.specs.Model.{PlainSpot, hasIdentity, placeBefore, chosen, insertBy, listed, takenOut, broughtIn, Plain, Reply, refuse, accept, badTable, badMap, shortScratch, full, handOut, reply}
 use Rattle.table.proofs.Plain.{toKeySpot, SpotFits, AllFit, before-keys, identity-key, out-fit, two-fit}
 
 -- each spot comes before all that follow it
@@ -139,43 +139,43 @@ order-once (s ∷ ss) h o = (none-after ss (h .1) (o .0), order-once ss (h .1) (
 
 -- ---- replies
 
-module _ (P : List PlainSpot → Type 0) (ss : List PlainSpot) (kept : P ss) where
+module _ (P : List PlainSpot → Type 0) (ps : Plain) (kept : P (ps .spots)) where
   -- a refusal keeps what holds of the list
-  refused-or : (b : Bool) (n d : ℕ) (r : Reply) → (b ≡ false → P (r .next)) → P (cond b (refuse n d ss) r .next)
+  refused-or : (b : Bool) (n d : ℕ) (r : Reply) → (b ≡ false → P (r .next .spots)) → P (cond b (refuse n d ps) r .next .spots)
   unfolding refuse
   refused-or true n d r h = kept
   refused-or false n d r h = h refl
 
-  or-refuse : (b : Bool) (n d : ℕ) (r : Reply) → P (r .next) → P (cond b (refuse n d ss) r .next)
+  or-refuse : (b : Bool) (n d : ℕ) (r : Reply) → P (r .next .spots) → P (cond b (refuse n d ps) r .next .spots)
   or-refuse b n d r h = refused-or b n d r (λ z. h)
 
-  handed : (bytes : ℕ) (found : List PlainSpot) → P (handOut bytes found ss .next)
+  handed : (bytes : ℕ) (found : List PlainSpot) → P (handOut bytes found ps .next .spots)
   unfolding handOut accept
-  handed bytes found = or-refuse (ltb (bytes / 12) (length found)) 5 (length found) (accept (length found) found ss) kept
+  handed bytes found = or-refuse (ltb (bytes / 12) (length found)) 5 (length found) (accept (length found) found ps) kept
 
 -- "It holds spots, no identity twice": every call keeps the list in place order
-pub stays-in-order : (l : Lengths) (c : Call) (ss : List PlainSpot) → argumentsFit c ≡ true → AllFit ss → InOrder ss → InOrder (reply l c ss .next)
+pub stays-in-order : (l : Lengths) (c : Call) (ps : Plain) → argumentsFit c ≡ true → AllFit (ps .spots) → InOrder (ps .spots) → InOrder (reply l c ps .next .spots)
 unfolding reply argumentsFit accept takenOut broughtIn
-stays-in-order l format ss a h o = or-refuse InOrder ss o (badTable (l .table)) 1 0 _ tt
-stays-in-order l (add place rank track) ss a h o =
+stays-in-order l format ps a h o = or-refuse InOrder ps o (badTable (l .table)) 1 0 _ tt
+stays-in-order l (add place rank track) ps a h o =
     let f = two-fit place rank (and-left (signed32 place && signed32 rank) (unsigned32 track) a) in
-    or-refuse InOrder ss o (badTable (l .table)) 1 0 _
-    (or-refuse InOrder ss o (shortScratch l) 2 0 _
-    (or-refuse InOrder ss o (full (l .table) place rank ss) 4 0 _
-    (order-insert (record { place = place; rank = rank; track = track }) (takenOut place rank ss) (record { place = f .0; rank = f .1 })
-    (out-fit place rank (f .0) (f .1) ss h)
-    (listed-out place rank ss)
-    (order-chosen (λ s. not (hasIdentity place rank s)) ss o))))
-stays-in-order l (withdraw place rank) ss a h o =
-    or-refuse InOrder ss o (badTable (l .table)) 1 0 _
-    (or-refuse InOrder ss o (shortScratch l) 2 0 _ (order-chosen (λ s. not (hasIdentity place rank s)) ss o))
-stays-in-order l (report x1 x2 y) ss a h o =
-    or-refuse InOrder ss o (badTable (l .table)) 1 0 _ (or-refuse InOrder ss o (badMap l) 2 0 _ (handed InOrder ss o (l .output) _))
-stays-in-order l (top x1 x2 k) ss a h o =
-    or-refuse InOrder ss o (badTable (l .table)) 1 0 _ (or-refuse InOrder ss o (badMap l) 2 0 _ (handed InOrder ss o (l .output) _))
-stays-in-order l count ss a h o = or-refuse InOrder ss o (badTable (l .table)) 1 0 _ o
-stays-in-order l check ss a h o = or-refuse InOrder ss o (badTable (l .table)) 1 0 _ o
-stays-in-order l rebuild ss a h o = or-refuse InOrder ss o (badTable (l .table)) 1 0 _ (or-refuse InOrder ss o (shortScratch l) 2 0 _ o)
+    or-refuse InOrder ps o (badTable (l .table)) 1 0 _
+    (or-refuse InOrder ps o (shortScratch l) 2 0 _
+    (or-refuse InOrder ps o (full (l .table) place rank (ps .spots)) 4 0 _
+    (order-insert (record { place = place; rank = rank; track = track }) (takenOut place rank (ps .spots)) (record { place = f .0; rank = f .1 })
+    (out-fit place rank (f .0) (f .1) (ps .spots) h)
+    (listed-out place rank (ps .spots))
+    (order-chosen (λ s. not (hasIdentity place rank s)) (ps .spots) o))))
+stays-in-order l (withdraw place rank) ps a h o =
+    or-refuse InOrder ps o (badTable (l .table)) 1 0 _
+    (or-refuse InOrder ps o (shortScratch l) 2 0 _ (order-chosen (λ s. not (hasIdentity place rank s)) (ps .spots) o))
+stays-in-order l (report x1 x2 y) ps a h o =
+    or-refuse InOrder ps o (badTable (l .table)) 1 0 _ (or-refuse InOrder ps o (badMap l) 2 0 _ (handed InOrder ps o (l .output) _))
+stays-in-order l (top x1 x2 k) ps a h o =
+    or-refuse InOrder ps o (badTable (l .table)) 1 0 _ (or-refuse InOrder ps o (badMap l) 2 0 _ (handed InOrder ps o (l .output) _))
+stays-in-order l count ps a h o = or-refuse InOrder ps o (badTable (l .table)) 1 0 _ o
+stays-in-order l check ps a h o = or-refuse InOrder ps o (badTable (l .table)) 1 0 _ o
+stays-in-order l rebuild ps a h o = or-refuse InOrder ps o (badTable (l .table)) 1 0 _ (or-refuse InOrder ps o (shortScratch l) 2 0 _ o)
 
 -- ---- the number of spots
 
@@ -229,38 +229,38 @@ module _ (bytes : ℕ) where
       taken = fewer-out place rank ss
 
   -- no call makes more
-  pub stays-held : (l : Lengths) → l .table ≡ bytes → (c : Call) (ss : List PlainSpot) → Held ss → Held (reply l c ss .next)
+  pub stays-held : (l : Lengths) → l .table ≡ bytes → (c : Call) (ps : Plain) → Held (ps .spots) → Held (reply l c ps .next .spots)
   unfolding reply accept
-  stays-held l e format ss h = refused-or Held ss h (badTable (l .table)) 1 0 _ (λ z. omega arith)
-  stays-held l e (add place rank track) ss h =
-      refused-or Held ss h (badTable (l .table)) 1 0 _
-      (λ z. refused-or Held ss h (shortScratch l) 2 0 _
-      (λ y. refused-or Held ss h (full (l .table) place rank ss) 4 0 _ (λ x. held-add place rank track ss h (ap (λ (b : ℕ). full b place rank ss) (sym e) ∙ x))))
-  stays-held l e (withdraw place rank) ss h =
-      refused-or Held ss h (badTable (l .table)) 1 0 _
-      (λ z. refused-or Held ss h (shortScratch l) 2 0 _ (λ y. let j = fewer-out place rank ss in omega arith))
-  stays-held l e (report x1 x2 y) ss h =
-      refused-or Held ss h (badTable (l .table)) 1 0 _ (λ z. refused-or Held ss h (badMap l) 2 0 _ (λ y. handed Held ss h (l .output) _))
-  stays-held l e (top x1 x2 k) ss h =
-      refused-or Held ss h (badTable (l .table)) 1 0 _ (λ z. refused-or Held ss h (badMap l) 2 0 _ (λ y. handed Held ss h (l .output) _))
-  stays-held l e count ss h = refused-or Held ss h (badTable (l .table)) 1 0 _ (λ z. h)
-  stays-held l e check ss h = refused-or Held ss h (badTable (l .table)) 1 0 _ (λ z. h)
-  stays-held l e rebuild ss h = refused-or Held ss h (badTable (l .table)) 1 0 _ (λ z. refused-or Held ss h (shortScratch l) 2 0 _ (λ y. h))
+  stays-held l e format ps h = refused-or Held ps h (badTable (l .table)) 1 0 _ (λ z. omega arith)
+  stays-held l e (add place rank track) ps h =
+      refused-or Held ps h (badTable (l .table)) 1 0 _
+      (λ z. refused-or Held ps h (shortScratch l) 2 0 _
+      (λ y. refused-or Held ps h (full (l .table) place rank (ps .spots)) 4 0 _ (λ x. held-add place rank track (ps .spots) h (ap (λ (b : ℕ). full b place rank (ps .spots)) (sym e) ∙ x))))
+  stays-held l e (withdraw place rank) ps h =
+      refused-or Held ps h (badTable (l .table)) 1 0 _
+      (λ z. refused-or Held ps h (shortScratch l) 2 0 _ (λ y. let j = fewer-out place rank (ps .spots) in omega arith))
+  stays-held l e (report x1 x2 y) ps h =
+      refused-or Held ps h (badTable (l .table)) 1 0 _ (λ z. refused-or Held ps h (badMap l) 2 0 _ (λ y. handed Held ps h (l .output) _))
+  stays-held l e (top x1 x2 k) ps h =
+      refused-or Held ps h (badTable (l .table)) 1 0 _ (λ z. refused-or Held ps h (badMap l) 2 0 _ (λ y. handed Held ps h (l .output) _))
+  stays-held l e count ps h = refused-or Held ps h (badTable (l .table)) 1 0 _ (λ z. h)
+  stays-held l e check ps h = refused-or Held ps h (badTable (l .table)) 1 0 _ (λ z. h)
+  stays-held l e rebuild ps h = refused-or Held ps h (badTable (l .table)) 1 0 _ (λ z. refused-or Held ps h (shortScratch l) 2 0 _ (λ y. h))
 
 -- "full" comes exactly when the list holds 16 spots for each block after the first and the new spot's place and rank are not among them
-pub says-full : (l : Lengths) (place rank : ℤ) (track : ℕ) (ss : List PlainSpot) → badTable (l .table) ≡ false → l .table ≤ l .scratch
-    → length ss ≤ 16 * (l .table / 2048 - 1)
-    → (reply l (add place rank track) ss .answer .number ≡ 4) ↔ ((length ss ≡ 16 * (l .table / 2048 - 1)) × (listed place rank ss ≡ false))
+pub says-full : (l : Lengths) (place rank : ℤ) (track : ℕ) (ps : Plain) → badTable (l .table) ≡ false → l .table ≤ l .scratch
+    → length (ps .spots) ≤ 16 * (l .table / 2048 - 1)
+    → (reply l (add place rank track) ps .answer .number ≡ 4) ↔ ((length (ps .spots) ≡ 16 * (l .table / 2048 - 1)) × (listed place rank (ps .spots) ≡ false))
 unfolding reply shortScratch full refuse accept
-says-full l place rank track ss z w h =
-    rw (z, le-ltb (l .scratch) (l .table) w) (four (leb (16 * (l .table / 2048 - 1)) (length ss)) refl (listed place rank ss) refl)
+says-full l place rank track ps z w h =
+    rw (z, le-ltb (l .scratch) (l .table) w) (four (leb (16 * (l .table / 2048 - 1)) (length (ps .spots))) refl (listed place rank (ps .spots)) refl)
   where
-    four : (b : Bool) → leb (16 * (l .table / 2048 - 1)) (length ss) ≡ b → (there : Bool) → listed place rank ss ≡ there
-        → (cond (b && not there) (refuse 4 0 ss) (accept 0 [] (broughtIn (record { place = place; rank = rank; track = track }) ss)) .answer .number ≡ 4)
-        ↔ ((length ss ≡ 16 * (l .table / 2048 - 1)) × (there ≡ false))
-    four true e false f = (λ q. (let m = leb-true (16 * (l .table / 2048 - 1)) (length ss) e in omega arith, refl), λ q. refl)
+    four : (b : Bool) → leb (16 * (l .table / 2048 - 1)) (length (ps .spots)) ≡ b → (there : Bool) → listed place rank (ps .spots) ≡ there
+        → (cond (b && not there) (refuse 4 0 ps) (accept 0 [] (record { spots = broughtIn (record { place = place; rank = rank; track = track }) (ps .spots) })) .answer .number ≡ 4)
+        ↔ ((length (ps .spots) ≡ 16 * (l .table / 2048 - 1)) × (there ≡ false))
+    four true e false f = (λ q. (let m = leb-true (16 * (l .table / 2048 - 1)) (length (ps .spots)) e in omega arith, refl), λ q. refl)
     four true e true f = (λ (q : _≡_ {A = ℕ} 0 4). absurd (omega arith), λ q. absurd (true≢false (q .1)))
     four false e there f = (
       λ (q : _≡_ {A = ℕ} 0 4). absurd (omega arith),
-      λ q. let m = leb-false (16 * (l .table / 2048 - 1)) (length ss) e in let n = q .0 in absurd (omega arith),
+      λ q. let m = leb-false (16 * (l .table / 2048 - 1)) (length (ps .spots)) e in let n = q .0 in absurd (omega arith),
     )

@@ -25,7 +25,7 @@ use Rattle.tree.proofs.Fresh.{fresh-sized, fresh-walk, fresh-sound, fresh-level
 use Rattle.table.specs.Calls.{Call, format, add, withdraw, report, top, count, check, rebuild, Lengths, argumentsFit}
 use Rattle.table.specs.Answers.{lengths, spotsAnswer, outputLeft}
 use Rattle.table.specs.Queries.{walkAnswer, ReportPost}
-use Rattle.table.specs.Model.{PlainSpot, eqZ, hasIdentity, placeBefore, rankHigher, ofPlaces, ofReport, takenOut, broughtIn, highest, fourBytes, complement, Reply, outputAfter, refuse, accept, badTable, badMap, shortScratch, full, handOut, reply}
+use Rattle.table.specs.Model.{Plain, begunEmpty, eqZ, hasIdentity, placeBefore, rankHigher, ofPlaces, ofReport, takenOut, broughtIn, highest, fourBytes, complement, Reply, outputAfter, refuse, accept, badTable, badMap, shortScratch, full, handOut, reply}
 use Rattle.table.proofs.Answering.{long-enough}
 
 -- a table of this many blocks, a read map and a work area as they should be, and an output of this many bytes
@@ -50,13 +50,13 @@ pub data Row : Type 0 where
   asks : Ask → Row
   fresh : ℕ → ℕ → ℕ → Row
 
-after : List Call → List PlainSpot → List PlainSpot
-after [] ss = ss
-after (c ∷ cs) ss = after cs (reply (room 0) c ss .next)
+after : List Call → Plain → Plain
+after [] ps = ps
+after (c ∷ cs) ps = after cs (reply (room 0) c ps .next)
 
 -- what the model answers
 pub found : Ask → Reply
-found r = reply (r .lent) (r .call) (after (r .before) [])
+found r = reply (r .lent) (r .call) (after (r .before) begunEmpty)
 
 -- the output is lent full of 7s
 abbrev pub sevens : Ask → List ℕ

@@ -18,7 +18,7 @@ use Rattle.table.specs.Calls.{Call, format, add, withdraw, report, top, 
 use Rattle.table.specs.Answers.{lengths}
 use Rattle.table.specs.Queries.{ReportPost, TopPost, CountPost, CheckPost}
 use Rattle.table.specs.Updates.{FormatPost, AddPost, WithdrawPost, RebuildPost}
-use Rattle.table.specs.Model.{PlainSpot, Reply, reply, outputAfter, listed}
+use Rattle.table.specs.Model.{Plain, begunEmpty, Reply, reply, outputAfter, listed}
 
 -- a call as it happened: what it was lent beside the table, what it answered, and all that it left. "Outputs, maps and work areas may be of any length
 -- and hold anything"; what a call isn't lent is of no account.
@@ -71,8 +71,8 @@ isQuery check = false
 isQuery rebuild = false
 
 -- the model's reply to an event on the table t
-abbrev pub replyIn : Call → List ℕ → List PlainSpot → Event → Reply
-replyIn c t ss e = reply (lengths t (e .output) (e .readMap) (e .scratch)) c ss
+abbrev pub replyIn : Call → List ℕ → Plain → Event → Reply
+replyIn c t ps e = reply (lengths t (e .output) (e .readMap) (e .scratch)) c ps
 
 -- "On the second table the call has the same arguments and is lent an equal output and map": the same call on a table u of the same length that has the
 -- same bytes in every block marked
@@ -100,16 +100,16 @@ pub record Agreed (c : Call) (t : List ℕ) (due : Answer) (left : List ℕ) (e 
 
 -- "With scratch enough, "full" comes exactly when the plain list holds 16 spots for each block after the first and the new spot's place and rank are not
 -- among them"
-abbrev pub FullExactly : Call → List ℕ → List PlainSpot → Event → Type 0
-FullExactly format t ss e = Unit {0}
-FullExactly (add place rank track) t ss e =
-    length t ≤ length (e .scratch) → (e .answer .number ≡ 4) ↔ ((length ss ≡ 16 * (length t / 2048 - 1)) × (listed place rank ss ≡ false))
-FullExactly (withdraw place rank) t ss e = Unit {0}
-FullExactly (report x1 x2 y) t ss e = Unit {0}
-FullExactly (top x1 x2 k) t ss e = Unit {0}
-FullExactly count t ss e = Unit {0}
-FullExactly check t ss e = Unit {0}
-FullExactly rebuild t ss e = Unit {0}
+abbrev pub FullExactly : Call → List ℕ → Plain → Event → Type 0
+FullExactly format t ps e = Unit {0}
+FullExactly (add place rank track) t ps e =
+    length t ≤ length (e .scratch) → (e .answer .number ≡ 4) ↔ ((length (ps .spots) ≡ 16 * (length t / 2048 - 1)) × (listed place rank (ps .spots) ≡ false))
+FullExactly (withdraw place rank) t ps e = Unit {0}
+FullExactly (report x1 x2 y) t ps e = Unit {0}
+FullExactly (top x1 x2 k) t ps e = Unit {0}
+FullExactly count t ps e = Unit {0}
+FullExactly check t ps e = Unit {0}
+FullExactly rebuild t ps e = Unit {0}
 
 -- "Each accepted report marks exactly the blocks that the scope paper has it read"
 abbrev pub MarksExactly : Call → List ℕ → Event → Type 0
@@ -123,12 +123,12 @@ MarksExactly count t e = Unit {0}
 MarksExactly check t e = Unit {0}
 MarksExactly rebuild t e = Unit {0}
 
--- from the table t and the model's spots ss on
-abbrev pub AllAgreed : List ℕ → List PlainSpot → List Event → Type 0
-AllAgreed t ss [] = Unit {0}
-AllAgreed t ss (e ∷ es) =
-    let r = replyIn (e .call) t ss e in
-    Agreed (e .call) t (r .answer) (outputAfter r (e .output)) e × FullExactly (e .call) t ss e × MarksExactly (e .call) t e × AllAgreed (e .table′) (r .next) es
+-- from the table t and what the model holds, ps, on
+abbrev pub AllAgreed : List ℕ → Plain → List Event → Type 0
+AllAgreed t ps [] = Unit {0}
+AllAgreed t ps (e ∷ es) =
+    let r = replyIn (e .call) t ps e in
+    Agreed (e .call) t (r .answer) (outputAfter r (e .output)) e × FullExactly (e .call) t ps e × MarksExactly (e .call) t e × AllAgreed (e .table′) (r .next) es
 
 -- Demand 3, sentence by sentence:
 --   "For every list of calls (..; any arguments, refused ones included)"            `es : List Event`, each with a `Call` whose arguments fit their 32 bits
@@ -136,7 +136,7 @@ AllAgreed t ss (e ∷ es) =
 --   "each call lent it whole as the one before left it, with no other writer"       `History`: the next event is met on `table′` of this one
 --   "every call leaves the table sound"                                             `Agreed .staysSound`
 --   "gives the same number, detail and spots, in the same order, as the scope       `Agreed .answer`, `Agreed .output`: against `reply` of the model, begun
---    paper's plain list, begun empty and fed the same calls and lent lengths"       with [], and fed the call and `lengths` alone (`replyIn`)
+--    paper's plain list, begun empty and fed the same calls and lent lengths"       with `begunEmpty`, and fed the call and `lengths` alone (`replyIn`)
 --   "With scratch enough, "full" comes exactly when .."                             `FullExactly`
 --   "Each accepted report marks exactly the blocks that the scope paper has it read" `MarksExactly`: block 0 and `ReadBlock`
 --   "at most 1, plus 36 for each level of the tree, plus 9 for each whole 16 spots" `Agreed .bounded`
@@ -144,4 +144,4 @@ AllAgreed t ss (e ∷ es) =
 --    others hold, that call gives the same report and marks."                       marked blocks, sound or not
 -- "Demand 3 is a single claim about a whole history. The table starts as an accepted Format leaves it, whatever its bytes were"
 abbrev pub Demand3 : Type 0
-Demand3 = (bytes : ℕ) → tableSized bytes ≡ true → (es : List Event) → History (formatted bytes) es → AllAgreed (formatted bytes) [] es
+Demand3 = (bytes : ℕ) → tableSized bytes ≡ true → (es : List Event) → History (formatted bytes) es → AllAgreed (formatted bytes) begunEmpty es

@@ -87,22 +87,30 @@ abbrev pub asBytes : List PlainSpot → List ℕ
 asBytes [] = []
 asBytes (s ∷ ss) = (fourBytes (complement (s .place)) ++ fourBytes (complement (s .rank)) ++ fourBytes (s .track)) ++ asBytes ss
 
+-- what the model holds: "spots, no identity twice". What else "the list keeps beside its spots" stands beside them here.
+pub record Plain : Type 0 where
+  pub spots : List PlainSpot
+
+-- "at first none"
+abbrev pub begunEmpty : Plain
+begunEmpty = record { spots = [] }
+
 -- what the model answers, hands out, and holds afterwards
 pub record Reply : Type 0 where
   pub answer : Answer
   pub given : List PlainSpot
-  pub next : List PlainSpot
+  pub next : Plain
 
 -- "Accepted output is the spots, 12 bytes each as on the card, the rest of the output unchanged"; a refusal hands out none
 unfoldable pub outputAfter : Reply → List ℕ → List ℕ
 outputAfter r out = asBytes (r .given) ++ drop (12 * length (r .given)) out
 
 -- "A refused call leaves the list as it was"
-unfoldable pub refuse : ℕ → ℕ → List PlainSpot → Reply
-refuse number detail ss = record { answer = record { number = number; detail = detail }; given = []; next = ss }
+unfoldable pub refuse : ℕ → ℕ → Plain → Reply
+refuse number detail ps = record { answer = record { number = number; detail = detail }; given = []; next = ps }
 
 -- "An accepted call returns 0"
-unfoldable pub accept : ℕ → List PlainSpot → List PlainSpot → Reply
+unfoldable pub accept : ℕ → List PlainSpot → Plain → Reply
 accept detail given next = record { answer = record { number = 0; detail = detail }; given = given; next = next }
 
 -- 1: "the table is not a whole number of blocks, or has under 9 or over 4,096"
@@ -121,22 +129,24 @@ unfoldable pub full : ℕ → ℤ → ℤ → List PlainSpot → Bool
 full bytes place rank ss = leb (16 * (bytes / 2048 - 1)) (length ss) && not (listed place rank ss)
 
 -- 5: "more spots than output length div 12", detail the number of spots; else they are handed out
-unfoldable pub handOut : ℕ → List PlainSpot → List PlainSpot → Reply
-handOut bytes found ss = cond (ltb (bytes / 12) (length found)) (refuse 5 (length found) ss) (accept (length found) found ss)
+unfoldable pub handOut : ℕ → List PlainSpot → Plain → Reply
+handOut bytes found ps = cond (ltb (bytes / 12) (length found)) (refuse 5 (length found) ps) (accept (length found) found ps)
 
 -- "The order is that of the table"
-unfoldable pub reply : Lengths → Call → List PlainSpot → Reply
-reply l format ss = cond (badTable (l .table)) (refuse 1 0 ss) (accept 0 [] [])
-reply l (add place rank track) ss =
-    cond (badTable (l .table)) (refuse 1 0 ss)
-    (cond (shortScratch l) (refuse 2 0 ss)
-    (cond (full (l .table) place rank ss) (refuse 4 0 ss) (accept 0 [] (broughtIn (record { place = place; rank = rank; track = track }) ss))))
-reply l (withdraw place rank) ss =
-    cond (badTable (l .table)) (refuse 1 0 ss) (cond (shortScratch l) (refuse 2 0 ss) (accept 0 [] (takenOut place rank ss)))
-reply l (report x1 x2 y) ss =
-    cond (badTable (l .table)) (refuse 1 0 ss) (cond (badMap l) (refuse 2 0 ss) (handOut (l .output) (chosen (ofReport x1 x2 y) ss) ss))
-reply l (top x1 x2 k) ss =
-    cond (badTable (l .table)) (refuse 1 0 ss) (cond (badMap l) (refuse 2 0 ss) (handOut (l .output) (highest x1 x2 k ss) ss))
-reply l count ss = cond (badTable (l .table)) (refuse 1 0 ss) (accept (length ss) [] ss)
-reply l check ss = cond (badTable (l .table)) (refuse 1 0 ss) (accept 1 [] ss)
-reply l rebuild ss = cond (badTable (l .table)) (refuse 1 0 ss) (cond (shortScratch l) (refuse 2 0 ss) (accept 0 [] ss))
+unfoldable pub reply : Lengths → Call → Plain → Reply
+reply l format ps = cond (badTable (l .table)) (refuse 1 0 ps) (accept 0 [] begunEmpty)
+reply l (add place rank track) ps =
+    cond (badTable (l .table)) (refuse 1 0 ps)
+    (cond (shortScratch l) (refuse 2 0 ps)
+    (cond (full (l .table) place rank (ps .spots)) (refuse 4 0 ps)
+    (accept 0 [] (record { spots = broughtIn (record { place = place; rank = rank; track = track }) (ps .spots) }))))
+reply l (withdraw place rank) ps =
+    cond (badTable (l .table)) (refuse 1 0 ps)
+    (cond (shortScratch l) (refuse 2 0 ps) (accept 0 [] (record { spots = takenOut place rank (ps .spots) })))
+reply l (report x1 x2 y) ps =
+    cond (badTable (l .table)) (refuse 1 0 ps) (cond (badMap l) (refuse 2 0 ps) (handOut (l .output) (chosen (ofReport x1 x2 y) (ps .spots)) ps))
+reply l (top x1 x2 k) ps =
+    cond (badTable (l .table)) (refuse 1 0 ps) (cond (badMap l) (refuse 2 0 ps) (handOut (l .output) (highest x1 x2 k (ps .spots)) ps))
+reply l count ps = cond (badTable (l .table)) (refuse 1 0 ps) (accept (length (ps .spots)) [] ps)
+reply l check ps = cond (badTable (l .table)) (refuse 1 0 ps) (accept 1 [] ps)
+reply l rebuild ps = cond (badTable (l .table)) (refuse 1 0 ps) (cond (shortScratch l) (refuse 2 0 ps) (accept 0 [] ps))
