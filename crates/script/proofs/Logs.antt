@@ -9,7 +9,7 @@ use Rattle.block.specs.declared.Answer.{Answer}
 use Rattle.tree.specs.Sound.{sound}
 use Rattle.table.specs.Calls.{Call, format, add, withdraw, report, top, count, check, rebuild, Lengths}
 use Rattle.table.specs.Model.{PlainSpot, Plain, begunEmpty, Reply, takenOut, broughtIn, asBytes, outputAfter, refuse, accept, badTable, shortScratch, full, reply, fourBytes}
-use Rattle.table.specs.History.{Event, History, AllAgreed, isQuery, replyIn}
+use Rattle.table.specs.History.{Event, History, AllAgreed, isQuery, replyIn, modelAfter}
 use Rattle.script.specs.Script.{Step, lentTo, logAfter}
 use Rattle.script.specs.Run.{entry, Held, heldAfter, passed, outputOf, InTurn, AllInTurn, entries}
 use Rattle.script.proofs.Fronts.{drop-lent}
@@ -63,7 +63,7 @@ module _ (l : Lengths) where
   pub ends-sound : (h : Held) (ps : Plain) (es : List Event) → sound (h .table) ≡ true → AllAgreed (h .table) ps es
       → sound (heldAfter (l .output) h es .table) ≡ true
   ends-sound h ps [] s g = s
-  ends-sound h ps (e ∷ es) s g = ends-sound (passed (l .output) h e) (replyIn (e .call) (h .table) ps e .next) es (g .0 .staysSound) (g .3)
+  ends-sound h ps (e ∷ es) s g = ends-sound (passed (l .output) h e) (modelAfter (h .table) ps e) es (g .0 .staysSound) (g .3)
 
   module _ (h : Held) (ps : Plain) (c : Step) (e : Event) (i : InTurn l h c e) where
     reply-is : replyIn (e .call) (h .table) ps e ≡ reply (lentTo c l) (c .call) ps
@@ -109,5 +109,5 @@ module _ (l : Lengths) where
       let rest : Held = passed (l .output) h e in
       append-assoc (entry (outputOf (l .output) h) e) (entries (l .output) rest es) (heldAfter (l .output) rest es .log)
       ∙ ap₂ (λ (x y : List ℕ). x ++ y) (entry-due h ps c e (a .0) (g .0 .answer) (output-left h ps c e (a .0) (g .0 .output)))
-      (as-model rest (replyIn (e .call) (h .table) ps e .next) cs es (a .1) (g .3)
+      (as-model rest (modelAfter (h .table) ps e) cs es (a .1) (g .3)
       ∙ ap (λ (r : Reply). logAfter l cs (r .next) (drop room (h .log))) (reply-is h ps c e (a .0)))

@@ -19,7 +19,7 @@ use Rattle.table.specs.Model.{fourBytes}
 use Rattle.table.specs.History.{Event}
 use Rattle.table.proofs.Orders.{four-bytes}
 use Rattle.script.specs.Script.{Step, callAt, stepAt, stepsOf, lentTo}
-use Rattle.script.specs.Run.{Called, eventOf, eventIn, Lent, entry, Turned, Held, held, outputOf, passed, heldAfter, InTurn, AllInTurn, entries, Run, lengthsIn}
+use Rattle.script.specs.Run.{Called, eventOf, eventIn, Lent, entry, Turned, Held, held, outputOf, passed, heldAfter, InTurn, AllInTurn, entries, Run, runLengths}
 use Rattle.script.proofs.Fronts.{put-back, front-lent, front-left, rest-left}
 
 -- ---- one event more at the end
@@ -154,7 +154,7 @@ pub part-fits : (part i n at bytes : ℕ) → i < n → at ≡ part * i → part
 part-fits part i n at bytes h e l = omega (arith, stride part h)
 
 -- before the first call
-pub start : (script t w m log : List ℕ) (part : ℕ) → Going script (lengthsIn t w m part) (held t w m log) t w m log 0 0
+pub start : (script t w m log : List ℕ) (part : ℕ) → Going script (runLengths t w m part) (held t w m log) t w m log 0 0
 start script t w m log part =
     record {
       run = record { events = []; inTurn = tt; table = refl; scratch = refl; readMap = refl; log = refl };

@@ -11,9 +11,8 @@ use Rattle.block.specs.Table.{tableSized}
 use Rattle.block.specs.Fresh.{formatted}
 use Rattle.tree.specs.Sound.{sound}
 use Rattle.table.specs.Calls.{Call, format, add, withdraw, report, top, count, check, rebuild, Lengths, argumentsFit}
-use Rattle.table.specs.Answers.{lengths}
 use Rattle.table.specs.Model.{begunEmpty, fourBytes}
-use Rattle.table.specs.History.{Event, MetBy, History, AllAgreed, isQuery}
+use Rattle.table.specs.History.{Event, MetBy, History, AllAgreed, isQuery, lengthsIn}
 use Rattle.script.specs.Script.{Step, callsIn, stepsOf, lentTo, partOf, logAfter}
 
 -- the calls that are lent the scratch
@@ -94,7 +93,7 @@ pub record InTurn (l : Lengths) (h : Held) (c : Step) (e : Event) : Type 0 where
   pub readMap : e .readMap ≡ take (c .readMap) (h .readMap)
   pub output : e .output ≡ take (c .output) (outputOf (l .output) h)
   -- "the lengths of table, output, read map and work area"
-  pub lent : lengths (h .table) (e .output) (e .readMap) (e .scratch) ≡ lentTo c l
+  pub lent : lengthsIn (h .table) e ≡ lentTo c l
 
 -- so is each, an event for each step, and gets what the last one left
 abbrev pub AllInTurn : Lengths → Held → List Step → List Event → Type 0
@@ -122,8 +121,8 @@ pub record Run (script : List ℕ) (n : ℕ) (l : Lengths) (h : Held) (t′ w′
   pub log : log′ ≡ entries (l .output) h events ++ heldAfter (l .output) h events .log
 
 -- the lengths that a run has, where a part of the log has so many bytes
-abbrev pub lengthsIn : List ℕ → List ℕ → List ℕ → ℕ → Lengths
-lengthsIn t w m part = record { table = length t; output = part - 8; readMap = length m; scratch = length w }
+abbrev pub runLengths : List ℕ → List ℕ → List ℕ → ℕ → Lengths
+runLengths t w m part = record { table = length t; output = part - 8; readMap = length m; scratch = length w }
 
 -- the part of each call in the log of a script
 abbrev pub partIn : List ℕ → List ℕ → ℕ
@@ -131,7 +130,7 @@ partIn script log = partOf (length log) (callsIn script)
 
 -- the whole script, run on a formatted table, is a history; and of it all of demand 3 is said
 pub record Happened (script t w m log t′ w′ m′ log′ : List ℕ) : Type 0 where
-  pub run : Run script (callsIn script) (lengthsIn t w m (partIn script log)) (held (formatted (length t)) w m log) t′ w′ m′ log′
+  pub run : Run script (callsIn script) (runLengths t w m (partIn script log)) (held (formatted (length t)) w m log) t′ w′ m′ log′
   pub history : History (formatted (length t)) (run .events)
   pub agreed : AllAgreed (formatted (length t)) begunEmpty (run .events)
 
@@ -140,7 +139,7 @@ pub record Happened (script t w m log t′ w′ m′ log′ : List ℕ) : Type 0
 pub record Ran (script t w m log t′ w′ m′ log′ : List ℕ) (r : Bool) : Type 0 where
   pub runs : r ≡ (tableSized (length t) && leb 8 (partIn script log))
   pub refused : r ≡ false → (t′ ≡ t) × (w′ ≡ w) × (m′ ≡ m) × (log′ ≡ log)
-  pub answers : r ≡ true → log′ ≡ logAfter (lengthsIn t w m (partIn script log)) (stepsOf script (callsIn script)) begunEmpty log
+  pub answers : r ≡ true → log′ ≡ logAfter (runLengths t w m (partIn script log)) (stepsOf script (callsIn script)) begunEmpty log
   pub staysSound : r ≡ true → sound t′ ≡ true
   pub sameLengths : (length t′ ≡ length t) × (length w′ ≡ length w) × (length m′ ≡ length m) × (length log′ ≡ length log)
   pub happened : r ≡ true → Happened script t w m log t′ w′ m′ log′

@@ -3,7 +3,7 @@ ghost use mathlib.Core.Path.{_≡_};
 ghost use Prim.Native.Nat.{_+_, _*_, _≤_, min};
 ghost use lib.ListN.{length};
 ghost use Rattle.script.specs.Script.{callAt, stepAt, partOf};
-ghost use Rattle.script.specs.Run.{Called, eventOf, Lent, Turned, Run, held, lengthsIn, Ran};
+ghost use Rattle.script.specs.Run.{Called, eventOf, Lent, Turned, Run, held, runLengths, Ran};
 
 // Makes the call that begins at a byte of the script, with all that is lent.
 fn call(
@@ -108,7 +108,7 @@ fn make_calls(
     part: usize,
 )
     requires { ⌜ (28 * n ≤ length (now script)) × (8 ≤ part) × (part * n ≤ length (now log)) ⌝ }
-    ensures { λ _. ⌜ Run (now (script .entry)) n (lengthsIn (now (table .entry)) (now (scratch .entry)) (now («read_map» .entry)) part) (held (now (table .entry)) (now (scratch .entry)) (now («read_map» .entry)) (now (log .entry))) (now (table .exit)) (now (scratch .exit)) (now («read_map» .exit)) (now (log .exit)) ⌝ }
+    ensures { λ _. ⌜ Run (now (script .entry)) n (runLengths (now (table .entry)) (now (scratch .entry)) (now («read_map» .entry)) part) (held (now (table .entry)) (now (scratch .entry)) (now («read_map» .entry)) (now (log .entry))) (now (table .exit)) (now (scratch .exit)) (now («read_map» .exit)) (now (log .exit)) ⌝ }
 {
     let mut i = 0;
     let mut at = 0;

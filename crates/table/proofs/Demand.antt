@@ -12,10 +12,9 @@ use Rattle.block.specs.Table.{tableSized}
 use Rattle.spot.specs.Keys.{signed32}
 use Rattle.tree.specs.Sound.{sound}
 use Rattle.tree.specs.Walk.{liveSpots}
-use Rattle.table.specs.Calls.{Call, format, add, withdraw, report, top, count, check, rebuild, argumentsFit}
-use Rattle.table.specs.Answers.{lengths}
+use Rattle.table.specs.Calls.{Call, report, argumentsFit}
 use Rattle.table.specs.Model.{Plain, begunEmpty, outputAfter}
-use Rattle.table.specs.History.{Event, MetBy, History, Agreed, FullExactly, MarksExactly, AllAgreed, Demand3, replyIn}
+use Rattle.table.specs.History.{Event, MetBy, History, Agreed, FullExactly, MarksExactly, AllAgreed, Demand3, lengthsIn, replyIn, modelAfter}
 use Rattle.tree.proofs.Fresh.{fresh-sized, fresh-sound, fresh-empty}
 use Rattle.octets.proofs.Tests.{and-left, and-right}
 use Rattle.table.proofs.Histories.{TreeLaws, keyReplyIn, map-accepted, step}
@@ -49,41 +48,27 @@ tree-laws =
 record Step (t : List ℕ) (ps : Plain) (e : Event) : Type 0 where
   agreed : Agreed (e .call) t (replyIn (e .call) t ps e .answer) (outputAfter (replyIn (e .call) t ps e) (e .output)) e
   sized : length (e .table′) ≡ length t
-  holds : keyed (replyIn (e .call) t ps e .next .spots) ≡ liveSpots (e .table′)
-  fit : AllFit (replyIn (e .call) t ps e .next .spots)
+  holds : keyed (modelAfter t ps e .spots) ≡ liveSpots (e .table′)
+  fit : AllFit (modelAfter t ps e .spots)
   full : FullExactly (e .call) t ps e
-  held : length (replyIn (e .call) t ps e .next .spots) ≤ 16 * (length (e .table′) / 2048 - 1)
+  held : length (modelAfter t ps e .spots) ≤ 16 * (length (e .table′) / 2048 - 1)
 
 full-exactly : (c : Call) (t : List ℕ) (ps : Plain) (e : Event) → tableSized (length t) ≡ true → length (ps .spots) ≤ 16 * (length t / 2048 - 1)
     → e .answer ≡ replyIn c t ps e .answer
     → FullExactly c t ps e
-full-exactly format t ps e z h a = tt
-full-exactly (add place rank track) t ps e z h a =
-    λ w. rw a (says-full (lengths t (e .output) (e .readMap) (e .scratch)) place rank track ps (bad-table (length t) ∙ ap not z) w h)
-full-exactly (withdraw place rank) t ps e z h a = tt
-full-exactly (report x1 x2 y) t ps e z h a = tt
-full-exactly (top x1 x2 k) t ps e z h a = tt
-full-exactly count t ps e z h a = tt
-full-exactly check t ps e z h a = tt
-full-exactly rebuild t ps e z h a = tt
+full-exactly c t ps e z h a place rank track q w = rw (a, q) (says-full (lengthsIn t e) place rank track ps (bad-table (length t) ∙ ap not z) w h)
 
 marks-exactly : (c : Call) (t : List ℕ) (e : Event) → sound t ≡ true → argumentsFit c ≡ true → MetBy c t e → MarksExactly c t e
 unfolding argumentsFit
-marks-exactly format t e s a p = tt
-marks-exactly (add place rank track) t e s a p = tt
-marks-exactly (withdraw place rank) t e s a p = tt
-marks-exactly (report x1 x2 y) t e s a p =
-    let f = and-left (signed32 x1 && signed32 x2) (signed32 y) a in
-    λ z b l.
-    rw (p .1 .marks ∙ map-accepted _ _ _ z)
+marks-exactly c t e s a p x1 x2 y q z b l =
+    let m : MetBy (report x1 x2 y) t e = subst (λ (d : Call). MetBy d t e) q p in
+    let fits : signed32 x1 && signed32 x2 && signed32 y ≡ true = ap argumentsFit (sym q) ∙ a in
+    let f = and-left (signed32 x1 && signed32 x2) (signed32 y) fits in
+    rw (m .1 .marks ∙ map-accepted _ _ _ z)
     (marks-exact-words t x1 x2 y s (and-left (signed32 x1) (signed32 x2) f) (and-right (signed32 x1) (signed32 x2) f)
-    (and-right (signed32 x1 && signed32 x2) (signed32 y) a)
+    (and-right (signed32 x1 && signed32 x2) (signed32 y) fits)
     b
     l)
-marks-exactly (top x1 x2 k) t e s a p = tt
-marks-exactly count t e s a p = tt
-marks-exactly check t e s a p = tt
-marks-exactly rebuild t e s a p = tt
 
 one-step : (t : List ℕ) (ps : Plain) (e : Event) → tableSized (length t) ≡ true → sound t ≡ true → keyed (ps .spots) ≡ liveSpots t → AllFit (ps .spots)
     → length (ps .spots) ≤ 16 * (length t / 2048 - 1)
@@ -106,7 +91,7 @@ one-step t ps e z s same fit h a m =
       holds = alike .next ∙ k .next;
       fit = alike .fit;
       full = full-exactly (e .call) t ps e z h (k .agreed .answer ∙ sym (alike .answer));
-      held = rw (k .sized) (stays-held (length t) (lengths t (e .output) (e .readMap) (e .scratch)) refl (e .call) ps h);
+      held = rw (k .sized) (stays-held (length t) (lengthsIn t e) refl (e .call) ps h);
     }
 
 -- a whole history, from any sound table and a model that holds its live spots

@@ -30,17 +30,14 @@ use Rattle.table.specs.Answers.{lengths, lent, lengthNumber, unlessRefus
 use Rattle.table.specs.Queries.{walkAnswer, countAnswer, ReportPost, TopPost, HandsOut}
 use Rattle.table.specs.Updates.{UpdatePost}
 use Rattle.table.specs.History.{Event, MetBy, isQuery}
-use Rattle.table.specs.Demands.{TurnedDown, AnyBytes, Demand1}
+use Rattle.table.specs.Demands.{refusals, TurnedDown, OnlyMarked, AnyBytes, Demand1}
 use Rattle.table.proofs.Histories.{map-accepted}
 
 -- ---- the numbers
 
-abbrev five : List ℕ
-five = 1 ∷ 2 ∷ 3 ∷ 4 ∷ 5 ∷ []
-
 -- a number of a list that names 0 and the five alone
-of-five : (n : ℕ) (xs : List ℕ) → every (λ m. eqb m 0 || has m five) xs ≡ true → has n xs ≡ true → (n ≡ 0 → ⊥) → has n five ≡ true
-of-five n xs h i z = or-left (eqb n 0) (has n five) (every-mem (λ m. eqb m 0 || has m five) xs h (has-mem n xs i)) (ne-eqb n 0 z)
+of-five : (n : ℕ) (xs : List ℕ) → every (λ m. eqb m 0 || has m refusals) xs ≡ true → has n xs ≡ true → (n ≡ 0 → ⊥) → has n refusals ≡ true
+of-five n xs h i z = or-left (eqb n 0) (has n refusals) (every-mem (λ m. eqb m 0 || has m refusals) xs h (has-mem n xs i)) (ne-eqb n 0 z)
 
 -- 1 and 2, by the lengths
 by-lengths : (l : Lengths) (c : Call) → has (lengthNumber l c) (0 ∷ 1 ∷ 2 ∷ []) ≡ true
@@ -54,13 +51,13 @@ by-lengths l c = go (tableSized (l .table)) (lent l c)
 
 -- an answer that is 0, or one of the five with detail 0, but for 5
 record Refusal (r : Answer) : Type 0 where
-  number : (r .number ≡ 0 → ⊥) → has (r .number) five ≡ true
+  number : (r .number ≡ 0 → ⊥) → has (r .number) refusals ≡ true
   detail : (r .number ≡ 0 → ⊥) → (r .number ≡ 5 → ⊥) → r .detail ≡ 0
 
 refusal-zero : (d : ℕ) → Refusal (answer 0 d)
 refusal-zero d = record { number = λ n. absurd (n refl); detail = λ n. absurd (n refl) }
 
-refusal-plain : (n : ℕ) → has n five ≡ true → Refusal (answer n 0)
+refusal-plain : (n : ℕ) → has n refusals ≡ true → Refusal (answer n 0)
 refusal-plain n h = record { number = λ z. h; detail = λ z y. refl }
 
 refusal-many : (d : ℕ) → Refusal (answer 5 d)
@@ -93,7 +90,7 @@ refusal-count (walked found blocks) = refusal-zero (length found)
 -- ---- calls that change the table
 
 module _ (c : Call) (due : ℕ) (after : ℕ → Option ℕ) (t : List ℕ) (e : Event) (p : UpdatePost c due after t (e .scratch) (e .answer) (e .table′) (e .scratch′)) where
-  update-number : every (λ m. eqb m 0 || has m five) (outcomes c) ≡ true → (e .answer .number ≡ 0 → ⊥) → has (e .answer .number) five ≡ true
+  update-number : every (λ m. eqb m 0 || has m refusals) (outcomes c) ≡ true → (e .answer .number ≡ 0 → ⊥) → has (e .answer .number) refusals ≡ true
   update-number h z =
       ⊎-elim (λ l. of-five (e .answer .number) (outcomes c) h (p .numbers l) z)
       (λ l.
@@ -101,7 +98,7 @@ module _ (c : Call) (due : ℕ) (after : ℕ → Option ℕ) (t : List ℕ) (e :
       of-five (e .answer .number) (0 ∷ 1 ∷ 2 ∷ []) refl (ap (λ (n : ℕ). has n (0 ∷ 1 ∷ 2 ∷ [])) q ∙ by-lengths (lengths t [] [] (e .scratch)) c) z)
       (same-or-not (lengthNumber (lengths t [] [] (e .scratch)) c) 0)
 
-  update-down : every (λ m. eqb m 0 || has m five) (outcomes c) ≡ true → isQuery c ≡ false → (e .answer .number ≡ 0 → ⊥) → TurnedDown c t e
+  update-down : every (λ m. eqb m 0 || has m refusals) (outcomes c) ≡ true → isQuery c ≡ false → (e .answer .number ≡ 0 → ⊥) → TurnedDown c t e
   update-down h q z =
       record {
         number = update-number h z;
@@ -174,7 +171,7 @@ module _ (x1 x2 y : ℤ) (t : List ℕ) (e : Event) (same : e .table′ ≡ t) (
 -- ---- Top
 
 module _ (x1 x2 : ℤ) (k : ℕ) (t : List ℕ) (e : Event) (same : e .table′ ≡ t) (p : TopPost x1 x2 k t (e .output) (e .readMap) (e .answer) (e .output′) (e .readMap′)) where
-  top-number : (e .answer .number ≡ 0 → ⊥) → has (e .answer .number) five ≡ true
+  top-number : (e .answer .number ≡ 0 → ⊥) → has (e .answer .number) refusals ≡ true
   top-number z =
       ⊎-elim (λ l. of-five (e .answer .number) (0 ∷ 3 ∷ 5 ∷ []) refl (p .refusals l) z)
       (λ l.
@@ -219,51 +216,41 @@ format-down t e p z = go (tableSized (length t)) (p .answered) (p .written)
     go true a w = absurd (z (ap (λ (r : Answer). r .number) a))
     go false a w = w
 
-any-bytes : (c : Call) (t : List ℕ) (e : Event) → MetBy c t e → AnyBytes c t e
-any-bytes format t e p =
-    let r = subst Refusal (sym (p .answered)) (refusal-lengths _ (answer 0 0) (by-lengths (lengths t [] [] []) format) (refusal-zero 0)) in
+-- turned down, each call changes nothing; and the table is as long as it was
+ends : (c : Call) (t : List ℕ) (e : Event) → MetBy c t e → ((e .answer .number ≡ 0 → ⊥) → TurnedDown c t e) × (length (e .table′) ≡ length t)
+ends format t e p =
+    let r = subst Refusal (sym (p .answered)) (refusal-lengths _ (answer 0 0) (by-lengths (lengths t [] [] []) format) (refusal-zero 0)) in (
+      λ z. record {
+        number = r .number z;
+        detail = r .detail z;
+        table = format-down t e p z;
+        output = λ i. absurd (false≢true i);
+        readMap = λ i. absurd (false≢true i);
+      },
+      formatted-long t (e .table′) (p .written),
+    )
+ends (add place rank track) t e p = (update-down (add place rank track) _ _ t e (p .update) refl refl, p .update .sized)
+ends (withdraw place rank) t e p = (update-down (withdraw place rank) _ _ t e (p .update) refl refl, p .update .sized)
+ends (report x1 x2 y) t e p = (report-down x1 x2 y t e (p .0) (p .1), ap length (p .0))
+ends (top x1 x2 k) t e p = (top-down x1 x2 k t e (p .0) (p .1), ap length (p .0))
+ends count t e p = (
+  still-down count t e (subst Refusal (sym (p .1 .answered)) (refusal-lengths _ _ (by-lengths (lengths t [] [] []) count) (refusal-count _))) (p .0) refl,
+  ap length (p .0),
+)
+ends check t e p = (
+  still-down check t e (subst Refusal (sym (p .1 .answered)) (refusal-lengths _ _ (by-lengths (lengths t [] [] []) check) (refusal-zero _))) (p .0) refl,
+  ap length (p .0),
+)
+ends rebuild t e p = (update-down rebuild _ _ t e (p .update) refl refl, p .update .sized)
+
+only-marked : (c : Call) (t : List ℕ) (e : Event) → MetBy c t e → e .answer .number ≡ 0 → OnlyMarked c t e
+only-marked c t e p z =
     record {
-      turnedDown = λ z.
-          record {
-            number = r .number z;
-            detail = r .detail z;
-            table = format-down t e p z;
-            output = λ i. absurd (false≢true i);
-            readMap = λ i. absurd (false≢true i);
-          };
-      handsOut = λ z. tt;
-      sized = formatted-long t (e .table′) (p .written);
+      reports = λ x1 x2 y q. let m : MetBy (report x1 x2 y) t e = subst (λ (d : Call). MetBy d t e) q p in report-out x1 x2 y t e (m .0) (m .1) z;
+      tops = λ x1 x2 k q. let m : MetBy (top x1 x2 k) t e = subst (λ (d : Call). MetBy d t e) q p in m .1 .handsOut z;
     }
-any-bytes (add place rank track) t e p =
-    record { turnedDown = update-down (add place rank track) _ _ t e (p .update) refl refl; handsOut = λ z. tt; sized = p .update .sized }
-any-bytes (withdraw place rank) t e p =
-    record { turnedDown = update-down (withdraw place rank) _ _ t e (p .update) refl refl; handsOut = λ z. tt; sized = p .update .sized }
-any-bytes (report x1 x2 y) t e p =
-    record { turnedDown = report-down x1 x2 y t e (p .0) (p .1); handsOut = report-out x1 x2 y t e (p .0) (p .1); sized = ap length (p .0) }
-any-bytes (top x1 x2 k) t e p =
-    record { turnedDown = top-down x1 x2 k t e (p .0) (p .1); handsOut = p .1 .handsOut; sized = ap length (p .0) }
-any-bytes count t e p =
-    record {
-      turnedDown =
-          still-down count t e
-          (subst Refusal (sym (p .1 .answered)) (refusal-lengths _ _ (by-lengths (lengths t [] [] []) count) (refusal-count _)))
-          (p .0)
-          refl;
-      handsOut = λ z. tt;
-      sized = ap length (p .0);
-    }
-any-bytes check t e p =
-    record {
-      turnedDown =
-          still-down check t e
-          (subst Refusal (sym (p .1 .answered)) (refusal-lengths _ _ (by-lengths (lengths t [] [] []) check) (refusal-zero _)))
-          (p .0)
-          refl;
-      handsOut = λ z. tt;
-      sized = ap length (p .0);
-    }
-any-bytes rebuild t e p =
-    record { turnedDown = update-down rebuild _ _ t e (p .update) refl refl; handsOut = λ z. tt; sized = p .update .sized }
 
 pub demand1 : Demand1
-demand1 t e p = any-bytes (e .call) t e p
+demand1 t e p =
+    let r = ends (e .call) t e p in
+    record { turnedDown = r .0; handsOut = only-marked (e .call) t e p; sized = r .1 }

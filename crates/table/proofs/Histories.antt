@@ -2,7 +2,7 @@
 -- Assumes nothing else.
 use mathlib.Core.Path.{_≡_, refl, ap, sym, _∙_}
 use mathlib.Core.Logic.{_⊎_, inl, inr, ⊎-elim, _≢_}
-use mathlib.Core.Bool.{true, false, true≢false, false≢true}
+use mathlib.Core.Bool.{true, false, true≢false}
 use mathlib.Core.List.{List, []}
 use mathlib.Core.Option.{Option, none, some}
 use Prim.Native.Nat.{ℕ, zero, suc, _+_, _*_, _/_, _≤_}
@@ -32,7 +32,7 @@ use Rattle.table.specs.Calls.{Call, format, add, withdraw, report, top, 
 use Rattle.table.specs.Answers.{lengthNumber, spotsAnswer, outputLeft, lengths, unlessRefused, mapLeft}
 use Rattle.table.specs.Queries.{walkAnswer, countAnswer, QueryPost}
 use Rattle.table.specs.Updates.{UpdatePost}
-use Rattle.table.specs.History.{Event, MetBy, isReport, isQuery, SecondTable, SameOnSecond, Agreed}
+use Rattle.table.specs.History.{Event, MetBy, isQuery, lengthsIn, SecondTable, SameOnSecond, Agreed}
 use Rattle.table.proofs.Keyed.{KeyReply, keyReply, replyTo, refusedOr, accepted, gives}
 
 -- what the tree's theorems give of a sound table
@@ -103,7 +103,7 @@ map-accepted (suc n) bs map e = let z : ⊥ = omega arith in absurd z
 
 -- the reply of the plain list over keys
 abbrev pub keyReplyIn : Call → List ℕ → List Spot → Event → KeyReply
-keyReplyIn c t ss e = keyReply (lengths t (e .output) (e .readMap) (e .scratch)) c ss
+keyReplyIn c t ss e = keyReply (lengthsIn t e) c ss
 
 -- what a step of the history keeps: the claim, and that list as the live spots
 pub record Kept (c : Call) (t : List ℕ) (e : Event) : Type 0 where
@@ -133,7 +133,7 @@ second-same c v w t u e f p q o m n x =
 query-kept : (c : Call) (w : Walk) (found : List Spot) (t : List ℕ) (e : Event) → sound t ≡ true → e .table′ ≡ t → Finds w found → PostOf c w t e
     → keyReplyIn c t (liveSpots t) e
     ≡ refusedOr (lengthNumber (lengths t (e .output) (e .readMap) []) c) (liveSpots t) (gives (length (e .output)) found (liveSpots t))
-    → (isReport c ≡ true → ones (readMap (blocksRead w)) ≤ 1 + 36 * (headOf t .levels) + 9 * (length (spots w) / 16))
+    → ((x1 x2 y : ℤ) → c ≡ report x1 x2 y → ones (readMap (blocksRead w)) ≤ 1 + 36 * (headOf t .levels) + 9 * (length (spots w) / 16))
     → ((u : List ℕ) (f : Event) → SecondTable c t e u f → ((b : ℕ) → bit (readMap (blocksRead w)) b ≡ true → block u b ≡ block t b)
     → (v : Walk) × PostOf c v u f × (v ≡ w))
     → Kept c t e
@@ -144,7 +144,8 @@ query-kept c w found t e s same whole p model bound second =
             answer = rw model as-model;
             output = λ q. rw model (query-output l w found whole ss (e .output) (e .output′) (e .answer) (p .answered) (p .output));
             staysSound = rw same s;
-            bounded = λ q z. rw (marks-are z, found-detail l (length (e .output)) found ss (e .answer) as-model z, ← ap spots (whole .1)) (bound q);
+            bounded = λ x1 x2 y q z.
+                rw (marks-are z, found-detail l (length (e .output)) found ss (e .answer) as-model z, ← ap spots (whole .1)) (bound x1 x2 y q);
             second = λ q z u f h. let r = second u f h (λ b k. h .marked b (rw (marks-are z) k)) in
                 second-same c (r .0) w t u e f p (r .1) (h .output) (h .readMap) (h .bytes) (r .2);
           };
@@ -181,6 +182,18 @@ refused-next zero zero ss next = inr (refl, refl)
 refused-next zero (suc n) ss next = inl (λ e. omega arith, refl)
 refused-next (suc l) due ss next = inl (λ e. omega arith, refl)
 
+-- a call that hands out no spots
+no-query : (c : Call) (t : List ℕ) (due : Answer) (left : List ℕ) (e : Event) → isQuery c ≡ false → e .answer ≡ due → sound (e .table′) ≡ true
+    → Agreed c t due left e
+no-query c t due left e n a s =
+    record {
+      answer = a;
+      output = λ q. absurd (true≢false (sym q ∙ n));
+      staysSound = s;
+      bounded = λ x1 x2 y q. absurd (true≢false (sym (ap isQuery q) ∙ n));
+      second = λ q. absurd (true≢false (sym q ∙ n));
+    }
+
 module _ (laws : TreeLaws) where
   update-kept : (c : Call) (due : ℕ) (after : ℕ → Option ℕ) (t : List ℕ) (e : Event) (next : List Spot) → sound t ≡ true
       → UpdatePost c due after t (e .scratch) (e .answer) (e .table′) (e .scratch′)
@@ -189,18 +202,10 @@ module _ (laws : TreeLaws) where
       → rising (keys next) ≡ true
       → ((k : ℕ) → find k next ≡ after k)
       → isQuery c ≡ false
-      → isReport c ≡ false
       → Kept c t e
-  update-kept c due after t e next s p model up found nq nr =
+  update-kept c due after t e next s p model up found nq =
       record {
-        agreed =
-            record {
-              answer = rw model number;
-              output = λ q. absurd (true≢false (sym q ∙ nq));
-              staysSound = p .staysSound s;
-              bounded = λ q. absurd (true≢false (sym q ∙ nr));
-              second = λ q. absurd (true≢false (sym q ∙ nq));
-            };
+        agreed = no-query c t _ _ e nq (rw model number) (p .staysSound s);
         sized = p .sized;
         next =
             rw model
@@ -229,21 +234,8 @@ module _ (laws : TreeLaws) where
       → length (e .table′) ≡ length t
       → keyReplyIn c t (liveSpots t) e .next ≡ liveSpots (e .table′)
       → isQuery c ≡ false
-      → isReport c ≡ false
       → Kept c t e
-  plain-kept c t e a s z n nq nr =
-      record {
-        agreed =
-            record {
-              answer = a;
-              output = λ q. absurd (true≢false (sym q ∙ nq));
-              staysSound = s;
-              bounded = λ q. absurd (true≢false (sym q ∙ nr));
-              second = λ q. absurd (true≢false (sym q ∙ nq));
-            };
-        sized = z;
-        next = n;
-      }
+  plain-kept c t e a s z n nq = record { agreed = no-query c t _ _ e nq a s; sized = z; next = n }
 
   -- the model's list after an addition and after a withdrawal: it rises, and finds what it should
   module _ (t : List ℕ) (s : sound t ≡ true) (k : ℕ) where
@@ -269,31 +261,28 @@ module _ (laws : TreeLaws) where
       plain-kept format t e (p .answered ∙ rw z) (rw left (laws .fresh-sound (length t) z)) (rw left (laws .fresh-sized (length t) z))
       (rw (z, left) (sym (laws .fresh-empty (length t) z)))
       refl
-      refl
   step (add place rank track) t e z s p =
       update-kept (add place rank track) _ _ t e (put (record { key = key place rank; track = track }) (without (key place rank) (liveSpots t))) s (p .update)
       (rw (laws .finds t s (key place rank)))
       (put-up t s (key place rank) track)
       (put-found t s (key place rank) track)
       refl
-      refl
   step (withdraw place rank) t e z s p =
       update-kept (withdraw place rank) 0 _ t e (without (key place rank) (liveSpots t)) s (p .update) refl (without-up t s (key place rank))
       (without-found t s (key place rank))
       refl
-      refl
   step (report x1 x2 y) t e z s p =
       query-kept (report x1 x2 y) (walkTable t (query x1 x2 y)) _ t e s (p .0) (laws .reports t s (query x1 x2 y)) (p .1) refl
-      (λ q. laws .bound t s (query x1 x2 y))
+      (λ a b d q. laws .bound t s (query x1 x2 y))
       (λ u f h m. (walkTable u (query x1 x2 y), h .met .1, laws .second t u s (query x1 x2 y) (h .bytes) m))
   step (top x1 x2 k) t e z s p =
       query-kept (top x1 x2 k) (topTable t x1 x2 k) _ t e s (p .0) (laws .tops t s x1 x2 k) (p .1 .exact (laws .top-rises t s x1 x2 k)) refl
-      (λ q. absurd (false≢true q))
+      (λ a b d q. let z : _≡_ {A = ℕ} 0 1 = cc in omega arith)
       (λ u f h m.
       let same = laws .second-top t u s x1 x2 k (h .bytes) m in
       (topTable u x1 x2 k, h .met .1 .exact (rw (same .0) (laws .top-rises t s x1 x2 k)), same .1))
   step count t e z s p =
-      plain-kept count t e (p .1 .answered ∙ rw (z, laws .counts t s .1)) (rw (p .0) s) (ap length (p .0)) (rw (z, p .0)) refl refl
+      plain-kept count t e (p .1 .answered ∙ rw (z, laws .counts t s .1)) (rw (p .0) s) (ap length (p .0)) (rw (z, p .0)) refl
   step check t e z s p =
-      plain-kept check t e (p .1 .answered ∙ rw (z, s)) (rw (p .0) s) (ap length (p .0)) (rw (z, p .0)) refl refl
-  step rebuild t e z s p = update-kept rebuild 0 (live t) t e (liveSpots t) s (p .update) refl (laws .rises t s) (laws .finds t s) refl refl
+      plain-kept check t e (p .1 .answered ∙ rw (z, s)) (rw (p .0) s) (ap length (p .0)) (rw (z, p .0)) refl
+  step rebuild t e z s p = update-kept rebuild 0 (live t) t e (liveSpots t) s (p .update) refl (laws .rises t s) (laws .finds t s) refl

@@ -16,7 +16,7 @@ use Rattle.spot.specs.Query.{query, topQuery}
 use Rattle.block.specs.declared.Answer.{Answer}
 use Rattle.tree.specs.Lookup.{live}
 use Rattle.tree.specs.Sound.{sound}
-use Rattle.table.specs.Calls.{Call, format, add, withdraw, report, top, count, check, rebuild, argumentsFit}
+use Rattle.table.specs.Calls.{Call, add, withdraw, report, top, argumentsFit}
 use Rattle.table.specs.Answers.{lengths, lengthNumber, spotsAnswer}
 use Rattle.table.specs.Queries.{HandsOut, ReportPost, TopPost}
 use Rattle.table.specs.Updates.{AddPost, WithdrawPost}
@@ -25,10 +25,14 @@ use Rattle.table.specs.History.{Event, MetBy, isQuery}
 
 -- ---- demand 1
 
+-- the numbers of a refusal
+abbrev pub refusals : List ℕ
+refusals = 1 ∷ 2 ∷ 3 ∷ 4 ∷ 5 ∷ []
+
 -- a call c, turned down at the table t
 pub record TurnedDown (c : Call) (t : List ℕ) (e : Event) : Type 0 where
   -- "One that is turned down returns one of five numbers"
-  pub number : has (e .answer .number) (1 ∷ 2 ∷ 3 ∷ 4 ∷ 5 ∷ []) ≡ true
+  pub number : has (e .answer .number) refusals ≡ true
   -- "detail 0", but for 5
   pub detail : (e .answer .number ≡ 5 → ⊥) → e .answer .detail ≡ 0
   -- "and changes no byte of it but scratch"
@@ -37,15 +41,9 @@ pub record TurnedDown (c : Call) (t : List ℕ) (e : Event) : Type 0 where
   pub readMap : isQuery c ≡ true → e .readMap′ ≡ e .readMap
 
 -- "On an unsound table a call that isn't refused still hands out only spots of its range from blocks marked read"
-abbrev pub OnlyMarked : Call → List ℕ → Event → Type 0
-OnlyMarked format t e = Unit {0}
-OnlyMarked (add place rank track) t e = Unit {0}
-OnlyMarked (withdraw place rank) t e = Unit {0}
-OnlyMarked (report x1 x2 y) t e = HandsOut (query x1 x2 y) t (e .output) (e .answer) (e .output′) (e .readMap′)
-OnlyMarked (top x1 x2 k) t e = HandsOut (topQuery x1 x2 0) t (e .output) (e .answer) (e .output′) (e .readMap′)
-OnlyMarked count t e = Unit {0}
-OnlyMarked check t e = Unit {0}
-OnlyMarked rebuild t e = Unit {0}
+pub record OnlyMarked (c : Call) (t : List ℕ) (e : Event) : Type 0 where
+  pub reports : (x1 x2 y : ℤ) → c ≡ report x1 x2 y → HandsOut (query x1 x2 y) t (e .output) (e .answer) (e .output′) (e .readMap′)
+  pub tops : (x1 x2 : ℤ) (k : ℕ) → c ≡ top x1 x2 k → HandsOut (topQuery x1 x2 0) t (e .output) (e .answer) (e .output′) (e .readMap′)
 
 -- what is claimed of a call that ended
 pub record AnyBytes (c : Call) (t : List ℕ) (e : Event) : Type 0 where

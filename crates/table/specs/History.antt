@@ -6,6 +6,7 @@ use Prim.Native.Nat.{ℕ, _+_, _*_, _/_, _-_, _≤_, _<_}
 use mathlib.Core.Bool.{Bool, true, false}
 use mathlib.Core.List.{List, [], _∷_}
 use lib.ListN.{length}
+use lib.IntN.{ℤ}
 use Rattle.octets.specs.Bitmap.{bit}
 use Rattle.block.specs.declared.Answer.{Answer}
 use Rattle.block.specs.Table.{block, tableSized}
@@ -14,7 +15,7 @@ use Rattle.block.specs.Fresh.{formatted}
 use Rattle.tree.specs.ReadMap.{ones}
 use Rattle.tree.specs.Sound.{sound}
 use Rattle.tree.specs.Read.{ReadBlock}
-use Rattle.table.specs.Calls.{Call, format, add, withdraw, report, top, count, check, rebuild, argumentsFit}
+use Rattle.table.specs.Calls.{Call, format, add, withdraw, report, top, count, check, rebuild, Lengths, argumentsFit}
 use Rattle.table.specs.Answers.{lengths}
 use Rattle.table.specs.Queries.{ReportPost, TopPost, CountPost, CheckPost}
 use Rattle.table.specs.Updates.{FormatPost, AddPost, WithdrawPost, RebuildPost}
@@ -49,16 +50,6 @@ abbrev pub History : List ℕ → List Event → Type 0
 History t [] = Unit {0}
 History t (e ∷ es) = (argumentsFit (e .call) ≡ true) × MetBy (e .call) t e × History (e .table′) es
 
-abbrev pub isReport : Call → Bool
-isReport format = false
-isReport (add place rank track) = false
-isReport (withdraw place rank) = false
-isReport (report x1 x2 y) = true
-isReport (top x1 x2 k) = false
-isReport count = false
-isReport check = false
-isReport rebuild = false
-
 -- the calls that hand out spots
 abbrev pub isQuery : Call → Bool
 isQuery format = false
@@ -70,9 +61,16 @@ isQuery count = false
 isQuery check = false
 isQuery rebuild = false
 
--- the model's reply to an event on the table t
+-- "the lengths of table, output, read map and work area" of an event on the table t
+abbrev pub lengthsIn : List ℕ → Event → Lengths
+lengthsIn t e = lengths t (e .output) (e .readMap) (e .scratch)
+
+-- the model's reply to it, and what the model holds afterwards
 abbrev pub replyIn : Call → List ℕ → Plain → Event → Reply
-replyIn c t ps e = reply (lengths t (e .output) (e .readMap) (e .scratch)) c ps
+replyIn c t ps e = reply (lengthsIn t e) c ps
+
+abbrev pub modelAfter : List ℕ → Plain → Event → Plain
+modelAfter t ps e = replyIn (e .call) t ps e .next
 
 -- "On the second table the call has the same arguments and is lent an equal output and map": the same call on a table u of the same length that has the
 -- same bytes in every block marked
@@ -95,40 +93,29 @@ pub record Agreed (c : Call) (t : List ℕ) (due : Answer) (left : List ℕ) (e 
   pub output : isQuery c ≡ true → e .output′ ≡ left
   pub staysSound : sound (e .table′) ≡ true
   -- "a Report marks at most 1 + 36h + 9 · (spots reported div 16)"; "Levels are those of the tree as lent to that report"
-  pub bounded : isReport c ≡ true → e .answer .number ≡ 0 → ones (e .readMap′) ≤ 1 + 36 * (headOf t .levels) + 9 * (e .answer .detail / 16)
+  pub bounded : (x1 x2 y : ℤ) → c ≡ report x1 x2 y → e .answer .number ≡ 0
+      → ones (e .readMap′) ≤ 1 + 36 * (headOf t .levels) + 9 * (e .answer .detail / 16)
   pub second : isQuery c ≡ true → e .answer .number ≡ 0 → (u : List ℕ) (f : Event) → SecondTable c t e u f → SameOnSecond e f
 
 -- "With scratch enough, "full" comes exactly when the plain list holds 16 spots for each block after the first and the new spot's place and rank are not
 -- among them"
 abbrev pub FullExactly : Call → List ℕ → Plain → Event → Type 0
-FullExactly format t ps e = Unit {0}
-FullExactly (add place rank track) t ps e =
-    length t ≤ length (e .scratch) → (e .answer .number ≡ 4) ↔ ((length (ps .spots) ≡ 16 * (length t / 2048 - 1)) × (listed place rank (ps .spots) ≡ false))
-FullExactly (withdraw place rank) t ps e = Unit {0}
-FullExactly (report x1 x2 y) t ps e = Unit {0}
-FullExactly (top x1 x2 k) t ps e = Unit {0}
-FullExactly count t ps e = Unit {0}
-FullExactly check t ps e = Unit {0}
-FullExactly rebuild t ps e = Unit {0}
+FullExactly c t ps e =
+    (place rank : ℤ) (track : ℕ) → c ≡ add place rank track → length t ≤ length (e .scratch)
+    → (e .answer .number ≡ 4) ↔ ((length (ps .spots) ≡ 16 * (length t / 2048 - 1)) × (listed place rank (ps .spots) ≡ false))
 
 -- "Each accepted report marks exactly the blocks that the scope paper has it read"
 abbrev pub MarksExactly : Call → List ℕ → Event → Type 0
-MarksExactly format t e = Unit {0}
-MarksExactly (add place rank track) t e = Unit {0}
-MarksExactly (withdraw place rank) t e = Unit {0}
-MarksExactly (report x1 x2 y) t e =
-    e .answer .number ≡ 0 → (b : ℕ) → b < 4096 → (bit (e .readMap′) b ≡ true) ↔ ((b ≡ 0) ⊎ ReadBlock t x1 x2 y b)
-MarksExactly (top x1 x2 k) t e = Unit {0}
-MarksExactly count t e = Unit {0}
-MarksExactly check t e = Unit {0}
-MarksExactly rebuild t e = Unit {0}
+MarksExactly c t e =
+    (x1 x2 y : ℤ) → c ≡ report x1 x2 y → e .answer .number ≡ 0
+    → (b : ℕ) → b < 4096 → (bit (e .readMap′) b ≡ true) ↔ ((b ≡ 0) ⊎ ReadBlock t x1 x2 y b)
 
 -- from the table t and what the model holds, ps, on
 abbrev pub AllAgreed : List ℕ → Plain → List Event → Type 0
 AllAgreed t ps [] = Unit {0}
 AllAgreed t ps (e ∷ es) =
     let r = replyIn (e .call) t ps e in
-    Agreed (e .call) t (r .answer) (outputAfter r (e .output)) e × FullExactly (e .call) t ps e × MarksExactly (e .call) t e × AllAgreed (e .table′) (r .next) es
+    Agreed (e .call) t (r .answer) (outputAfter r (e .output)) e × FullExactly (e .call) t ps e × MarksExactly (e .call) t e × AllAgreed (e .table′) (modelAfter t ps e) es
 
 -- Demand 3, sentence by sentence:
 --   "For every list of calls (..; any arguments, refused ones included)"            `es : List Event`, each with a `Call` whose arguments fit their 32 bits
@@ -136,7 +123,7 @@ AllAgreed t ps (e ∷ es) =
 --   "each call lent it whole as the one before left it, with no other writer"       `History`: the next event is met on `table′` of this one
 --   "every call leaves the table sound"                                             `Agreed .staysSound`
 --   "gives the same number, detail and spots, in the same order, as the scope       `Agreed .answer`, `Agreed .output`: against `reply` of the model, begun
---    paper's plain list, begun empty and fed the same calls and lent lengths"       with `begunEmpty`, and fed the call and `lengths` alone (`replyIn`)
+--    paper's plain list, begun empty and fed the same calls and lent lengths"       with `begunEmpty`, and fed the call and `lengthsIn` alone (`replyIn`)
 --   "With scratch enough, "full" comes exactly when .."                             `FullExactly`
 --   "Each accepted report marks exactly the blocks that the scope paper has it read" `MarksExactly`: block 0 and `ReadBlock`
 --   "at most 1, plus 36 for each level of the tree, plus 9 for each whole 16 spots" `Agreed .bounded`

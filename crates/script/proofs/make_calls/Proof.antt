@@ -6,7 +6,7 @@ use native.Mathlib.Omega.{arith}
 use lib.ListN.{length, drop, length-take, length-drop}
 use borrow.Author.Needs.{needs}
 use borrow.Rule.Slice.PartMut.{same-len-mid}
-use Rattle.script.specs.Run.{held, lengthsIn}
+use Rattle.script.specs.Run.{held, runLengths}
 use Rattle.script.proofs.Turns.{Going, part-fits, start, next, ended}
 use Rattle.script.proofs.turn.Reads as turn-reads
 use Rattle.script.proofs.make_calls.Statement.{statement}
@@ -17,7 +17,7 @@ use Rattle.script.proofs.make_calls.Lts as lts
 abbrev Inv-loop : tie.InvT-loop
 Inv-loop script n table₀ scratch₀ read-map₀ log₀ part i₀ at₀ table scratch read-map log i at =
     (i ≤ n) × (at ≡ part * i) × (length log ≡ length log₀)
-    × Going script (lengthsIn table₀ scratch₀ read-map₀ part) (held table₀ scratch₀ read-map₀ log₀) table scratch read-map log i at
+    × Going script (runLengths table₀ scratch₀ read-map₀ part) (held table₀ scratch₀ read-map₀ log₀) table scratch read-map log i at
 
 abbrev μ-loop : tie.MeasureT-loop
 μ-loop script n table₀ scratch₀ read-map₀ log₀ part i₀ at₀ table scratch read-map log i at = n - i
