@@ -17,12 +17,12 @@ use Rattle.octets.proofs.Tests.{and-both}
 use Rattle.spot.specs.Keys.{signed32, unsigned32}
 use Rattle.spot.proofs.Signed.{fits-signed}
 use Rattle.block.specs.declared.Answer.{Answer}
-use Rattle.table.specs.Calls.{Call, format, add, withdraw, report, top, count, check, rebuild, argumentsFit}
+use Rattle.table.specs.Calls.{Call, format, add, withdraw, report, top, count, check, rebuild, kind, takesScratch, mayChange, isQuery, argumentsFit}
 use Rattle.table.specs.Queries.{ReportPost, TopPost, CountPost, CheckPost}
 use Rattle.table.specs.Updates.{FormatPost, AddPost, WithdrawPost, RebuildPost}
-use Rattle.table.specs.History.{MetBy, isQuery}
+use Rattle.table.specs.History.{Promised}
 use Rattle.script.specs.Script.{callOf, callAt}
-use Rattle.script.specs.Run.{Called, eventOf, takesScratch}
+use Rattle.script.specs.Run.{Called, eventOf}
 
 -- ---- arguments
 
@@ -86,22 +86,23 @@ module _ (s : List ℕ) (bytes : (k : ℕ) → getD s k 0 < 256) (at : ℕ) wher
   read-back i a e = sym (ap (toZ w32) (ap (ofZ w32) e ∙ ofZ-toZ w32 (be 4 s i) (record { fits = be-lt 4 s i bytes })))
 
   -- a call that is no query leaves output and map alone
-  updated : (c : Call) (t w m out : List ℕ) (r : Answer) (t′ w′ : List ℕ) → callAt s at ≡ c → (takesScratch c ≡ false → w′ ≡ w)
-      → MetBy c t (eventOf c w m out r t′ w′ m out)
+  updated : (c : Call) (t w m out : List ℕ) (r : Answer) (t′ w′ : List ℕ) → callAt s at ≡ c → (takesScratch (kind c) ≡ false → w′ ≡ w)
+      → (mayChange (kind c) ≡ false → t′ ≡ t)
+      → Promised c t (eventOf c w m out r t′ w′ m out)
       → Called t (eventOf (callAt s at) w m out r t′ w′ m out)
-  updated c t w m out r t′ w′ e k p =
+  updated c t w m out r t′ w′ e k n p =
       subst (λ (x : Call). Called t (eventOf x w m out r t′ w′ m out)) (sym e)
-      (record { fit = ap argumentsFit (sym e) ∙ fit-at; met = p; outputKept = λ n. refl; mapKept = λ n. refl; scratchKept = k })
+      (record { fit = ap argumentsFit (sym e) ∙ fit-at; met = record { promised = p; unchanged = n }; outputKept = λ n. refl; mapKept = λ n. refl; scratchKept = k })
 
   -- a query leaves table and scratch alone
   asked : (c : Call) (t w m out : List ℕ) (r : Answer) (m′ out′ : List ℕ) → callAt s at ≡ c → isQuery c ≡ true
-      → MetBy c t (eventOf c w m out r t w m′ out′)
+      → Promised c t (eventOf c w m out r t w m′ out′)
       → Called t (eventOf (callAt s at) w m out r t w m′ out′)
   asked c t w m out r m′ out′ e q p =
       subst (λ (x : Call). Called t (eventOf x w m out r t w m′ out′)) (sym e)
       (record {
         fit = ap argumentsFit (sym e) ∙ fit-at;
-        met = p;
+        met = record { promised = p; unchanged = λ n. refl };
         outputKept = λ n. absurd (true≢false (sym q ∙ n));
         mapKept = λ n. absurd (true≢false (sym q ∙ n));
         scratchKept = λ n. refl;
@@ -110,7 +111,7 @@ module _ (s : List ℕ) (bytes : (k : ℕ) → getD s k 0 < 256) (at : ℕ) wher
   module _ (t w m out : List ℕ) (r : Answer) where
     pub made-format : (t′ : List ℕ) → be 4 s at ≡ 0 → FormatPost t r t′ → Called t (eventOf (callAt s at) w m out r t′ w m out)
     unfolding callOf
-    made-format t′ e p = updated format t w m out r t′ w (numbered 0 format e refl) (λ n. refl) p
+    made-format t′ e p = updated format t w m out r t′ w (numbered 0 format e refl) (λ n. refl) (λ n. absurd (true≢false n)) p
 
     pub made-add : (x y : ℤ) (k : ℕ) (t′ w′ : List ℕ) → be 4 s at ≡ 1 → x ≡ toZ w32 (be 4 s (at + 4)) → y ≡ toZ w32 (be 4 s (at + 8))
         → k ≡ be 4 s (at + 12)
@@ -119,7 +120,7 @@ module _ (s : List ℕ) (bytes : (k : ℕ) → getD s k 0 < 256) (at : ℕ) wher
     unfolding callOf
     made-add x y k t′ w′ e ex ey ek p =
         let c : Call = add (toZ w32 (ofZ w32 x)) (toZ w32 (ofZ w32 y)) k in
-        updated c t w m out r t′ w′ (numbered 1 c e (rw (read-back (at + 4) x ex, read-back (at + 8) y ey, ek))) (λ n. absurd (true≢false n)) p
+        updated c t w m out r t′ w′ (numbered 1 c e (rw (read-back (at + 4) x ex, read-back (at + 8) y ey, ek))) (λ n. absurd (true≢false n)) (λ n. absurd (true≢false n)) p
 
     pub made-withdraw : (x y : ℤ) (t′ w′ : List ℕ) → be 4 s at ≡ 2 → x ≡ toZ w32 (be 4 s (at + 4)) → y ≡ toZ w32 (be 4 s (at + 8))
         → WithdrawPost (toZ w32 (ofZ w32 x)) (toZ w32 (ofZ w32 y)) t w r t′ w′
@@ -127,7 +128,7 @@ module _ (s : List ℕ) (bytes : (k : ℕ) → getD s k 0 < 256) (at : ℕ) wher
     unfolding callOf
     made-withdraw x y t′ w′ e ex ey p =
         let c : Call = withdraw (toZ w32 (ofZ w32 x)) (toZ w32 (ofZ w32 y)) in
-        updated c t w m out r t′ w′ (numbered 2 c e (rw (read-back (at + 4) x ex, read-back (at + 8) y ey))) (λ n. absurd (true≢false n)) p
+        updated c t w m out r t′ w′ (numbered 2 c e (rw (read-back (at + 4) x ex, read-back (at + 8) y ey))) (λ n. absurd (true≢false n)) (λ n. absurd (true≢false n)) p
 
     pub made-report : (x1 x2 y : ℤ) (m′ out′ : List ℕ) → be 4 s at ≡ 3 → x1 ≡ toZ w32 (be 4 s (at + 4)) → x2 ≡ toZ w32 (be 4 s (at + 8))
         → y ≡ toZ w32 (be 4 s (at + 12))
@@ -136,7 +137,7 @@ module _ (s : List ℕ) (bytes : (k : ℕ) → getD s k 0 < 256) (at : ℕ) wher
     unfolding callOf
     made-report x1 x2 y m′ out′ e e1 e2 ey p =
         let c : Call = report (toZ w32 (ofZ w32 x1)) (toZ w32 (ofZ w32 x2)) (toZ w32 (ofZ w32 y)) in
-        asked c t w m out r m′ out′ (numbered 3 c e (rw (read-back (at + 4) x1 e1, read-back (at + 8) x2 e2, read-back (at + 12) y ey))) refl (refl, p)
+        asked c t w m out r m′ out′ (numbered 3 c e (rw (read-back (at + 4) x1 e1, read-back (at + 8) x2 e2, read-back (at + 12) y ey))) refl p
 
     pub made-top : (x1 x2 : ℤ) (k : ℕ) (m′ out′ : List ℕ) → be 4 s at ≡ 4 → x1 ≡ toZ w32 (be 4 s (at + 4)) → x2 ≡ toZ w32 (be 4 s (at + 8))
         → k ≡ be 4 s (at + 12)
@@ -145,15 +146,15 @@ module _ (s : List ℕ) (bytes : (k : ℕ) → getD s k 0 < 256) (at : ℕ) wher
     unfolding callOf
     made-top x1 x2 k m′ out′ e e1 e2 ek p =
         let c : Call = top (toZ w32 (ofZ w32 x1)) (toZ w32 (ofZ w32 x2)) k in
-        asked c t w m out r m′ out′ (numbered 4 c e (rw (read-back (at + 4) x1 e1, read-back (at + 8) x2 e2, ek))) refl (refl, p)
+        asked c t w m out r m′ out′ (numbered 4 c e (rw (read-back (at + 4) x1 e1, read-back (at + 8) x2 e2, ek))) refl p
 
     pub made-count : be 4 s at ≡ 5 → CountPost t r → Called t (eventOf (callAt s at) w m out r t w m out)
     unfolding callOf
-    made-count e p = updated count t w m out r t w (numbered 5 count e refl) (λ n. refl) (refl, p)
+    made-count e p = updated count t w m out r t w (numbered 5 count e refl) (λ n. refl) (λ n. refl) p
 
     pub made-check : be 4 s at ≡ 6 → CheckPost t r → Called t (eventOf (callAt s at) w m out r t w m out)
     unfolding callOf
-    made-check e p = updated check t w m out r t w (numbered 6 check e refl) (λ n. refl) (refl, p)
+    made-check e p = updated check t w m out r t w (numbered 6 check e refl) (λ n. refl) (λ n. refl) p
 
     pub made-rebuild : (t′ w′ : List ℕ) (n : ℕ) → n ≡ be 4 s at → (n ≡ 0 → ⊥) → (n ≡ 1 → ⊥) → (n ≡ 2 → ⊥) → (n ≡ 3 → ⊥) → (n ≡ 4 → ⊥)
         → (n ≡ 5 → ⊥)
@@ -163,5 +164,6 @@ module _ (s : List ℕ) (bytes : (k : ℕ) → getD s k 0 < 256) (at : ℕ) wher
     made-rebuild t′ w′ n e h0 h1 h2 h3 h4 h5 h6 p =
         updated rebuild t w m out r t′ w′
         (numbered n rebuild (sym e) (call-last n (be 4 s (at + 4)) (be 4 s (at + 8)) (be 4 s (at + 12)) h0 h1 h2 h3 h4 h5 h6))
+        (λ n. absurd (true≢false n))
         (λ n. absurd (true≢false n))
         p

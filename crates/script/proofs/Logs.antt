@@ -7,9 +7,9 @@ use Prim.Native.Nat.{ℕ, _+_, _*_}
 use lib.ListN.{length, take, drop}
 use Rattle.block.specs.declared.Answer.{Answer}
 use Rattle.tree.specs.Sound.{sound}
-use Rattle.table.specs.Calls.{Call, format, add, withdraw, report, top, count, check, rebuild, Lengths}
-use Rattle.table.specs.Model.{PlainSpot, Plain, begunEmpty, Reply, takenOut, broughtIn, asBytes, outputAfter, refuse, accept, badTable, shortScratch, full, reply, fourBytes}
-use Rattle.table.specs.History.{Event, History, AllAgreed, isQuery, replyIn, modelAfter}
+use Rattle.table.specs.Calls.{Call, format, add, withdraw, report, top, count, check, rebuild, kind, isQuery, Lengths}
+use Rattle.table.specs.Model.{PlainSpot, Plain, Reply, asBytes, outputAfter, refuse, accept, badTable, badLent, full, ownReply, reply, fourBytes}
+use Rattle.table.specs.History.{Event, History, AllAgreed, replyIn, modelAfter}
 use Rattle.script.specs.Script.{Step, lentTo, logAfter}
 use Rattle.script.specs.Run.{entry, Held, heldAfter, passed, outputOf, InTurn, AllInTurn, entries}
 use Rattle.script.proofs.Fronts.{drop-lent}
@@ -21,30 +21,21 @@ unfolding refuse
 unless-refused true number detail ps r e = refl
 unless-refused false number detail ps r e = e
 
-accepts-none : (detail : ℕ) (ps : Plain) → accept detail [] ps .given ≡ []
-unfolding accept
-accepts-none detail ps = refl
-
--- 2 for want of scratch, where the table is right
-lent-scratch : (l : Lengths) (ps : Plain) (r : Reply) → r .given ≡ []
-    → cond (badTable (l .table)) (refuse 1 0 ps) (cond (shortScratch l) (refuse 2 0 ps) r) .given ≡ []
-lent-scratch l ps r e =
-    unless-refused (badTable (l .table)) 1 0 ps (cond (shortScratch l) (refuse 2 0 ps) r) (unless-refused (shortScratch l) 2 0 ps r e)
+own-none : (l : Lengths) (c : Call) (ps : Plain) → isQuery c ≡ false → ownReply l c ps .given ≡ []
+unfolding ownReply accept
+own-none l format ps q = refl
+own-none l (add place rank track) ps q = unless-refused (full (l .table) place rank (ps .spots)) 4 0 ps _ refl
+own-none l (withdraw place rank) ps q = refl
+own-none l (report x1 x2 y) ps q = absurd (true≢false q)
+own-none l (top x1 x2 k) ps q = absurd (true≢false q)
+own-none l count ps q = refl
+own-none l check ps q = refl
+own-none l rebuild ps q = refl
 
 hands-none : (l : Lengths) (c : Call) (ps : Plain) → isQuery c ≡ false → reply l c ps .given ≡ []
 unfolding reply
-hands-none l format ps q = unless-refused (badTable (l .table)) 1 0 ps (accept 0 [] begunEmpty) (accepts-none 0 begunEmpty)
-hands-none l (add place rank track) ps q =
-    let after : Plain = record { spots = broughtIn (record { place = place; rank = rank; track = track }) (ps .spots) } in
-    lent-scratch l ps (cond (full (l .table) place rank (ps .spots)) (refuse 4 0 ps) (accept 0 [] after))
-    (unless-refused (full (l .table) place rank (ps .spots)) 4 0 ps (accept 0 [] after) (accepts-none 0 after))
-hands-none l (withdraw place rank) ps q =
-    let after : Plain = record { spots = takenOut place rank (ps .spots) } in lent-scratch l ps (accept 0 [] after) (accepts-none 0 after)
-hands-none l (report x1 x2 y) ps q = absurd (true≢false q)
-hands-none l (top x1 x2 k) ps q = absurd (true≢false q)
-hands-none l count ps q = unless-refused (badTable (l .table)) 1 0 ps (accept (length (ps .spots)) [] ps) (accepts-none (length (ps .spots)) ps)
-hands-none l check ps q = unless-refused (badTable (l .table)) 1 0 ps (accept 1 [] ps) (accepts-none 1 ps)
-hands-none l rebuild ps q = lent-scratch l ps (accept 0 [] ps) (accepts-none 0 ps)
+hands-none l c ps q =
+    unless-refused (badTable (l .table)) 1 0 ps _ (unless-refused (badLent l (kind c)) 2 0 ps (ownReply l c ps) (own-none l c ps q))
 
 output-stays : (r : Reply) (out : List ℕ) → r .given ≡ [] → outputAfter r out ≡ out
 unfolding outputAfter

@@ -10,21 +10,10 @@ use Rattle.block.specs.declared.Answer.{Answer}
 use Rattle.block.specs.Table.{tableSized}
 use Rattle.block.specs.Fresh.{formatted}
 use Rattle.tree.specs.Sound.{sound}
-use Rattle.table.specs.Calls.{Call, format, add, withdraw, report, top, count, check, rebuild, Lengths, argumentsFit}
+use Rattle.table.specs.Calls.{Call, kind, takesScratch, isQuery, Lengths, argumentsFit}
 use Rattle.table.specs.Model.{begunEmpty, fourBytes}
-use Rattle.table.specs.History.{Event, MetBy, History, AllAgreed, isQuery, lengthsIn}
+use Rattle.table.specs.History.{Event, MetBy, History, AllAgreed, lengthsIn}
 use Rattle.script.specs.Script.{Step, callsIn, stepsOf, lentTo, partOf, logAfter}
-
--- the calls that are lent the scratch
-abbrev pub takesScratch : Call → Bool
-takesScratch format = false
-takesScratch (add place rank track) = true
-takesScratch (withdraw place rank) = true
-takesScratch (report x1 x2 y) = false
-takesScratch (top x1 x2 k) = false
-takesScratch count = false
-takesScratch check = false
-takesScratch rebuild = true
 
 -- an event of its call, what it was lent beside the table, its answer, and what it left
 abbrev pub eventOf : Call → List ℕ → List ℕ → List ℕ → Answer → List ℕ → List ℕ → List ℕ → List ℕ → Event
@@ -37,7 +26,7 @@ pub record Called (t : List ℕ) (e : Event) : Type 0 where
   pub met : MetBy (e .call) t e
   pub outputKept : isQuery (e .call) ≡ false → e .output′ ≡ e .output
   pub mapKept : isQuery (e .call) ≡ false → e .readMap′ ≡ e .readMap
-  pub scratchKept : takesScratch (e .call) ≡ false → e .scratch′ ≡ e .scratch
+  pub scratchKept : takesScratch (kind (e .call)) ≡ false → e .scratch′ ≡ e .scratch
 
 -- the event of a step, which is lent the first bytes of scratch, read map and output
 abbrev pub eventIn : Step → List ℕ → List ℕ → List ℕ → Answer → List ℕ → List ℕ → List ℕ → List ℕ → Event

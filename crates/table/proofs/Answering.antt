@@ -21,7 +21,7 @@ use Rattle.block.specs.Fresh.{formatted}
 use Rattle.tree.specs.Walk.{Walk, broken, walked, isBroken, spots, blocksRead, walkTable}
 use Rattle.tree.specs.ReadMap.{readMap}
 use Rattle.tree.specs.Sound.{sound}
-use Rattle.table.specs.Calls.{Call, format, report, count, check, Lengths}
+use Rattle.table.specs.Calls.{Call, format, report, count, check, kind, Lengths}
 use Rattle.table.specs.Answers.{lengths, lent, lengthNumber, unlessRefused, spotsAnswer, outputLeft, mapLeft}
 use Rattle.table.specs.Queries.{walkAnswer, QueryPost, ReportPost, countAnswer, CountPost, CheckPost}
 use Rattle.table.specs.Updates.{FormatPost}
@@ -31,11 +31,11 @@ pub short-table : (l : Lengths) (c : Call) (a : Answer) → tableSized (l .table
 unfolding lengthNumber unlessRefused
 short-table l c a e = rw e
 
-pub short-lent : (l : Lengths) (c : Call) (a : Answer) → tableSized (l .table) ≡ true → lent l c ≡ false → unlessRefused (lengthNumber l c) a ≡ answer 2 0
+pub short-lent : (l : Lengths) (c : Call) (a : Answer) → tableSized (l .table) ≡ true → lent l (kind c) ≡ false → unlessRefused (lengthNumber l c) a ≡ answer 2 0
 unfolding lengthNumber unlessRefused
 short-lent l c a e f = rw (e, f)
 
-pub long-enough : (l : Lengths) (c : Call) (a : Answer) → tableSized (l .table) ≡ true → lent l c ≡ true → unlessRefused (lengthNumber l c) a ≡ a
+pub long-enough : (l : Lengths) (c : Call) (a : Answer) → tableSized (l .table) ≡ true → lent l (kind c) ≡ true → unlessRefused (lengthNumber l c) a ≡ a
 unfolding lengthNumber unlessRefused
 long-enough l c a e f = rw (e, f)
 
@@ -101,10 +101,10 @@ module _ (c : Call) (w : Walk) (t out map : List ℕ) where
   pub query-short : (r : Answer) → tableSized (length t) ≡ false → r ≡ answer 1 0 → QueryPost c w t out map r out map
   query-short r e a = refused-by r 1 0 (omega arith) a (sym (short-table (lengths t out map []) c _ e))
 
-  pub query-lent : (r : Answer) → tableSized (length t) ≡ true → lent (lengths t out map []) c ≡ false → r ≡ answer 2 0 → QueryPost c w t out map r out map
+  pub query-lent : (r : Answer) → tableSized (length t) ≡ true → lent (lengths t out map []) (kind c) ≡ false → r ≡ answer 2 0 → QueryPost c w t out map r out map
   query-lent r e f a = refused-by r 2 0 (omega arith) a (sym (short-lent (lengths t out map []) c _ e f))
 
-  module _ (e : tableSized (length t) ≡ true) (f : lent (lengths t out map []) c ≡ true) where
+  module _ (e : tableSized (length t) ≡ true) (f : lent (lengths t out map []) (kind c) ≡ true) where
     broken-answer : (v : Walk) → isBroken v ≡ true → answer 3 0 ≡ walkAnswer (length out) v
     unfolding walkAnswer
     broken-answer broken h = refl

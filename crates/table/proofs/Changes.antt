@@ -21,7 +21,7 @@ use Rattle.tree.specs.Walk.{liveCount}
 use Rattle.revise.specs.Numbers.{addNumber}
 use Rattle.revise.specs.Revising.{Lent, Revised}
 use Rattle.revise.proofs.Calls.{two-ways, header-breaks}
-use Rattle.table.specs.Calls.{Call, add, withdraw}
+use Rattle.table.specs.Calls.{Call, add, withdraw, kind}
 use Rattle.table.specs.Answers.{lengths, lent, lengthNumber, outcomes}
 use Rattle.table.specs.Updates.{scratchLeft, UpdatePost, ChangePost, AddPost, WithdrawPost}
 
@@ -36,7 +36,7 @@ module _ (c : Call) (t w : List ℕ) (e : tableSized (length t) ≡ false) where
   number-short = rw e
 
 module _ (c : Call) (t w : List ℕ) (e : tableSized (length t) ≡ true) where
-  pub number-lent : lent (lengths t [] [] w) c ≡ false → lengthNumber (lengths t [] [] w) c ≡ 2
+  pub number-lent : lent (lengths t [] [] w) (kind c) ≡ false → lengthNumber (lengths t [] [] w) c ≡ 2
   unfolding lengthNumber
   number-lent h = rw (e, h)
 
@@ -62,7 +62,7 @@ module _ (c : Call) (due : ℕ) (after : ℕ → Option ℕ) (t w : List ℕ) (r
   update-short e a = update-refused 1 (λ h. omega arith) (number-short c t w e) refl a
 
   -- the scratch is too short
-  pub update-lent : tableSized (length t) ≡ true → lent (lengths t [] [] w) c ≡ false → r ≡ answer 2 0 → UpdatePost c due after t w r t w
+  pub update-lent : tableSized (length t) ≡ true → lent (lengths t [] [] w) (kind c) ≡ false → r ≡ answer 2 0 → UpdatePost c due after t w r t w
   unfolding scratchLeft
   update-lent e h a = update-refused 2 (λ x. omega arith) (number-lent c t w e h) refl a
 
@@ -80,11 +80,11 @@ module _ (c : Call) (due : ℕ) (after : ℕ → Option ℕ) (t w : List ℕ) (r
   pub change-short : (j : ℕ) → tableSized (length t) ≡ false → r ≡ answer 1 0 → ChangePost c j due after t w r t w
   change-short j e a = change-refused j 1 (λ x. omega arith) (λ x. omega arith) (number-short c t w e) a (update-short e a)
 
-  pub change-lent : (j : ℕ) → tableSized (length t) ≡ true → lent (lengths t [] [] w) c ≡ false → r ≡ answer 2 0 → ChangePost c j due after t w r t w
+  pub change-lent : (j : ℕ) → tableSized (length t) ≡ true → lent (lengths t [] [] w) (kind c) ≡ false → r ≡ answer 2 0 → ChangePost c j due after t w r t w
   change-lent j e h a = change-refused j 2 (λ x. omega arith) (λ x. omega arith) (number-lent c t w e h) a (update-lent e h a)
 
   -- the lengths are right
-  module _ {t′ w₁ : List ℕ} {j n : ℕ} (l : Lent t w) (asks : lent (lengths t [] [] w) c ≡ leb (length t) (length w)) (g : Revised t t′ w w₁ j due (outcomes c) after n) (a : r ≡ answer n 0) where
+  module _ {t′ w₁ : List ℕ} {j n : ℕ} (l : Lent t w) (asks : lent (lengths t [] [] w) (kind c) ≡ leb (length t) (length w)) (g : Revised t t′ w w₁ j due (outcomes c) after n) (a : r ≡ answer n 0) where
     fine : lengthNumber (lengths t [] [] w) c ≡ 0
     unfolding lengthNumber
     fine = rw (l .sized, asks, le-leb (length t) (length w) (l .room))

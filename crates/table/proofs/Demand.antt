@@ -64,7 +64,7 @@ marks-exactly c t e s a p x1 x2 y q z b l =
     let m : MetBy (report x1 x2 y) t e = subst (λ (d : Call). MetBy d t e) q p in
     let fits : signed32 x1 && signed32 x2 && signed32 y ≡ true = ap argumentsFit (sym q) ∙ a in
     let f = and-left (signed32 x1 && signed32 x2) (signed32 y) fits in
-    rw (m .1 .marks ∙ map-accepted _ _ _ z)
+    rw (m .promised .marks ∙ map-accepted _ _ _ z)
     (marks-exact-words t x1 x2 y s (and-left (signed32 x1) (signed32 x2) f) (and-right (signed32 x1) (signed32 x2) f)
     (and-right (signed32 x1 && signed32 x2) (signed32 y) fits)
     b
@@ -91,7 +91,7 @@ one-step t ps e z s same fit h a m =
       holds = alike .next ∙ k .next;
       fit = alike .fit;
       full = full-exactly (e .call) t ps e z h (k .agreed .answer ∙ sym (alike .answer));
-      held = rw (k .sized) (stays-held (length t) (lengthsIn t e) refl (e .call) ps h);
+      held = rw (k .sized) (stays-held (lengthsIn t e) (e .call) ps a h);
     }
 
 -- a whole history, from any sound table and a model that holds its live spots

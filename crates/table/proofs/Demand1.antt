@@ -25,11 +25,11 @@ use Rattle.tree.specs.Walk.{Walk, broken, walked, spots, blocksRead, walkTable}
 use Rattle.tree.proofs.Fresh.{fresh-sized}
 use Rattle.tree.proofs.Marks.{zero-marked}
 use Rattle.tree.proofs.Sources.{walk-sources, read-in-table, read-marked}
-use Rattle.table.specs.Calls.{Call, format, add, withdraw, report, top, count, check, rebuild, Lengths}
+use Rattle.table.specs.Calls.{Call, format, add, withdraw, report, top, count, check, rebuild, kind, isQuery, Lengths}
 use Rattle.table.specs.Answers.{lengths, lent, lengthNumber, unlessRefused, spotsAnswer, outputLeft, mapLeft, outcomes}
 use Rattle.table.specs.Queries.{walkAnswer, countAnswer, ReportPost, TopPost, HandsOut}
 use Rattle.table.specs.Updates.{UpdatePost}
-use Rattle.table.specs.History.{Event, MetBy, isQuery}
+use Rattle.table.specs.History.{Event, MetBy}
 use Rattle.table.specs.Demands.{refusals, TurnedDown, OnlyMarked, AnyBytes, Demand1}
 use Rattle.table.proofs.Histories.{map-accepted}
 
@@ -42,7 +42,7 @@ of-five n xs h i z = or-left (eqb n 0) (has n refusals) (every-mem (λ m. eqb m 
 -- 1 and 2, by the lengths
 by-lengths : (l : Lengths) (c : Call) → has (lengthNumber l c) (0 ∷ 1 ∷ 2 ∷ []) ≡ true
 unfolding lengthNumber
-by-lengths l c = go (tableSized (l .table)) (lent l c)
+by-lengths l c = go (tableSized (l .table)) (lent l (kind c))
   where
     go : (a b : Bool) → has (cond a (cond b 0 2) 1) (0 ∷ 1 ∷ 2 ∷ []) ≡ true
     go true true = refl
@@ -210,7 +210,7 @@ formatted-long t t′ w = ap length w ∙ go (tableSized (length t)) refl
 -- a Format that is refused leaves the table
 format-down : (t : List ℕ) (e : Event) → MetBy format t e → (e .answer .number ≡ 0 → ⊥) → e .table′ ≡ t
 unfolding lengthNumber unlessRefused
-format-down t e p z = go (tableSized (length t)) (p .answered) (p .written)
+format-down t e p z = go (tableSized (length t)) (p .promised .answered) (p .promised .written)
   where
     go : (b : Bool) → e .answer ≡ unlessRefused (cond b 0 1) (answer 0 0) → e .table′ ≡ cond b (formatted (length t)) t → e .table′ ≡ t
     go true a w = absurd (z (ap (λ (r : Answer). r .number) a))
@@ -219,7 +219,7 @@ format-down t e p z = go (tableSized (length t)) (p .answered) (p .written)
 -- turned down, each call changes nothing; and the table is as long as it was
 ends : (c : Call) (t : List ℕ) (e : Event) → MetBy c t e → ((e .answer .number ≡ 0 → ⊥) → TurnedDown c t e) × (length (e .table′) ≡ length t)
 ends format t e p =
-    let r = subst Refusal (sym (p .answered)) (refusal-lengths _ (answer 0 0) (by-lengths (lengths t [] [] []) format) (refusal-zero 0)) in (
+    let r = subst Refusal (sym (p .promised .answered)) (refusal-lengths _ (answer 0 0) (by-lengths (lengths t [] [] []) format) (refusal-zero 0)) in (
       λ z. record {
         number = r .number z;
         detail = r .detail z;
@@ -227,27 +227,27 @@ ends format t e p =
         output = λ i. absurd (false≢true i);
         readMap = λ i. absurd (false≢true i);
       },
-      formatted-long t (e .table′) (p .written),
+      formatted-long t (e .table′) (p .promised .written),
     )
-ends (add place rank track) t e p = (update-down (add place rank track) _ _ t e (p .update) refl refl, p .update .sized)
-ends (withdraw place rank) t e p = (update-down (withdraw place rank) _ _ t e (p .update) refl refl, p .update .sized)
-ends (report x1 x2 y) t e p = (report-down x1 x2 y t e (p .0) (p .1), ap length (p .0))
-ends (top x1 x2 k) t e p = (top-down x1 x2 k t e (p .0) (p .1), ap length (p .0))
+ends (add place rank track) t e p = (update-down (add place rank track) _ _ t e (p .promised .update) refl refl, p .promised .update .sized)
+ends (withdraw place rank) t e p = (update-down (withdraw place rank) _ _ t e (p .promised .update) refl refl, p .promised .update .sized)
+ends (report x1 x2 y) t e p = (report-down x1 x2 y t e (p .unchanged refl) (p .promised), ap length (p .unchanged refl))
+ends (top x1 x2 k) t e p = (top-down x1 x2 k t e (p .unchanged refl) (p .promised), ap length (p .unchanged refl))
 ends count t e p = (
-  still-down count t e (subst Refusal (sym (p .1 .answered)) (refusal-lengths _ _ (by-lengths (lengths t [] [] []) count) (refusal-count _))) (p .0) refl,
-  ap length (p .0),
+  still-down count t e (subst Refusal (sym (p .promised .answered)) (refusal-lengths _ _ (by-lengths (lengths t [] [] []) count) (refusal-count _))) (p .unchanged refl) refl,
+  ap length (p .unchanged refl),
 )
 ends check t e p = (
-  still-down check t e (subst Refusal (sym (p .1 .answered)) (refusal-lengths _ _ (by-lengths (lengths t [] [] []) check) (refusal-zero _))) (p .0) refl,
-  ap length (p .0),
+  still-down check t e (subst Refusal (sym (p .promised .answered)) (refusal-lengths _ _ (by-lengths (lengths t [] [] []) check) (refusal-zero _))) (p .unchanged refl) refl,
+  ap length (p .unchanged refl),
 )
-ends rebuild t e p = (update-down rebuild _ _ t e (p .update) refl refl, p .update .sized)
+ends rebuild t e p = (update-down rebuild _ _ t e (p .promised .update) refl refl, p .promised .update .sized)
 
 only-marked : (c : Call) (t : List ℕ) (e : Event) → MetBy c t e → e .answer .number ≡ 0 → OnlyMarked c t e
 only-marked c t e p z =
     record {
-      reports = λ x1 x2 y q. let m : MetBy (report x1 x2 y) t e = subst (λ (d : Call). MetBy d t e) q p in report-out x1 x2 y t e (m .0) (m .1) z;
-      tops = λ x1 x2 k q. let m : MetBy (top x1 x2 k) t e = subst (λ (d : Call). MetBy d t e) q p in m .1 .handsOut z;
+      reports = λ x1 x2 y q. let m : MetBy (report x1 x2 y) t e = subst (λ (d : Call). MetBy d t e) q p in report-out x1 x2 y t e (m .unchanged refl) (m .promised) z;
+      tops = λ x1 x2 k q. let m : MetBy (top x1 x2 k) t e = subst (λ (d : Call). MetBy d t e) q p in m .promised .handsOut z;
     }
 
 pub demand1 : Demand1

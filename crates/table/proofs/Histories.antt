@@ -28,11 +28,11 @@ use Rattle.tree.specs.ReadMap.{readMap, ones}
 use Rattle.tree.specs.Sound.{sound}
 use Rattle.tree.specs.Lookup.{live, withKey}
 use Rattle.tree.proofs.Says.{find-replaced, replaced-rises}
-use Rattle.table.specs.Calls.{Call, format, add, withdraw, report, top, count, check, rebuild}
+use Rattle.table.specs.Calls.{Call, format, add, withdraw, report, top, count, check, rebuild, isQuery}
 use Rattle.table.specs.Answers.{lengthNumber, spotsAnswer, outputLeft, lengths, unlessRefused, mapLeft}
 use Rattle.table.specs.Queries.{walkAnswer, countAnswer, QueryPost}
 use Rattle.table.specs.Updates.{UpdatePost}
-use Rattle.table.specs.History.{Event, MetBy, isQuery, lengthsIn, SecondTable, SameOnSecond, Agreed}
+use Rattle.table.specs.History.{Event, MetBy, lengthsIn, SecondTable, SameOnSecond, Agreed}
 use Rattle.table.proofs.Keyed.{KeyReply, keyReply, replyTo, refusedOr, accepted, gives}
 
 -- what the tree's theorems give of a sound table
@@ -257,32 +257,32 @@ module _ (laws : TreeLaws) where
   pub step : (c : Call) (t : List ℕ) (e : Event) → tableSized (length t) ≡ true → sound t ≡ true → MetBy c t e → Kept c t e
   unfolding keyReply replyTo lengthNumber refusedOr unlessRefused accepted countAnswer liveCount
   step format t e z s p =
-      let left : e .table′ ≡ formatted (length t) = p .written ∙ rw z in
-      plain-kept format t e (p .answered ∙ rw z) (rw left (laws .fresh-sound (length t) z)) (rw left (laws .fresh-sized (length t) z))
+      let left : e .table′ ≡ formatted (length t) = p .promised .written ∙ rw z in
+      plain-kept format t e (p .promised .answered ∙ rw z) (rw left (laws .fresh-sound (length t) z)) (rw left (laws .fresh-sized (length t) z))
       (rw (z, left) (sym (laws .fresh-empty (length t) z)))
       refl
   step (add place rank track) t e z s p =
-      update-kept (add place rank track) _ _ t e (put (record { key = key place rank; track = track }) (without (key place rank) (liveSpots t))) s (p .update)
+      update-kept (add place rank track) _ _ t e (put (record { key = key place rank; track = track }) (without (key place rank) (liveSpots t))) s (p .promised .update)
       (rw (laws .finds t s (key place rank)))
       (put-up t s (key place rank) track)
       (put-found t s (key place rank) track)
       refl
   step (withdraw place rank) t e z s p =
-      update-kept (withdraw place rank) 0 _ t e (without (key place rank) (liveSpots t)) s (p .update) refl (without-up t s (key place rank))
+      update-kept (withdraw place rank) 0 _ t e (without (key place rank) (liveSpots t)) s (p .promised .update) refl (without-up t s (key place rank))
       (without-found t s (key place rank))
       refl
   step (report x1 x2 y) t e z s p =
-      query-kept (report x1 x2 y) (walkTable t (query x1 x2 y)) _ t e s (p .0) (laws .reports t s (query x1 x2 y)) (p .1) refl
+      query-kept (report x1 x2 y) (walkTable t (query x1 x2 y)) _ t e s (p .unchanged refl) (laws .reports t s (query x1 x2 y)) (p .promised) refl
       (λ a b d q. laws .bound t s (query x1 x2 y))
-      (λ u f h m. (walkTable u (query x1 x2 y), h .met .1, laws .second t u s (query x1 x2 y) (h .bytes) m))
+      (λ u f h m. (walkTable u (query x1 x2 y), h .met .promised, laws .second t u s (query x1 x2 y) (h .bytes) m))
   step (top x1 x2 k) t e z s p =
-      query-kept (top x1 x2 k) (topTable t x1 x2 k) _ t e s (p .0) (laws .tops t s x1 x2 k) (p .1 .exact (laws .top-rises t s x1 x2 k)) refl
+      query-kept (top x1 x2 k) (topTable t x1 x2 k) _ t e s (p .unchanged refl) (laws .tops t s x1 x2 k) (p .promised .exact (laws .top-rises t s x1 x2 k)) refl
       (λ a b d q. let z : _≡_ {A = ℕ} 0 1 = cc in omega arith)
       (λ u f h m.
       let same = laws .second-top t u s x1 x2 k (h .bytes) m in
-      (topTable u x1 x2 k, h .met .1 .exact (rw (same .0) (laws .top-rises t s x1 x2 k)), same .1))
+      (topTable u x1 x2 k, h .met .promised .exact (rw (same .0) (laws .top-rises t s x1 x2 k)), same .1))
   step count t e z s p =
-      plain-kept count t e (p .1 .answered ∙ rw (z, laws .counts t s .1)) (rw (p .0) s) (ap length (p .0)) (rw (z, p .0)) refl
+      plain-kept count t e (p .promised .answered ∙ rw (z, laws .counts t s .1)) (rw (p .unchanged refl) s) (ap length (p .unchanged refl)) (rw (z, p .unchanged refl)) refl
   step check t e z s p =
-      plain-kept check t e (p .1 .answered ∙ rw (z, s)) (rw (p .0) s) (ap length (p .0)) (rw (z, p .0)) refl
-  step rebuild t e z s p = update-kept rebuild 0 (live t) t e (liveSpots t) s (p .update) refl (laws .rises t s) (laws .finds t s) refl
+      plain-kept check t e (p .promised .answered ∙ rw (z, s)) (rw (p .unchanged refl) s) (ap length (p .unchanged refl)) (rw (z, p .unchanged refl)) refl
+  step rebuild t e z s p = update-kept rebuild 0 (live t) t e (liveSpots t) s (p .promised .update) refl (laws .rises t s) (laws .finds t s) refl

@@ -19,10 +19,10 @@ use Rattle.spot.proofs.Signed.{Fits, signed-fits}
 use Rattle.spot.proofs.Orders.{report-wants, top-wants}
 use Rattle.block.specs.Table.{sizedFor, tableSized}
 use Rattle.tree.specs.Lookup.{isLive}
-use Rattle.table.specs.Calls.{Call, format, add, withdraw, report, top, count, check, rebuild, Lengths, argumentsFit}
+use Rattle.table.specs.Calls.{Call, format, add, withdraw, report, top, count, check, rebuild, Kind, makes, updates, queries, tells, kind, Lengths, argumentsFit}
 use Rattle.revise.specs.Numbers.{addNumber}
-use Rattle.table.specs.Answers.{lengthNumber, spotsAnswer, outputLeft}
-use Rattle.table.specs.Model.{PlainSpot, hasIdentity, placeBefore, rankHigher, ofPlaces, ofReport, chosen, insertBy, sortBy, listed, takenOut, broughtIn, highest, fourBytes, complement, asBytes, Plain, begunEmpty, Reply, outputAfter, refuse, accept, badTable, badMap, shortScratch, full, handOut, reply}
+use Rattle.table.specs.Answers.{lent, lengthNumber, spotsAnswer, outputLeft}
+use Rattle.table.specs.Model.{PlainSpot, hasIdentity, placeBefore, rankHigher, ofPlaces, ofReport, chosen, insertBy, sortBy, listed, takenOut, broughtIn, highest, fourBytes, complement, asBytes, Plain, begunEmpty, Reply, outputAfter, refuse, accept, badTable, badLent, full, handOut, ownReply, reply}
 use Rattle.table.proofs.Keyed.{KeyReply, keyReply, replyTo, refusedOr, accepted, gives}
 use Rattle.table.proofs.Orders.{model-places, model-ranks, model-identity, four-bytes, key-bytes}
 
@@ -271,9 +271,13 @@ bad-table bytes =
     ap₂ (λ (a b : Bool). not (eqb (bytes % 2048) 0) || a || b) (sym (not-leb 9 (bytes / 2048))) (sym (not-leb (bytes / 2048) 4096)) ∙
     not-all (eqb (bytes % 2048) 0) (leb 9 (bytes / 2048)) (leb (bytes / 2048) 4096)
 
-short-scratch : (l : Lengths) → shortScratch l ≡ not (leb (l .table) (l .scratch))
-unfolding shortScratch
-short-scratch l = sym (not-leb (l .table) (l .scratch))
+-- and what is lent beside it
+bad-lent : (l : Lengths) (k : Kind) → badLent l k ≡ not (lent l k)
+unfolding badLent
+bad-lent l makes = refl
+bad-lent l updates = sym (not-leb (l .table) (l .scratch))
+bad-lent l queries = refl
+bad-lent l tells = refl
 
 -- 4
 full-number : (bytes : ℕ) (place rank : ℤ) (ss : List PlainSpot) → Fits place → Fits rank → AllFit ss
@@ -286,34 +290,31 @@ pub two-fit : (x y : ℤ) → signed32 x && signed32 y ≡ true → Fits x × Fi
 two-fit x y a = (signed-fits x (and-left (signed32 x) (signed32 y) a), signed-fits y (and-right (signed32 x) (signed32 y) a))
 
 -- every call is answered alike
-pub like : (l : Lengths) (c : Call) (ps : Plain) → argumentsFit c ≡ true → AllFit (ps .spots) → Like (reply l c ps) (keyReply l c (keyed (ps .spots)))
-unfolding reply keyReply replyTo lengthNumber argumentsFit badMap
-like l format ps a h = rw (bad-table (l .table)) (like-lengths ps h (tableSized (l .table)) true _ _ (like-accept 0 begunEmpty tt))
-like l (add place rank track) ps a h =
+like-own : (l : Lengths) (c : Call) (ps : Plain) → argumentsFit c ≡ true → AllFit (ps .spots) → Like (ownReply l c ps) (replyTo l c (keyed (ps .spots)))
+unfolding ownReply replyTo argumentsFit
+like-own l format ps a h = like-accept 0 begunEmpty tt
+like-own l (add place rank track) ps a h =
     let f = two-fit place rank (and-left (signed32 place && signed32 rank) (unsigned32 track) a) in
-    rw (bad-table (l .table), short-scratch l, full-number (l .table) place rank (ps .spots) (f .0) (f .1) h)
-    (like-lengths ps h (tableSized (l .table)) (leb (l .table) (l .scratch)) _ _
+    rw (full-number (l .table) place rank (ps .spots) (f .0) (f .1) h)
     (like-full ps h (full (l .table) place rank (ps .spots)) _ _
-    (like-next _ _ (in-fit place rank (f .0) (f .1) track (ps .spots) h) (keyed-in place rank (f .0) (f .1) track (ps .spots) h))))
-like l (withdraw place rank) ps a h =
+    (like-next _ _ (in-fit place rank (f .0) (f .1) track (ps .spots) h) (keyed-in place rank (f .0) (f .1) track (ps .spots) h)))
+like-own l (withdraw place rank) ps a h =
     let f = two-fit place rank a in
-    rw (bad-table (l .table), short-scratch l)
-    (like-lengths ps h (tableSized (l .table)) (leb (l .table) (l .scratch)) _ _
-    (like-next _ _ (out-fit place rank (f .0) (f .1) (ps .spots) h) (keyed-out place rank (f .0) (f .1) (ps .spots) h)))
-like l (report x1 x2 y) ps a h =
+    like-next _ _ (out-fit place rank (f .0) (f .1) (ps .spots) h) (keyed-out place rank (f .0) (f .1) (ps .spots) h)
+like-own l (report x1 x2 y) ps a h =
     let f = two-fit x1 x2 (and-left (signed32 x1 && signed32 x2) (signed32 y) a) in
     let fy = signed-fits y (and-right (signed32 x1 && signed32 x2) (signed32 y) a) in
-    rw (bad-table (l .table))
-    (like-lengths ps h (tableSized (l .table)) (eqb (l .readMap) 512) _ _
-    (like-given ps h (l .output) (chosen (ofReport x1 x2 y) (ps .spots)) _ (chosen-fit (ofReport x1 x2 y) (ps .spots) h) (keyed-report x1 x2 (f .0) (f .1) y fy (ps .spots) h)))
-like l (top x1 x2 k) ps a h =
+    like-given ps h (l .output) (chosen (ofReport x1 x2 y) (ps .spots)) _ (chosen-fit (ofReport x1 x2 y) (ps .spots) h)
+    (keyed-report x1 x2 (f .0) (f .1) y fy (ps .spots) h)
+like-own l (top x1 x2 k) ps a h =
     let f = two-fit x1 x2 (and-left (signed32 x1 && signed32 x2) (unsigned32 k) a) in
-    rw (bad-table (l .table))
-    (like-lengths ps h (tableSized (l .table)) (eqb (l .readMap) 512) _ _
-    (like-given ps h (l .output) (highest x1 x2 k (ps .spots)) _ (highest-fit x1 x2 (f .0) (f .1) k (ps .spots) h) (keyed-highest x1 x2 (f .0) (f .1) k (ps .spots) h)))
-like l count ps a h =
-    rw (bad-table (l .table), keyed-length (ps .spots)) (like-lengths ps h (tableSized (l .table)) true _ _ (like-accept (length (ps .spots)) ps h))
-like l check ps a h = rw (bad-table (l .table)) (like-lengths ps h (tableSized (l .table)) true _ _ (like-accept 1 ps h))
-like l rebuild ps a h =
-    rw (bad-table (l .table), short-scratch l)
-    (like-lengths ps h (tableSized (l .table)) (leb (l .table) (l .scratch)) _ _ (like-accept 0 ps h))
+    like-given ps h (l .output) (highest x1 x2 k (ps .spots)) _ (highest-fit x1 x2 (f .0) (f .1) k (ps .spots) h)
+    (keyed-highest x1 x2 (f .0) (f .1) k (ps .spots) h)
+like-own l count ps a h = rw (keyed-length (ps .spots)) (like-accept (length (ps .spots)) ps h)
+like-own l check ps a h = like-accept 1 ps h
+like-own l rebuild ps a h = like-accept 0 ps h
+
+pub like : (l : Lengths) (c : Call) (ps : Plain) → argumentsFit c ≡ true → AllFit (ps .spots) → Like (reply l c ps) (keyReply l c (keyed (ps .spots)))
+unfolding reply keyReply lengthNumber
+like l c ps a h =
+    rw (bad-table (l .table), bad-lent l (kind c)) (like-lengths ps h (tableSized (l .table)) (lent l (kind c)) _ _ (like-own l c ps a h))

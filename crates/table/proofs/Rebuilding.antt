@@ -17,7 +17,7 @@ use Rattle.tree.specs.Lookup.{live}
 use Rattle.tree.specs.Walk.{walkTable, liveSpots}
 use Rattle.tree.specs.Sound.{sound}
 use Rattle.rebuild.proofs.Rebuilt.{rebuilt-sound, rebuilt-spots, rebuilt-settled, rebuild-live}
-use Rattle.table.specs.Calls.{rebuild}
+use Rattle.table.specs.Calls.{rebuild, updates}
 use Rattle.table.specs.Answers.{lengths, lent, lengthNumber, outcomes}
 use Rattle.table.specs.Updates.{scratchLeft, UpdatePost, RebuildPost}
 use Rattle.table.proofs.Changes.{number-is, number-short, number-lent, update-short, update-lent}
@@ -47,7 +47,7 @@ module _ (t w : List ℕ) (r : Answer) where
 
   pub rebuild-lent : tableSized (length t) ≡ true → length w < length t → r ≡ answer 2 0 → RebuildPost t w r t w
   rebuild-lent e h a =
-      let short : lent (lengths t [] [] w) rebuild ≡ false = lt-leb (length t) (length w) h in
+      let short : lent (lengths t [] [] w) updates ≡ false = lt-leb (length t) (length w) h in
       rebuild-refused 2 (λ x. omega arith) (number-lent rebuild t w e short) a (update-lent rebuild 0 (live t) t w r e short a)
 
 -- the lengths are right: laid out anew, or a rule is broken, and then the scratch is cleared

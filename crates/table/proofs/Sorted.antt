@@ -14,8 +14,8 @@ use Rattle.octets.specs.Lists.{every, keep}
 use Rattle.octets.proofs.Tests.{and-left, and-right, and-both, every-mem, every-make, keep-in, keep-length, neither}
 use Rattle.octets.proofs.Order.{less-or-not, not-leb}
 use Rattle.spot.specs.Keys.{key, signed32, unsigned32}
-use Rattle.table.specs.Calls.{Call, format, add, withdraw, report, top, count, check, rebuild, Lengths, argumentsFit}
-use Rattle.table.specs.Model.{PlainSpot, hasIdentity, placeBefore, chosen, insertBy, listed, takenOut, broughtIn, Plain, Reply, refuse, accept, badTable, badMap, shortScratch, full, handOut, reply}
+use Rattle.table.specs.Calls.{Call, format, add, withdraw, report, top, count, check, rebuild, kind, Lengths, argumentsFit}
+use Rattle.table.specs.Model.{PlainSpot, hasIdentity, placeBefore, ofReport, chosen, insertBy, listed, takenOut, broughtIn, highest, Plain, Reply, refuse, accept, badTable, badLent, full, handOut, ownReply, reply}
 use Rattle.table.proofs.Plain.{toKeySpot, SpotFits, AllFit, before-keys, identity-key, out-fit, two-fit}
 
 -- each spot comes before all that follow it
@@ -139,43 +139,47 @@ order-once (s ∷ ss) h o = (none-after ss (h .1) (o .0), order-once ss (h .1) (
 
 -- ---- replies
 
-module _ (P : List PlainSpot → Type 0) (ps : Plain) (kept : P (ps .spots)) where
+module _ (P : List PlainSpot → Type 0) (l : Lengths) (ps : Plain) (kept : P (ps .spots)) where
   -- a refusal keeps what holds of the list
   refused-or : (b : Bool) (n d : ℕ) (r : Reply) → (b ≡ false → P (r .next .spots)) → P (cond b (refuse n d ps) r .next .spots)
   unfolding refuse
   refused-or true n d r h = kept
   refused-or false n d r h = h refl
 
-  or-refuse : (b : Bool) (n d : ℕ) (r : Reply) → P (r .next .spots) → P (cond b (refuse n d ps) r .next .spots)
-  or-refuse b n d r h = refused-or b n d r (λ z. h)
+  -- what holds of no spots, and after an addition and a withdrawal, holds after every call
+  module _ (none : P [])
+      (added : (place rank : ℤ) (track : ℕ) → argumentsFit (add place rank track) ≡ true → full (l .table) place rank (ps .spots) ≡ false
+      → P (broughtIn (record { place = place; rank = rank; track = track }) (ps .spots)))
+      (withdrawn : (place rank : ℤ) → P (takenOut place rank (ps .spots))) where
+    after-call : (c : Call) → argumentsFit c ≡ true → P (ownReply l c ps .next .spots)
+    unfolding ownReply accept handOut
+    after-call format a = none
+    after-call (add place rank track) a = refused-or (full (l .table) place rank (ps .spots)) 4 0 _ (added place rank track a)
+    after-call (withdraw place rank) a = withdrawn place rank
+    after-call (report x1 x2 y) a = refused-or (ltb (l .output / 12) (length (chosen (ofReport x1 x2 y) (ps .spots)))) 5 _ _ (λ z. kept)
+    after-call (top x1 x2 k) a = refused-or (ltb (l .output / 12) (length (highest x1 x2 k (ps .spots)))) 5 _ _ (λ z. kept)
+    after-call count a = kept
+    after-call check a = kept
+    after-call rebuild a = kept
 
-  handed : (bytes : ℕ) (found : List PlainSpot) → P (handOut bytes found ps .next .spots)
-  unfolding handOut accept
-  handed bytes found = or-refuse (ltb (bytes / 12) (length found)) 5 (length found) (accept (length found) found ps) kept
+    stays : (c : Call) → argumentsFit c ≡ true → P (reply l c ps .next .spots)
+    unfolding reply
+    stays c a = refused-or (badTable (l .table)) 1 0 _ (λ z. refused-or (badLent l (kind c)) 2 0 _ (λ y. after-call c a))
 
 -- "It holds spots, no identity twice": every call keeps the list in place order
 pub stays-in-order : (l : Lengths) (c : Call) (ps : Plain) → argumentsFit c ≡ true → AllFit (ps .spots) → InOrder (ps .spots) → InOrder (reply l c ps .next .spots)
-unfolding reply argumentsFit accept takenOut broughtIn
-stays-in-order l format ps a h o = or-refuse InOrder ps o (badTable (l .table)) 1 0 _ tt
-stays-in-order l (add place rank track) ps a h o =
-    let f = two-fit place rank (and-left (signed32 place && signed32 rank) (unsigned32 track) a) in
-    or-refuse InOrder ps o (badTable (l .table)) 1 0 _
-    (or-refuse InOrder ps o (shortScratch l) 2 0 _
-    (or-refuse InOrder ps o (full (l .table) place rank (ps .spots)) 4 0 _
-    (order-insert (record { place = place; rank = rank; track = track }) (takenOut place rank (ps .spots)) (record { place = f .0; rank = f .1 })
+unfolding argumentsFit takenOut broughtIn
+stays-in-order l c ps a h o =
+    stays InOrder l ps o tt
+    (λ place rank track b n.
+    let f = two-fit place rank (and-left (signed32 place && signed32 rank) (unsigned32 track) b) in
+    order-insert (record { place = place; rank = rank; track = track }) (takenOut place rank (ps .spots)) (record { place = f .0; rank = f .1 })
     (out-fit place rank (f .0) (f .1) (ps .spots) h)
     (listed-out place rank (ps .spots))
-    (order-chosen (λ s. not (hasIdentity place rank s)) (ps .spots) o))))
-stays-in-order l (withdraw place rank) ps a h o =
-    or-refuse InOrder ps o (badTable (l .table)) 1 0 _
-    (or-refuse InOrder ps o (shortScratch l) 2 0 _ (order-chosen (λ s. not (hasIdentity place rank s)) (ps .spots) o))
-stays-in-order l (report x1 x2 y) ps a h o =
-    or-refuse InOrder ps o (badTable (l .table)) 1 0 _ (or-refuse InOrder ps o (badMap l) 2 0 _ (handed InOrder ps o (l .output) _))
-stays-in-order l (top x1 x2 k) ps a h o =
-    or-refuse InOrder ps o (badTable (l .table)) 1 0 _ (or-refuse InOrder ps o (badMap l) 2 0 _ (handed InOrder ps o (l .output) _))
-stays-in-order l count ps a h o = or-refuse InOrder ps o (badTable (l .table)) 1 0 _ o
-stays-in-order l check ps a h o = or-refuse InOrder ps o (badTable (l .table)) 1 0 _ o
-stays-in-order l rebuild ps a h o = or-refuse InOrder ps o (badTable (l .table)) 1 0 _ (or-refuse InOrder ps o (shortScratch l) 2 0 _ o)
+    (order-chosen (λ s. not (hasIdentity place rank s)) (ps .spots) o))
+    (λ place rank. order-chosen (λ s. not (hasIdentity place rank s)) (ps .spots) o)
+    c
+    a
 
 -- ---- the number of spots
 
@@ -213,45 +217,31 @@ not-full n cap true h = inr refl
 not-full n cap false h = ⊎-elim (λ (l : cap ≤ n). absurd (true≢false (sym (and-both (leb cap n) true (le-leb cap n l) refl) ∙ h))) (λ l. inl l) (less-or-not cap n)
 
 -- spots never outnumber the capacity of a table of this many bytes
-module _ (bytes : ℕ) where
-  abbrev Held : List PlainSpot → Type 0
-  Held ss = length ss ≤ 16 * (bytes / 2048 - 1)
+abbrev Held : ℕ → List PlainSpot → Type 0
+Held bytes ss = length ss ≤ 16 * (bytes / 2048 - 1)
 
-  held-add : (place rank : ℤ) (track : ℕ) (ss : List PlainSpot) → Held ss → full bytes place rank ss ≡ false
-      → Held (broughtIn (record { place = place; rank = rank; track = track }) ss)
-  unfolding full broughtIn
-  held-add place rank track ss h e =
-      let i = length-insert placeBefore (record { place = place; rank = rank; track = track }) (takenOut place rank ss) in
-      ⊎-elim (λ (l : length ss < 16 * (bytes / 2048 - 1)). let j = taken in omega arith) (λ k. let j = length-out place rank ss k in omega arith)
-      (not-full (length ss) (16 * (bytes / 2048 - 1)) (listed place rank ss) e)
-    where
-      taken : length (takenOut place rank ss) ≤ length ss
-      taken = fewer-out place rank ss
+held-add : (bytes : ℕ) (place rank : ℤ) (track : ℕ) (ss : List PlainSpot) → Held bytes ss → full bytes place rank ss ≡ false
+    → Held bytes (broughtIn (record { place = place; rank = rank; track = track }) ss)
+unfolding full broughtIn
+held-add bytes place rank track ss h e =
+    let i = length-insert placeBefore (record { place = place; rank = rank; track = track }) (takenOut place rank ss) in
+    let j = fewer-out place rank ss in
+    ⊎-elim (λ (l : length ss < 16 * (bytes / 2048 - 1)). omega arith) (λ k. let m = length-out place rank ss k in omega arith)
+    (not-full (length ss) (16 * (bytes / 2048 - 1)) (listed place rank ss) e)
 
-  -- no call makes more
-  pub stays-held : (l : Lengths) → l .table ≡ bytes → (c : Call) (ps : Plain) → Held (ps .spots) → Held (reply l c ps .next .spots)
-  unfolding reply accept
-  stays-held l e format ps h = refused-or Held ps h (badTable (l .table)) 1 0 _ (λ z. omega arith)
-  stays-held l e (add place rank track) ps h =
-      refused-or Held ps h (badTable (l .table)) 1 0 _
-      (λ z. refused-or Held ps h (shortScratch l) 2 0 _
-      (λ y. refused-or Held ps h (full (l .table) place rank (ps .spots)) 4 0 _ (λ x. held-add place rank track (ps .spots) h (ap (λ (b : ℕ). full b place rank (ps .spots)) (sym e) ∙ x))))
-  stays-held l e (withdraw place rank) ps h =
-      refused-or Held ps h (badTable (l .table)) 1 0 _
-      (λ z. refused-or Held ps h (shortScratch l) 2 0 _ (λ y. let j = fewer-out place rank (ps .spots) in omega arith))
-  stays-held l e (report x1 x2 y) ps h =
-      refused-or Held ps h (badTable (l .table)) 1 0 _ (λ z. refused-or Held ps h (badMap l) 2 0 _ (λ y. handed Held ps h (l .output) _))
-  stays-held l e (top x1 x2 k) ps h =
-      refused-or Held ps h (badTable (l .table)) 1 0 _ (λ z. refused-or Held ps h (badMap l) 2 0 _ (λ y. handed Held ps h (l .output) _))
-  stays-held l e count ps h = refused-or Held ps h (badTable (l .table)) 1 0 _ (λ z. h)
-  stays-held l e check ps h = refused-or Held ps h (badTable (l .table)) 1 0 _ (λ z. h)
-  stays-held l e rebuild ps h = refused-or Held ps h (badTable (l .table)) 1 0 _ (λ z. refused-or Held ps h (shortScratch l) 2 0 _ (λ y. h))
+-- no call makes more
+pub stays-held : (l : Lengths) (c : Call) (ps : Plain) → argumentsFit c ≡ true → Held (l .table) (ps .spots) → Held (l .table) (reply l c ps .next .spots)
+stays-held l c ps a h =
+    stays (Held (l .table)) l ps h (omega arith) (λ place rank track b n. held-add (l .table) place rank track (ps .spots) h n)
+    (λ place rank. let j = fewer-out place rank (ps .spots) in omega arith)
+    c
+    a
 
 -- "full" comes exactly when the list holds 16 spots for each block after the first and the new spot's place and rank are not among them
 pub says-full : (l : Lengths) (place rank : ℤ) (track : ℕ) (ps : Plain) → badTable (l .table) ≡ false → l .table ≤ l .scratch
     → length (ps .spots) ≤ 16 * (l .table / 2048 - 1)
     → (reply l (add place rank track) ps .answer .number ≡ 4) ↔ ((length (ps .spots) ≡ 16 * (l .table / 2048 - 1)) × (listed place rank (ps .spots) ≡ false))
-unfolding reply shortScratch full refuse accept
+unfolding reply badLent ownReply full refuse accept
 says-full l place rank track ps z w h =
     rw (z, le-ltb (l .scratch) (l .table) w) (four (leb (16 * (l .table / 2048 - 1)) (length (ps .spots))) refl (listed place rank (ps .spots)) refl)
   where

@@ -25,7 +25,7 @@ use Rattle.tree.proofs.Fresh.{fresh-sized, fresh-walk, fresh-sound, fresh-level
 use Rattle.table.specs.Calls.{Call, format, add, withdraw, report, top, count, check, rebuild, Lengths, argumentsFit}
 use Rattle.table.specs.Answers.{lengths, spotsAnswer, outputLeft}
 use Rattle.table.specs.Queries.{walkAnswer, ReportPost}
-use Rattle.table.specs.Model.{Plain, begunEmpty, eqZ, hasIdentity, placeBefore, rankHigher, ofPlaces, ofReport, takenOut, broughtIn, highest, fourBytes, complement, Reply, outputAfter, refuse, accept, badTable, badMap, shortScratch, full, handOut, reply}
+use Rattle.table.specs.Model.{Plain, begunEmpty, eqZ, hasIdentity, placeBefore, rankHigher, ofPlaces, ofReport, takenOut, broughtIn, highest, fourBytes, complement, Reply, outputAfter, refuse, accept, badTable, badLent, full, handOut, ownReply, reply}
 use Rattle.table.proofs.Answering.{long-enough}
 
 -- a table of this many blocks, a read map and a work area as they should be, and an output of this many bytes
@@ -126,6 +126,18 @@ rows =
     asks (record { before = two; call = top (pos 0) (pos 240) 1; lent = record { table = 18432; output = 12; readMap = 511; scratch = 0 }; number = 2; detail = 0; front = [] }) ∷
     asks (record { before = two; call = rebuild; lent = record { table = 18432; output = 0; readMap = 0; scratch = 18431 }; number = 2; detail = 0; front = [] }) ∷
     asks (record { before = two; call = rebuild; lent = record { table = 18431; output = 0; readMap = 0; scratch = 0 }; number = 1; detail = 0; front = [] }) ∷
+    asks (record { before = two; call = add (pos 0) (pos 8) 3; lent = record { table = 18432; output = 0; readMap = 0; scratch = 18431 }; number = 2; detail = 0; front = [] }) ∷
+    asks (record { before = two; call = withdraw (pos 0) (pos 7); lent = record { table = 18432; output = 0; readMap = 0; scratch = 18431 }; number = 2; detail = 0; front = [] }) ∷
+    asks (record { before = two; call = report (pos 0) (pos 240) (pos 7); lent = record { table = 18432; output = 24; readMap = 513; scratch = 0 }; number = 2; detail = 0; front = [] }) ∷
+    -- what a call is not lent is of no account to it
+    asks (record { before = two; call = add (pos 0) (pos 8) 3; lent = record { table = 18432; output = 0; readMap = 0; scratch = 18432 }; number = 0; detail = 0; front = [] }) ∷
+    asks (record { before = two; call = withdraw (pos 0) (pos 7); lent = record { table = 18432; output = 0; readMap = 0; scratch = 18432 }; number = 0; detail = 0; front = [] }) ∷
+    asks (record { before = two; call = rebuild; lent = record { table = 18432; output = 0; readMap = 0; scratch = 18432 }; number = 0; detail = 0; front = [] }) ∷
+    asks (record { before = two; call = report (pos 240) (pos 0) (pos 7); lent = record { table = 18432; output = 0; readMap = 512; scratch = 0 }; number = 0; detail = 0; front = [] }) ∷
+    asks (record { before = two; call = top (pos 0) (pos 240) 0; lent = record { table = 18432; output = 0; readMap = 512; scratch = 0 }; number = 0; detail = 0; front = [] }) ∷
+    asks (record { before = two; call = format; lent = record { table = 18432; output = 0; readMap = 0; scratch = 0 }; number = 0; detail = 0; front = [] }) ∷
+    asks (record { before = two; call = count; lent = record { table = 18432; output = 0; readMap = 0; scratch = 0 }; number = 0; detail = 2; front = [] }) ∷
+    asks (record { before = two; call = check; lent = record { table = 18432; output = 0; readMap = 0; scratch = 0 }; number = 0; detail = 1; front = [] }) ∷
     -- 128 spots in 9 blocks: "a new identity gives 4, a present one is replaced. After one withdrawal a new one is accepted."
     asks (record { before = filling 128; call = count; lent = room 0; number = 0; detail = 128; front = [] }) ∷
     asks (record { before = filling 128; call = add (pos 5) (pos 6) 9; lent = room 0; number = 4; detail = 0; front = [] }) ∷
@@ -217,7 +229,7 @@ pub some-row : Row
 some-row = asks (record { before = []; call = count; lent = room 0; number = 0; detail = 0; front = [] })
 
 all-right : every right rows ≡ true
-unfolding all right rows found after filling sizedFor signed32 unsigned32 argumentsFit eqZ hasIdentity placeBefore rankHigher ofPlaces ofReport takenOut broughtIn highest fourBytes complement outputAfter refuse accept badTable badMap shortScratch full handOut reply
+unfolding all right rows found after filling sizedFor signed32 unsigned32 argumentsFit eqZ hasIdentity placeBefore rankHigher ofPlaces ofReport takenOut broughtIn highest fourBytes complement outputAfter refuse accept badTable badLent full handOut ownReply reply
 all-right = refl
 
 -- every row of the table says what the definitions give

@@ -11,25 +11,21 @@ use Rattle.block.specs.declared.Answer.{Answer}
 use Rattle.block.specs.Answers.{answer}
 use Rattle.block.specs.Table.{tableSized, mapBytes}
 use Rattle.tree.specs.ReadMap.{readMap}
-use Rattle.table.specs.Calls.{Call, format, add, withdraw, report, top, count, check, rebuild, Lengths}
+use Rattle.table.specs.Calls.{Call, format, add, withdraw, report, top, count, check, rebuild, Kind, makes, updates, queries, tells, kind, Lengths}
 
 abbrev pub lengths : List ℕ → List ℕ → List ℕ → List ℕ → Lengths
 lengths t out map scratch = record { table = length t; output = length out; readMap = length map; scratch = length scratch }
 
 -- 2: "the read map isn't 512 bytes, or the work area is shorter than the table", for the calls that are lent them
-abbrev pub lent : Lengths → Call → Bool
-lent l format = true
-lent l (add place rank track) = leb (l .table) (l .scratch)
-lent l (withdraw place rank) = leb (l .table) (l .scratch)
-lent l (report x1 x2 y) = eqb (l .readMap) mapBytes
-lent l (top x1 x2 k) = eqb (l .readMap) mapBytes
-lent l count = true
-lent l check = true
-lent l rebuild = leb (l .table) (l .scratch)
+abbrev pub lent : Lengths → Kind → Bool
+lent l makes = true
+lent l updates = leb (l .table) (l .scratch)
+lent l queries = eqb (l .readMap) mapBytes
+lent l tells = true
 
 -- 1: "the table is not a whole number of blocks, or has under 9 or over 4,096"; then 2; or 0
 unfoldable pub lengthNumber : Lengths → Call → ℕ
-lengthNumber l c = cond (tableSized (l .table)) (cond (lent l c) 0 2) 1
+lengthNumber l c = cond (tableSized (l .table)) (cond (lent l (kind c)) 0 2) 1
 
 -- "1, detail 0", "2, detail 0": an answer by the lengths where they refuse, else the other
 unfoldable pub unlessRefused : ℕ → Answer → Answer

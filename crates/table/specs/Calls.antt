@@ -1,7 +1,7 @@
--- The eight calls with their arguments and the lengths of what they are lent: all that the table's definitions share with the model.
+-- The eight calls with their arguments, what they are lent, and its lengths: all that the table's definitions share with the model.
 -- Assumes nothing.
 use Prim.Native.Nat.{ℕ}
-use mathlib.Core.Bool.{Bool, true, _&&_}
+use mathlib.Core.Bool.{Bool, true, false, _&&_}
 use lib.IntN.{ℤ}
 use Rattle.spot.specs.Keys.{signed32, unsigned32}
 
@@ -22,6 +22,50 @@ pub record Lengths : Type 0 where
   pub output : ℕ
   pub readMap : ℕ
   pub scratch : ℕ
+
+-- what a call is lent beside the table, and whether it may change the table: all that follows from this is said of the kind
+pub data Kind : Type 0 where
+  -- nothing; it may
+  makes : Kind
+  -- a work area: "Add, Withdraw and Rebuild take a work area"; it may
+  updates : Kind
+  -- an output and a read map: "Report and Top write a map of 512 bytes"; it may not
+  queries : Kind
+  -- nothing; it may not
+  tells : Kind
+
+abbrev pub kind : Call → Kind
+kind format = makes
+kind (add place rank track) = updates
+kind (withdraw place rank) = updates
+kind (report x1 x2 y) = queries
+kind (top x1 x2 k) = queries
+kind count = tells
+kind check = tells
+kind rebuild = updates
+
+abbrev pub takesOutput : Kind → Bool
+takesOutput makes = false
+takesOutput updates = false
+takesOutput queries = true
+takesOutput tells = false
+
+abbrev pub takesScratch : Kind → Bool
+takesScratch makes = false
+takesScratch updates = true
+takesScratch queries = false
+takesScratch tells = false
+
+-- "Report, Top, Count and Check never change the table"
+abbrev pub mayChange : Kind → Bool
+mayChange makes = true
+mayChange updates = true
+mayChange queries = false
+mayChange tells = false
+
+-- the calls that hand out spots
+abbrev pub isQuery : Call → Bool
+isQuery c = takesOutput (kind c)
 
 -- "A spot has a place and a rank, both signed 32-bit, and a track number, unsigned 32-bit"; "Report(x1, x2, y), all signed 32-bit"; "Top(x1, x2, k), k
 -- unsigned 32-bit"

@@ -16,12 +16,12 @@ use Rattle.spot.specs.Query.{query, topQuery}
 use Rattle.block.specs.declared.Answer.{Answer}
 use Rattle.tree.specs.Lookup.{live}
 use Rattle.tree.specs.Sound.{sound}
-use Rattle.table.specs.Calls.{Call, add, withdraw, report, top, argumentsFit}
+use Rattle.table.specs.Calls.{Call, add, withdraw, report, top, isQuery, argumentsFit}
 use Rattle.table.specs.Answers.{lengths, lengthNumber, spotsAnswer}
 use Rattle.table.specs.Queries.{HandsOut, ReportPost, TopPost}
 use Rattle.table.specs.Updates.{AddPost, WithdrawPost}
 use Rattle.table.specs.Model.{PlainSpot, hasIdentity, placeBefore, rankHigher, asBytes}
-use Rattle.table.specs.History.{Event, MetBy, isQuery}
+use Rattle.table.specs.History.{Event, MetBy}
 
 -- ---- demand 1
 

@@ -3,7 +3,7 @@
 use mathlib.Core.Path.{_≡_}
 use mathlib.Core.Logic.{_⊎_, _↔_}
 use Prim.Native.Nat.{ℕ, _+_, _*_, _/_, _-_, _≤_, _<_}
-use mathlib.Core.Bool.{Bool, true, false}
+use mathlib.Core.Bool.{true, false}
 use mathlib.Core.List.{List, [], _∷_}
 use lib.ListN.{length}
 use lib.IntN.{ℤ}
@@ -15,7 +15,7 @@ use Rattle.block.specs.Fresh.{formatted}
 use Rattle.tree.specs.ReadMap.{ones}
 use Rattle.tree.specs.Sound.{sound}
 use Rattle.tree.specs.Read.{ReadBlock}
-use Rattle.table.specs.Calls.{Call, format, add, withdraw, report, top, count, check, rebuild, Lengths, argumentsFit}
+use Rattle.table.specs.Calls.{Call, format, add, withdraw, report, top, count, check, rebuild, kind, mayChange, isQuery, Lengths, argumentsFit}
 use Rattle.table.specs.Answers.{lengths}
 use Rattle.table.specs.Queries.{ReportPost, TopPost, CountPost, CheckPost}
 use Rattle.table.specs.Updates.{FormatPost, AddPost, WithdrawPost, RebuildPost}
@@ -34,32 +34,26 @@ pub record Event : Type 0 where
   pub scratch′ : List ℕ
   pub table′ : List ℕ
 
+-- what the call promises of an event on the table t
+abbrev pub Promised : Call → List ℕ → Event → Type 0
+Promised format t e = FormatPost t (e .answer) (e .table′)
+Promised (add place rank track) t e = AddPost place rank track t (e .scratch) (e .answer) (e .table′) (e .scratch′)
+Promised (withdraw place rank) t e = WithdrawPost place rank t (e .scratch) (e .answer) (e .table′) (e .scratch′)
+Promised (report x1 x2 y) t e = ReportPost x1 x2 y t (e .output) (e .readMap) (e .answer) (e .output′) (e .readMap′)
+Promised (top x1 x2 k) t e = TopPost x1 x2 k t (e .output) (e .readMap) (e .answer) (e .output′) (e .readMap′)
+Promised count t e = CountPost t (e .answer)
+Promised check t e = CheckPost t (e .answer)
+Promised rebuild t e = RebuildPost t (e .scratch) (e .answer) (e .table′) (e .scratch′)
+
 -- the call met its post-condition on the table t; calls that are lent the table to be read leave it as it was
-abbrev pub MetBy : Call → List ℕ → Event → Type 0
-MetBy format t e = FormatPost t (e .answer) (e .table′)
-MetBy (add place rank track) t e = AddPost place rank track t (e .scratch) (e .answer) (e .table′) (e .scratch′)
-MetBy (withdraw place rank) t e = WithdrawPost place rank t (e .scratch) (e .answer) (e .table′) (e .scratch′)
-MetBy (report x1 x2 y) t e = (e .table′ ≡ t) × ReportPost x1 x2 y t (e .output) (e .readMap) (e .answer) (e .output′) (e .readMap′)
-MetBy (top x1 x2 k) t e = (e .table′ ≡ t) × TopPost x1 x2 k t (e .output) (e .readMap) (e .answer) (e .output′) (e .readMap′)
-MetBy count t e = (e .table′ ≡ t) × CountPost t (e .answer)
-MetBy check t e = (e .table′ ≡ t) × CheckPost t (e .answer)
-MetBy rebuild t e = RebuildPost t (e .scratch) (e .answer) (e .table′) (e .scratch′)
+pub record MetBy (c : Call) (t : List ℕ) (e : Event) : Type 0 where
+  pub promised : Promised c t e
+  pub unchanged : mayChange (kind c) ≡ false → e .table′ ≡ t
 
 -- "every call gets its bytes as the last one left them, accepted or refused"; its arguments are within their 32 bits
 abbrev pub History : List ℕ → List Event → Type 0
 History t [] = Unit {0}
 History t (e ∷ es) = (argumentsFit (e .call) ≡ true) × MetBy (e .call) t e × History (e .table′) es
-
--- the calls that hand out spots
-abbrev pub isQuery : Call → Bool
-isQuery format = false
-isQuery (add place rank track) = false
-isQuery (withdraw place rank) = false
-isQuery (report x1 x2 y) = true
-isQuery (top x1 x2 k) = true
-isQuery count = false
-isQuery check = false
-isQuery rebuild = false
 
 -- "the lengths of table, output, read map and work area" of an event on the table t
 abbrev pub lengthsIn : List ℕ → Event → Lengths

@@ -1,5 +1,5 @@
 -- The plain list, called the model here: spots with their places and ranks as whole numbers, in place order, and the eight calls over them in 01's own words,
--- fed arguments and lengths alone. It is written apart: of the table's definitions it knows only what a call, lengths and an answer are.
+-- fed arguments and lengths alone. It is written apart: of the table's definitions it knows only what a call, its kind, lengths and an answer are.
 -- Assumes nothing.
 use Prim.Native.Nat.{ℕ, suc, _-_, _*_, _/_, _%_}
 use mathlib.Core.Bool.{Bool, false, cond, not, _&&_, _||_}
@@ -9,7 +9,7 @@ use lib.Dec.{ltb, leb, eqb}
 use lib.IntN.{ℤ, pos, negsuc}
 use lib.Signed.{ltZ, leZ}
 use Rattle.block.specs.declared.Answer.{Answer}
-use Rattle.table.specs.Calls.{Call, format, add, withdraw, report, top, count, check, rebuild, Lengths}
+use Rattle.table.specs.Calls.{Call, format, add, withdraw, report, top, count, check, rebuild, Kind, makes, updates, queries, tells, kind, Lengths}
 
 -- "A spot has a place and a rank, and a track number"
 pub record PlainSpot : Type 0 where
@@ -117,12 +117,12 @@ accept detail given next = record { answer = record { number = 0; detail = detai
 unfoldable pub badTable : ℕ → Bool
 badTable bytes = not (eqb (bytes % 2048) 0) || ltb (bytes / 2048) 9 || ltb 4096 (bytes / 2048)
 
--- 2: "the read map isn't 512 bytes, or the work area is shorter than the table"
-unfoldable pub badMap : Lengths → Bool
-badMap l = not (eqb (l .readMap) 512)
-
-unfoldable pub shortScratch : Lengths → Bool
-shortScratch l = ltb (l .scratch) (l .table)
+-- 2: "the read map isn't 512 bytes, or the work area is shorter than the table", for the calls that are lent them
+unfoldable pub badLent : Lengths → Kind → Bool
+badLent l makes = false
+badLent l updates = ltb (l .scratch) (l .table)
+badLent l queries = not (eqb (l .readMap) 512)
+badLent l tells = false
 
 -- 4: "the list has 16 spots for each block after block 0 and none of this identity"
 unfoldable pub full : ℕ → ℤ → ℤ → List PlainSpot → Bool
@@ -132,21 +132,19 @@ full bytes place rank ss = leb (16 * (bytes / 2048 - 1)) (length ss) && not (lis
 unfoldable pub handOut : ℕ → List PlainSpot → Plain → Reply
 handOut bytes found ps = cond (ltb (bytes / 12) (length found)) (refuse 5 (length found) ps) (accept (length found) found ps)
 
--- "The order is that of the table"
+-- what each call comes to once its lengths are right
+unfoldable pub ownReply : Lengths → Call → Plain → Reply
+ownReply l format ps = accept 0 [] begunEmpty
+ownReply l (add place rank track) ps =
+    cond (full (l .table) place rank (ps .spots)) (refuse 4 0 ps)
+    (accept 0 [] (record { spots = broughtIn (record { place = place; rank = rank; track = track }) (ps .spots) }))
+ownReply l (withdraw place rank) ps = accept 0 [] (record { spots = takenOut place rank (ps .spots) })
+ownReply l (report x1 x2 y) ps = handOut (l .output) (chosen (ofReport x1 x2 y) (ps .spots)) ps
+ownReply l (top x1 x2 k) ps = handOut (l .output) (highest x1 x2 k (ps .spots)) ps
+ownReply l count ps = accept (length (ps .spots)) [] ps
+ownReply l check ps = accept 1 [] ps
+ownReply l rebuild ps = accept 0 [] ps
+
+-- "Every call: 1 and 2 as the lengths give them; 3 never"; "The order is that of the table"
 unfoldable pub reply : Lengths → Call → Plain → Reply
-reply l format ps = cond (badTable (l .table)) (refuse 1 0 ps) (accept 0 [] begunEmpty)
-reply l (add place rank track) ps =
-    cond (badTable (l .table)) (refuse 1 0 ps)
-    (cond (shortScratch l) (refuse 2 0 ps)
-    (cond (full (l .table) place rank (ps .spots)) (refuse 4 0 ps)
-    (accept 0 [] (record { spots = broughtIn (record { place = place; rank = rank; track = track }) (ps .spots) }))))
-reply l (withdraw place rank) ps =
-    cond (badTable (l .table)) (refuse 1 0 ps)
-    (cond (shortScratch l) (refuse 2 0 ps) (accept 0 [] (record { spots = takenOut place rank (ps .spots) })))
-reply l (report x1 x2 y) ps =
-    cond (badTable (l .table)) (refuse 1 0 ps) (cond (badMap l) (refuse 2 0 ps) (handOut (l .output) (chosen (ofReport x1 x2 y) (ps .spots)) ps))
-reply l (top x1 x2 k) ps =
-    cond (badTable (l .table)) (refuse 1 0 ps) (cond (badMap l) (refuse 2 0 ps) (handOut (l .output) (highest x1 x2 k (ps .spots)) ps))
-reply l count ps = cond (badTable (l .table)) (refuse 1 0 ps) (accept (length (ps .spots)) [] ps)
-reply l check ps = cond (badTable (l .table)) (refuse 1 0 ps) (accept 1 [] ps)
-reply l rebuild ps = cond (badTable (l .table)) (refuse 1 0 ps) (cond (shortScratch l) (refuse 2 0 ps) (accept 0 [] ps))
+reply l c ps = cond (badTable (l .table)) (refuse 1 0 ps) (cond (badLent l (kind c)) (refuse 2 0 ps) (ownReply l c ps))
