@@ -30,6 +30,9 @@ use Rattle.table.specs.Updates.{scratchLeft, UpdatePost, ChangePost, Add
 pub number-is : {r : Answer} {n : ℕ} → r ≡ answer n 0 → r .number ≡ n
 number-is a = ap (λ (x : Answer). x .number) a
 
+pub detail-is : {r : Answer} {n : ℕ} → r ≡ answer n 0 → r .detail ≡ 0
+detail-is a = ap (λ (x : Answer). x .detail) a
+
 module _ (c : Call) (t w : List ℕ) (e : tableSized (length t) ≡ false) where
   pub number-short : lengthNumber (lengths t [] [] w) c ≡ 1
   unfolding lengthNumber
@@ -40,19 +43,19 @@ module _ (c : Call) (t w : List ℕ) (e : tableSized (length t) ≡ true) where
   unfolding lengthNumber
   number-lent h = rw (e, h)
 
-module _ (c : Call) (due : ℕ) (after : ℕ → Option ℕ) (t w : List ℕ) (r : Answer) where
+module _ (c : Call) (due : Answer) (after : ℕ → Option ℕ) (t w : List ℕ) (r : Answer) where
   -- refused by the lengths: everything is as it was
   pub update-refused : (n : ℕ) → n ≢ 0 → lengthNumber (lengths t [] [] w) c ≡ n → scratchLeft (length t) n w ≡ w → r ≡ answer n 0 → UpdatePost c due after t w r t w
   update-refused n nonzero l left a =
       record {
-        detail = ap (λ (x : Answer). x .detail) a;
-        refusals = λ h. number-is a ∙ sym l;
+        detail = λ h. detail-is a;
+        refusals = λ h. a ∙ ap (λ (i : ℕ). answer i 0) (sym l);
         header = λ h. absurd (nonzero (sym l ∙ h));
         numbers = λ h. absurd (nonzero (sym l ∙ h));
         unchanged = λ h. refl;
         sized = refl;
         scratch = sym left ∙ ap (λ (i : ℕ). scratchLeft (length t) i w) (sym (number-is a));
-        number = λ s h. absurd (nonzero (sym l ∙ h));
+        answered = λ s h. absurd (nonzero (sym l ∙ h));
         staysSound = λ s. s;
         liveAfter = λ s h. absurd (nonzero (sym (number-is a) ∙ h));
       }
@@ -71,6 +74,7 @@ module _ (c : Call) (due : ℕ) (after : ℕ → Option ℕ) (t w : List ℕ) (r
   change-refused j n nonzero spare l a u =
       record {
         update = u;
+        detail = detail-is a;
         path = λ h. absurd (nonzero (sym l ∙ h));
         full = λ h. absurd (spare (sym (number-is a) ∙ h));
         exact = λ s x. x;
@@ -84,7 +88,7 @@ module _ (c : Call) (due : ℕ) (after : ℕ → Option ℕ) (t w : List ℕ) (r
   change-lent j e h a = change-refused j 2 (λ x. omega arith) (λ x. omega arith) (number-lent c t w e h) a (update-lent e h a)
 
   -- the lengths are right
-  module _ {t′ w₁ : List ℕ} {j n : ℕ} (l : Lent t w) (asks : lent (lengths t [] [] w) (kind c) ≡ leb (length t) (length w)) (g : Revised t t′ w w₁ j due (outcomes c) after n) (a : r ≡ answer n 0) where
+  module _ {t′ w₁ : List ℕ} {j n : ℕ} (l : Lent t w) (asks : lent (lengths t [] [] w) (kind c) ≡ leb (length t) (length w)) (plain : due .detail ≡ 0) (g : Revised t t′ w w₁ j (due .number) (outcomes c) after n) (a : r ≡ answer n 0) where
     fine : lengthNumber (lengths t [] [] w) c ≡ 0
     unfolding lengthNumber
     fine = rw (l .sized, asks, le-leb (length t) (length w) (l .room))
@@ -94,17 +98,18 @@ module _ (c : Call) (due : ℕ) (after : ℕ → Option ℕ) (t w : List ℕ) (r
         record {
           update =
               record {
-                detail = ap (λ (x : Answer). x .detail) a;
+                detail = λ h. detail-is a;
                 refusals = λ h. absurd (h fine);
                 header = λ h b. number-is a ∙ g .path (header-breaks t j b);
                 numbers = λ h. ap (λ (x : Answer). has (x .number) (outcomes c)) a ∙ g .numbers;
                 unchanged = λ h. g .leaves .kept (λ e. h (number-is a ∙ e));
                 sized = g .leaves .sized;
                 scratch = left ∙ ap (λ (i : ℕ). scratchLeft (length t) i w) (sym (number-is a));
-                number = λ s h. number-is a ∙ g .numberIs s;
+                answered = λ s h. a ∙ (λ i. record { number = g .numberIs s i; detail = sym plain i });
                 staysSound = g .staysSound;
                 liveAfter = λ s h. g .liveAfter s (sym (number-is a) ∙ h);
               };
+          detail = detail-is a;
           path = λ h b. number-is a ∙ g .path b;
           full = λ h. g .full (sym (number-is a) ∙ h);
           exact = g .exact;
@@ -146,10 +151,10 @@ module _ (place rank : ℤ) (track : ℕ) (t w : List ℕ) (r : Answer) where
     of-key = subst (λ (i : ℕ). Revised t t′ w w₁ i (addNumber (length t) (liveCount t) (isLive (live t i))) (0 ∷ 3 ∷ 4 ∷ []) (withKey i (some track) (live t)) n) e g
 
     pub add-full : n ≡ 4 → r ≡ answer 4 0 → AddPost place rank track t w r t′ w₁
-    add-full f a = change-full (add place rank track) _ _ t w r l refl of-key (a ∙ ap (λ (i : ℕ). answer i 0) (sym f)) f
+    add-full f a = change-full (add place rank track) _ _ t w r l refl refl of-key (a ∙ ap (λ (i : ℕ). answer i 0) (sym f)) f
 
     pub add-ends : {w′ : List ℕ} → r ≡ answer n 0 → n ≢ 4 → w′ ≡ replicate (length t) 0 ++ drop (length t) w₁ → AddPost place rank track t w r t′ w′
-    add-ends a d cleared = change-ends (add place rank track) _ _ t w r l refl of-key a (three-ways n d (g .numbers)) cleared
+    add-ends a d cleared = change-ends (add place rank track) _ _ t w r l refl refl of-key a (three-ways n d (g .numbers)) cleared
 
 -- ---- Withdraw
 
@@ -163,4 +168,4 @@ module _ (place rank : ℤ) (t w : List ℕ) (r : Answer) where
   pub withdraw-ends : {t′ w₁ w′ : List ℕ} {n k : ℕ} → Lent t w → k ≡ key place rank → Revised t t′ w w₁ k 0 (0 ∷ 3 ∷ []) (withKey k none (live t)) n → r ≡ answer n 0
       → w′ ≡ replicate (length t) 0 ++ drop (length t) w₁ → WithdrawPost place rank t w r t′ w′
   withdraw-ends {t′} {w₁} {w′} {n} {k} l e g a cleared =
-      change-ends (withdraw place rank) _ _ t w r l refl (subst (λ (i : ℕ). Revised t t′ w w₁ i 0 (0 ∷ 3 ∷ []) (withKey i none (live t)) n) e g) a (two-ways n (g .numbers)) cleared
+      change-ends (withdraw place rank) _ _ t w r l refl refl (subst (λ (i : ℕ). Revised t t′ w w₁ i 0 (0 ∷ 3 ∷ []) (withKey i none (live t)) n) e g) a (two-ways n (g .numbers)) cleared

@@ -89,20 +89,21 @@ refusal-count (walked found blocks) = refusal-zero (length found)
 
 -- ---- calls that change the table
 
-module _ (c : Call) (due : ℕ) (after : ℕ → Option ℕ) (t : List ℕ) (e : Event) (p : UpdatePost c due after t (e .scratch) (e .answer) (e .table′) (e .scratch′)) where
+module _ (c : Call) (due : Answer) (after : ℕ → Option ℕ) (t : List ℕ) (e : Event) (p : UpdatePost c due after t (e .scratch) (e .answer) (e .table′) (e .scratch′)) where
   update-number : every (λ m. eqb m 0 || has m refusals) (outcomes c) ≡ true → (e .answer .number ≡ 0 → ⊥) → has (e .answer .number) refusals ≡ true
   update-number h z =
       ⊎-elim (λ l. of-five (e .answer .number) (outcomes c) h (p .numbers l) z)
       (λ l.
-      let q = p .refusals l in
-      of-five (e .answer .number) (0 ∷ 1 ∷ 2 ∷ []) refl (ap (λ (n : ℕ). has n (0 ∷ 1 ∷ 2 ∷ [])) q ∙ by-lengths (lengths t [] [] (e .scratch)) c) z)
+      of-five (e .answer .number) (0 ∷ 1 ∷ 2 ∷ []) refl
+      (ap (λ (r : Answer). has (r .number) (0 ∷ 1 ∷ 2 ∷ [])) (p .refusals l) ∙ by-lengths (lengths t [] [] (e .scratch)) c)
+      z)
       (same-or-not (lengthNumber (lengths t [] [] (e .scratch)) c) 0)
 
-  update-down : every (λ m. eqb m 0 || has m refusals) (outcomes c) ≡ true → isQuery c ≡ false → (e .answer .number ≡ 0 → ⊥) → TurnedDown c t e
-  update-down h q z =
+  update-down : every (λ m. eqb m 0 || has m refusals) (outcomes c) ≡ true → isQuery c ≡ false → e .answer .detail ≡ 0 → (e .answer .number ≡ 0 → ⊥) → TurnedDown c t e
+  update-down h q d z =
       record {
         number = update-number h z;
-        detail = λ y. p .detail;
+        detail = λ y. d;
         table = p .unchanged z;
         output = λ i. absurd (false≢true (sym q ∙ i));
         readMap = λ i. absurd (false≢true (sym q ∙ i));
@@ -229,8 +230,8 @@ ends format t e p =
       },
       formatted-long t (e .table′) (p .promised .written),
     )
-ends (add place rank track) t e p = (update-down (add place rank track) _ _ t e (p .promised .update) refl refl, p .promised .update .sized)
-ends (withdraw place rank) t e p = (update-down (withdraw place rank) _ _ t e (p .promised .update) refl refl, p .promised .update .sized)
+ends (add place rank track) t e p = (update-down (add place rank track) _ _ t e (p .promised .update) refl refl (p .promised .detail), p .promised .update .sized)
+ends (withdraw place rank) t e p = (update-down (withdraw place rank) _ _ t e (p .promised .update) refl refl (p .promised .detail), p .promised .update .sized)
 ends (report x1 x2 y) t e p = (report-down x1 x2 y t e (p .unchanged refl) (p .promised), ap length (p .unchanged refl))
 ends (top x1 x2 k) t e p = (top-down x1 x2 k t e (p .unchanged refl) (p .promised), ap length (p .unchanged refl))
 ends count t e p = (
@@ -241,7 +242,7 @@ ends check t e p = (
   still-down check t e (subst Refusal (sym (p .promised .answered)) (refusal-lengths _ _ (by-lengths (lengths t [] [] []) check) (refusal-zero _))) (p .unchanged refl) refl,
   ap length (p .unchanged refl),
 )
-ends rebuild t e p = (update-down rebuild _ _ t e (p .promised .update) refl refl, p .promised .update .sized)
+ends rebuild t e p = (update-down rebuild _ _ t e (p .promised .update) refl refl (p .promised .detail), p .promised .update .sized)
 
 only-marked : (c : Call) (t : List ℕ) (e : Event) → MetBy c t e → e .answer .number ≡ 0 → OnlyMarked c t e
 only-marked c t e p z =

@@ -42,6 +42,7 @@ use Rattle.table.specs.Updates.{AddPost, WithdrawPost}
 use Rattle.table.specs.Model.{PlainSpot, hasIdentity, placeBefore, rankHigher, asBytes}
 use Rattle.table.specs.Demands.{LiveSpot, OfPlaces, InOrder, AtCapacity, ReportOf, TopOf, HandedOut, AddedTo, WithdrawnFrom, Demand2}
 use Rattle.table.proofs.Plain.{toKeySpot, SpotFits, identity-key, keyed-bytes, two-fit}
+use Rattle.table.proofs.Changes.{number-is}
 use Rattle.table.proofs.Alive.{plain, Small, keyed-plain, plain-length, plain-take, plain-fit, plain-mem, mem-plain, rises-in-order, falls-in-order, take-order, take-first, same-order, first-order, before-apart, higher-apart, alive-fits, kept-small, kept-live, live-kept, all-live, live-count}
 
 -- ---- what a query hands out
@@ -298,7 +299,7 @@ module _ (place rank : ℤ) (fp : Fits place) (fr : Fits rank) where
         → AddedTo place rank track t r t′
     unfolding due Full
     added-to track w r t′ w′ l p =
-        let n : r .number ≡ due = p .update .number g l in
+        let n : r .number ≡ due = number-is (p .update .answered g l) in
         record {
           full = (λ q. full-number .0 (sym n ∙ q), λ q. n ∙ full-number .1 q);
           accepted = λ q. n ∙ not-full (λ e. q (n ∙ e));
@@ -325,7 +326,7 @@ module _ (place rank : ℤ) (fp : Fits place) (fr : Fits rank) where
     withdrawn-from : (w : List ℕ) (r : Answer) (t′ w′ : List ℕ) → lengthNumber (lengths t [] [] w) (withdraw place rank) ≡ 0 → WithdrawPost place rank t w r t′ w′
         → WithdrawnFrom place rank t r t′
     withdrawn-from w r t′ w′ l p =
-        let z : r .number ≡ 0 = p .update .number g l in
+        let z : r .number ≡ 0 = number-is (p .update .answered g l) in
         record {
           accepted = z;
           after = λ s. (

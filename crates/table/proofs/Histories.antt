@@ -33,7 +33,7 @@ use Rattle.table.specs.Answers.{lengthNumber, spotsAnswer, outputLeft, l
 use Rattle.table.specs.Queries.{walkAnswer, countAnswer, QueryPost}
 use Rattle.table.specs.Updates.{UpdatePost}
 use Rattle.table.specs.History.{Event, MetBy, lengthsIn, SecondTable, SameOnSecond, Agreed}
-use Rattle.table.proofs.Keyed.{KeyReply, keyReply, replyTo, refusedOr, accepted, gives}
+use Rattle.table.proofs.Keyed.{KeyReply, keyReply, replyTo, refusedOr, accepted, changed, nextBy, gives}
 
 -- what the tree's theorems give of a sound table
 pub record TreeLaws : Type 0 where
@@ -165,22 +165,24 @@ query-kept c w found t e s same whole p model bound second =
     marks-are : e .answer .number ≡ 0 → e .readMap′ ≡ readMap (blocksRead w)
     marks-are z = p .marks ∙ map-accepted _ _ _ z
 
--- an update: the number, then what is held afterwards
-refused-number : (l due : ℕ) (ss next : List Spot) (r : Answer) → r .detail ≡ 0 → (l ≢ 0 → r .number ≡ l) → (l ≡ 0 → r .number ≡ due)
-    → r ≡ refusedOr l ss (refusedOr due ss (accepted 0 next)) .answer
-unfolding refusedOr accepted
-refused-number zero zero ss next r d a b = λ i. record { number = b refl i; detail = d i }
-refused-number zero (suc n) ss next r d a b = λ i. record { number = b refl i; detail = d i }
-refused-number (suc l) due ss next r d a b = λ i. record { number = a (λ e. omega arith) i; detail = d i }
+-- an update: the answer, then what is held afterwards
+changed-answer : (l : ℕ) (due : Answer) (ss next : List Spot) (r : Answer) → (l ≢ 0 → r ≡ answer l 0) → (l ≡ 0 → r ≡ due)
+    → r ≡ refusedOr l ss (changed due ss next) .answer
+unfolding refusedOr changed
+changed-answer zero due ss next r a b = b refl
+changed-answer (suc l) due ss next r a b = a (λ e. omega arith)
 
 -- refused, and the list is as it was; or accepted, with the next list
-refused-next : (l due : ℕ) (ss next : List Spot)
-    → ((refusedOr l ss (refusedOr due ss (accepted 0 next)) .answer .number ≢ 0) × (refusedOr l ss (refusedOr due ss (accepted 0 next)) .next ≡ ss)) ⊎
-    ((refusedOr l ss (refusedOr due ss (accepted 0 next)) .answer .number ≡ 0) × (refusedOr l ss (refusedOr due ss (accepted 0 next)) .next ≡ next))
-unfolding refusedOr accepted
-refused-next zero zero ss next = inr (refl, refl)
-refused-next zero (suc n) ss next = inl (λ e. omega arith, refl)
-refused-next (suc l) due ss next = inl (λ e. omega arith, refl)
+changed-next : (l : ℕ) (due : Answer) (ss next : List Spot)
+    → ((refusedOr l ss (changed due ss next) .answer .number ≢ 0) × (refusedOr l ss (changed due ss next) .next ≡ ss)) ⊎
+    ((refusedOr l ss (changed due ss next) .answer .number ≡ 0) × (refusedOr l ss (changed due ss next) .next ≡ next))
+unfolding refusedOr changed nextBy
+changed-next zero due ss next = go (due .number)
+  where
+    go : (n : ℕ) → ((n ≢ 0) × (nextBy n ss next ≡ ss)) ⊎ ((n ≡ 0) × (nextBy n ss next ≡ next))
+    go zero = inr (refl, refl)
+    go (suc n) = inl (λ e. omega arith, refl)
+changed-next (suc l) due ss next = inl (λ e. omega arith, refl)
 
 -- a call that hands out no spots
 no-query : (c : Call) (t : List ℕ) (due : Answer) (left : List ℕ) (e : Event) → isQuery c ≡ false → e .answer ≡ due → sound (e .table′) ≡ true
@@ -195,10 +197,10 @@ no-query c t due left e n a s =
     }
 
 module _ (laws : TreeLaws) where
-  update-kept : (c : Call) (due : ℕ) (after : ℕ → Option ℕ) (t : List ℕ) (e : Event) (next : List Spot) → sound t ≡ true
+  update-kept : (c : Call) (due : Answer) (after : ℕ → Option ℕ) (t : List ℕ) (e : Event) (next : List Spot) → sound t ≡ true
       → UpdatePost c due after t (e .scratch) (e .answer) (e .table′) (e .scratch′)
       → keyReplyIn c t (liveSpots t) e
-      ≡ refusedOr (lengthNumber (lengths t [] [] (e .scratch)) c) (liveSpots t) (refusedOr due (liveSpots t) (accepted 0 next))
+      ≡ refusedOr (lengthNumber (lengths t [] [] (e .scratch)) c) (liveSpots t) (changed due (liveSpots t) next)
       → rising (keys next) ≡ true
       → ((k : ℕ) → find k next ≡ after k)
       → isQuery c ≡ false
@@ -212,7 +214,7 @@ module _ (laws : TreeLaws) where
             (⊎-elim
             (λ h. h .1 ∙ ap liveSpots (sym (p .unchanged (λ z. h .0 (sym (ap (λ (a : Answer). a .number) number) ∙ z)))))
             (λ h. h .1 ∙ held (ap (λ (a : Answer). a .number) number ∙ h .0))
-            (refused-next l due ss next));
+            (changed-next l due ss next));
       }
     where
       ss : List Spot
@@ -221,8 +223,8 @@ module _ (laws : TreeLaws) where
       l : ℕ
       l = lengthNumber (lengths t [] [] (e .scratch)) c
 
-      number : e .answer ≡ refusedOr l ss (refusedOr due ss (accepted 0 next)) .answer
-      number = refused-number l due ss next (e .answer) (p .detail) (p .refusals) (p .number s)
+      number : e .answer ≡ refusedOr l ss (changed due ss next) .answer
+      number = changed-answer l due ss next (e .answer) (p .refusals) (p .answered s)
 
       held : e .answer .number ≡ 0 → next ≡ liveSpots (e .table′)
       held z =
@@ -255,7 +257,7 @@ module _ (laws : TreeLaws) where
 
   -- each call keeps the model's list and the live spots one
   pub step : (c : Call) (t : List ℕ) (e : Event) → tableSized (length t) ≡ true → sound t ≡ true → MetBy c t e → Kept c t e
-  unfolding keyReply replyTo lengthNumber refusedOr unlessRefused accepted countAnswer liveCount
+  unfolding keyReply replyTo lengthNumber refusedOr unlessRefused accepted changed nextBy countAnswer liveCount
   step format t e z s p =
       let left : e .table′ ≡ formatted (length t) = p .promised .written ∙ rw z in
       plain-kept format t e (p .promised .answered ∙ rw z) (rw left (laws .fresh-sound (length t) z)) (rw left (laws .fresh-sized (length t) z))
@@ -268,7 +270,7 @@ module _ (laws : TreeLaws) where
       (put-found t s (key place rank) track)
       refl
   step (withdraw place rank) t e z s p =
-      update-kept (withdraw place rank) 0 _ t e (without (key place rank) (liveSpots t)) s (p .promised .update) refl (without-up t s (key place rank))
+      update-kept (withdraw place rank) _ _ t e (without (key place rank) (liveSpots t)) s (p .promised .update) refl (without-up t s (key place rank))
       (without-found t s (key place rank))
       refl
   step (report x1 x2 y) t e z s p =
@@ -285,4 +287,4 @@ module _ (laws : TreeLaws) where
       plain-kept count t e (p .promised .answered ∙ rw (z, laws .counts t s .1)) (rw (p .unchanged refl) s) (ap length (p .unchanged refl)) (rw (z, p .unchanged refl)) refl
   step check t e z s p =
       plain-kept check t e (p .promised .answered ∙ rw (z, s)) (rw (p .unchanged refl) s) (ap length (p .unchanged refl)) (rw (z, p .unchanged refl)) refl
-  step rebuild t e z s p = update-kept rebuild 0 (live t) t e (liveSpots t) s (p .promised .update) refl (laws .rises t s) (laws .finds t s) refl
+  step rebuild t e z s p = update-kept rebuild _ (live t) t e (liveSpots t) s (p .promised .update) refl (laws .rises t s) (laws .finds t s) refl

@@ -9,6 +9,7 @@ use Rattle.spot.specs.Keys.{key}
 use Rattle.spot.specs.Spots.{without, find, put, byRank}
 use Rattle.spot.specs.Query.{query, topQuery, wants}
 use Rattle.block.specs.declared.Answer.{Answer}
+use Rattle.block.specs.Answers.{answer}
 use Rattle.tree.specs.Lookup.{isLive}
 use Rattle.table.specs.Calls.{Call, format, add, withdraw, report, top, count, check, rebuild, Lengths}
 use Rattle.revise.specs.Numbers.{addNumber}
@@ -29,6 +30,14 @@ unfoldable pub refusedOr : ℕ → List Spot → KeyReply → KeyReply
 refusedOr zero ss r = r
 refusedOr (suc n) ss r = record { answer = record { number = suc n; detail = 0 }; given = []; next = ss }
 
+-- a call that changes the list, with its answer: accepted, and the list is the next; or refused, and it is as it was
+unfoldable pub nextBy : ℕ → List Spot → List Spot → List Spot
+nextBy zero ss next = next
+nextBy (suc n) ss next = ss
+
+unfoldable pub changed : Answer → List Spot → List Spot → KeyReply
+changed due ss next = record { answer = due; given = []; next = nextBy (due .number) ss next }
+
 -- "their spots are those defined above, in that order; 5 if there are more than the output holds"
 unfoldable pub gives : ℕ → List Spot → List Spot → KeyReply
 gives bytes found ss = record { answer = spotsAnswer bytes (length found); given = found; next = ss }
@@ -37,14 +46,14 @@ gives bytes found ss = record { answer = spotsAnswer bytes (length found); given
 unfoldable pub replyTo : Lengths → Call → List Spot → KeyReply
 replyTo l format ss = accepted 0 []
 replyTo l (add place rank track) ss =
-    refusedOr (addNumber (l .table) (length ss) (isLive (find (key place rank) ss))) ss
-    (accepted 0 (put (record { key = key place rank; track = track }) (without (key place rank) ss)))
-replyTo l (withdraw place rank) ss = accepted 0 (without (key place rank) ss)
+    changed (answer (addNumber (l .table) (length ss) (isLive (find (key place rank) ss))) 0) ss
+    (put (record { key = key place rank; track = track }) (without (key place rank) ss))
+replyTo l (withdraw place rank) ss = changed (answer 0 0) ss (without (key place rank) ss)
 replyTo l (report x1 x2 y) ss = gives (l .output) (keep (wants (query x1 x2 y)) ss) ss
 replyTo l (top x1 x2 k) ss = gives (l .output) (take k (byRank (keep (wants (topQuery x1 x2 0)) ss))) ss
 replyTo l count ss = accepted (length ss) ss
 replyTo l check ss = accepted 1 ss
-replyTo l rebuild ss = accepted 0 ss
+replyTo l rebuild ss = changed (answer 0 0) ss ss
 
 -- what the model answers, in keys
 unfoldable pub keyReply : Lengths → Call → List Spot → KeyReply

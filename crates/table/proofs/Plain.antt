@@ -17,13 +17,14 @@ use Rattle.spot.specs.Spots.{spotBytes, spotsBytes, find, put, putHigh, byRank,
 use Rattle.spot.specs.Query.{query, topQuery, wants}
 use Rattle.spot.proofs.Signed.{Fits, signed-fits}
 use Rattle.spot.proofs.Orders.{report-wants, top-wants}
+use Rattle.block.specs.Answers.{answer}
 use Rattle.block.specs.Table.{sizedFor, tableSized}
 use Rattle.tree.specs.Lookup.{isLive}
 use Rattle.table.specs.Calls.{Call, format, add, withdraw, report, top, count, check, rebuild, Kind, makes, updates, queries, tells, kind, Lengths, argumentsFit}
 use Rattle.revise.specs.Numbers.{addNumber}
 use Rattle.table.specs.Answers.{lent, lengthNumber, spotsAnswer, outputLeft}
 use Rattle.table.specs.Model.{PlainSpot, hasIdentity, placeBefore, rankHigher, ofPlaces, ofReport, chosen, insertBy, sortBy, listed, takenOut, broughtIn, highest, fourBytes, complement, asBytes, Plain, begunEmpty, Reply, outputAfter, refuse, accept, badTable, badLent, full, handOut, ownReply, reply}
-use Rattle.table.proofs.Keyed.{KeyReply, keyReply, replyTo, refusedOr, accepted, gives}
+use Rattle.table.proofs.Keyed.{KeyReply, keyReply, replyTo, refusedOr, accepted, changed, nextBy, gives}
 use Rattle.table.proofs.Orders.{model-places, model-ranks, model-identity, four-bytes, key-bytes}
 
 -- a spot of the model as the table's definitions have it
@@ -219,9 +220,6 @@ like-accept : (d : ℕ) (next : Plain) → AllFit (next .spots) → Like (accept
 unfolding accept accepted outputAfter outputLeft
 like-accept d next f = record { answer = refl; output = λ out. refl; next = refl; fit = f }
 
-like-next : (next : Plain) (keys : List Spot) → AllFit (next .spots) → keyed (next .spots) ≡ keys → Like (accept 0 [] next) (accepted 0 keys)
-like-next next keys f e = rw (← e) (like-accept 0 next f)
-
 module _ (ps : Plain) (fit : AllFit (ps .spots)) where
   -- 1 and 2, by the lengths
   like-lengths : (sized lent : Bool) (x : Reply) (y : KeyReply) → Like x y
@@ -231,11 +229,12 @@ module _ (ps : Plain) (fit : AllFit (ps .spots)) where
   like-lengths true false x y h = record { answer = refl; output = λ out. refl; next = refl; fit = fit }
   like-lengths false lent x y h = record { answer = refl; output = λ out. refl; next = refl; fit = fit }
 
-  -- 4
-  like-full : (b : Bool) (x : Reply) (y : KeyReply) → Like x y → Like (cond b (refuse 4 0 ps) x) (refusedOr (cond b 4 0) (keyed (ps .spots)) y)
-  unfolding refuse refusedOr outputAfter outputLeft
-  like-full true x y h = record { answer = refl; output = λ out. refl; next = refl; fit = fit }
-  like-full false x y h = h
+  -- 4, or the list is another
+  like-full : (b : Bool) (next : Plain) (keys : List Spot) → AllFit (next .spots) → keyed (next .spots) ≡ keys
+      → Like (cond b (refuse 4 0 ps) (accept 0 [] next)) (changed (answer (cond b 4 0) 0) (keyed (ps .spots)) keys)
+  unfolding refuse accept changed nextBy outputAfter outputLeft
+  like-full true next keys f e = record { answer = refl; output = λ out. refl; next = refl; fit = fit }
+  like-full false next keys f e = record { answer = refl; output = λ out. refl; next = e; fit = f }
 
   -- 5
   like-out : (b : Bool) (found : List PlainSpot) → AllFit found
@@ -296,11 +295,11 @@ like-own l format ps a h = like-accept 0 begunEmpty tt
 like-own l (add place rank track) ps a h =
     let f = two-fit place rank (and-left (signed32 place && signed32 rank) (unsigned32 track) a) in
     rw (full-number (l .table) place rank (ps .spots) (f .0) (f .1) h)
-    (like-full ps h (full (l .table) place rank (ps .spots)) _ _
-    (like-next _ _ (in-fit place rank (f .0) (f .1) track (ps .spots) h) (keyed-in place rank (f .0) (f .1) track (ps .spots) h)))
+    (like-full ps h (full (l .table) place rank (ps .spots)) _ _ (in-fit place rank (f .0) (f .1) track (ps .spots) h)
+    (keyed-in place rank (f .0) (f .1) track (ps .spots) h))
 like-own l (withdraw place rank) ps a h =
     let f = two-fit place rank a in
-    like-next _ _ (out-fit place rank (f .0) (f .1) (ps .spots) h) (keyed-out place rank (f .0) (f .1) (ps .spots) h)
+    like-full ps h false _ _ (out-fit place rank (f .0) (f .1) (ps .spots) h) (keyed-out place rank (f .0) (f .1) (ps .spots) h)
 like-own l (report x1 x2 y) ps a h =
     let f = two-fit x1 x2 (and-left (signed32 x1 && signed32 x2) (signed32 y) a) in
     let fy = signed-fits y (and-right (signed32 x1 && signed32 x2) (signed32 y) a) in
@@ -312,7 +311,7 @@ like-own l (top x1 x2 k) ps a h =
     (keyed-highest x1 x2 (f .0) (f .1) k (ps .spots) h)
 like-own l count ps a h = rw (keyed-length (ps .spots)) (like-accept (length (ps .spots)) ps h)
 like-own l check ps a h = like-accept 1 ps h
-like-own l rebuild ps a h = like-accept 0 ps h
+like-own l rebuild ps a h = like-full ps h false ps _ h refl
 
 pub like : (l : Lengths) (c : Call) (ps : Plain) → argumentsFit c ≡ true → AllFit (ps .spots) → Like (reply l c ps) (keyReply l c (keyed (ps .spots)))
 unfolding reply keyReply lengthNumber

@@ -20,7 +20,7 @@ use Rattle.rebuild.proofs.Rebuilt.{rebuilt-sound, rebuilt-spots, rebuilt-settle
 use Rattle.table.specs.Calls.{rebuild, updates}
 use Rattle.table.specs.Answers.{lengths, lent, lengthNumber, outcomes}
 use Rattle.table.specs.Updates.{scratchLeft, UpdatePost, RebuildPost}
-use Rattle.table.proofs.Changes.{number-is, number-short, number-lent, update-short, update-lent}
+use Rattle.table.proofs.Changes.{number-is, detail-is, number-short, number-lent, update-short, update-lent}
 use Rattle.renew.specs.Layable.{layable}
 use Rattle.renew.specs.Renewed.{Renewed}
 use Rattle.renew.proofs.Laying.{laid-header}
@@ -32,10 +32,11 @@ asked t w = lengthNumber (lengths t [] [] w) rebuild
 
 module _ (t w : List ℕ) (r : Answer) where
   -- refused by the lengths
-  rebuild-refused : (n : ℕ) → n ≢ 0 → asked t w ≡ n → r ≡ answer n 0 → UpdatePost rebuild 0 (live t) t w r t w → RebuildPost t w r t w
+  rebuild-refused : (n : ℕ) → n ≢ 0 → asked t w ≡ n → r ≡ answer n 0 → UpdatePost rebuild (answer 0 0) (live t) t w r t w → RebuildPost t w r t w
   rebuild-refused n nonzero l a u =
       record {
         update = u;
+        detail = detail-is a;
         answered = λ h. absurd (nonzero (sym l ∙ h));
         anew = λ h. absurd (nonzero (sym (number-is a) ∙ h));
         exact = λ h. absurd (nonzero (sym (number-is a) ∙ h));
@@ -43,12 +44,12 @@ module _ (t w : List ℕ) (r : Answer) where
       }
 
   pub rebuild-short : tableSized (length t) ≡ false → r ≡ answer 1 0 → RebuildPost t w r t w
-  rebuild-short e a = rebuild-refused 1 (λ x. omega arith) (number-short rebuild t w e) a (update-short rebuild 0 (live t) t w r e a)
+  rebuild-short e a = rebuild-refused 1 (λ x. omega arith) (number-short rebuild t w e) a (update-short rebuild _ (live t) t w r e a)
 
   pub rebuild-lent : tableSized (length t) ≡ true → length w < length t → r ≡ answer 2 0 → RebuildPost t w r t w
   rebuild-lent e h a =
       let short : lent (lengths t [] [] w) updates ≡ false = lt-leb (length t) (length w) h in
-      rebuild-refused 2 (λ x. omega arith) (number-lent rebuild t w e short) a (update-lent rebuild 0 (live t) t w r e short a)
+      rebuild-refused 2 (λ x. omega arith) (number-lent rebuild t w e short) a (update-lent rebuild _ (live t) t w r e short a)
 
 -- the lengths are right: laid out anew, or a rule is broken, and then the scratch is cleared
 module _ (t t′ w w′ w″ : List ℕ) (r : Answer) (ok : Bool) (e : tableSized (length t) ≡ true) (l : length t ≤ length w) (g : Renewed t t′ w w′ (liveSpots t) true ok)
@@ -70,17 +71,18 @@ module _ (t t′ w w′ w″ : List ℕ) (r : Answer) (ok : Bool) (e : tableSize
       record {
         update =
             record {
-              detail = ap (λ (x : Answer). x .detail) a;
+              detail = λ n. detail-is a;
               refusals = λ n. absurd (n fine);
               header = λ n b. number-is a;
               numbers = λ n. ap (λ (x : Answer). has (x .number) (outcomes rebuild)) a;
               unchanged = λ n. g .kept h;
               sized = g .sized;
               scratch = left ∙ ap (λ (i : ℕ). scratchLeft (length t) i w) (sym (number-is a));
-              number = λ s n. absurd (true≢false (sym (renewed-whole g s refl) ∙ h));
+              answered = λ s n. absurd (true≢false (sym (renewed-whole g s refl) ∙ h));
               staysSound = λ s. ap sound (g .kept h) ∙ s;
               liveAfter = λ s n k. absurd (true≢false (sym (renewed-whole g s refl) ∙ h));
             };
+        detail = detail-is a;
         answered = λ n. number-by (a ∙ ap (λ (b : Bool). answer (cond b 0 3) 0) (sym h));
         anew = λ n. absurd (not-done n);
         exact = λ n. absurd (not-done n);
@@ -96,17 +98,18 @@ module _ (t t′ w w′ w″ : List ℕ) (r : Answer) (ok : Bool) (e : tableSize
       record {
         update =
             record {
-              detail = ap (λ (x : Answer). x .detail) a;
+              detail = λ n. detail-is a;
               refusals = λ n. absurd (n fine);
               header = λ n b. absurd (true≢false (sym h ∙ g .is ∙ laid-header t b));
               numbers = λ n. ap (λ (x : Answer). has (x .number) (outcomes rebuild)) a;
               unchanged = λ n. absurd (n (number-is a));
               sized = g .sized;
               scratch = left ∙ ap (λ (i : ℕ). scratchLeft (length t) i w) (sym (number-is a));
-              number = λ s n. number-is a;
+              answered = λ s n. a;
               staysSound = λ s. rebuilt-sound t′ (liveSpots t) (g .built h);
               liveAfter = λ s n k. rebuild-live t s t′ (g .built h) k;
             };
+        detail = detail-is a;
         answered = λ n. number-by (a ∙ ap (λ (b : Bool). answer (cond b 0 3) 0) (sym h));
         anew = λ n. (rebuilt-sound t′ (liveSpots t) (g .built h), spots-are);
         exact = λ n. g .built h .bound ∙ sym (live-are t′ ∙ ap length spots-are);

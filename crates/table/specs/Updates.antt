@@ -45,24 +45,26 @@ scratchLeft bytes (suc (suc zero)) w = w
 scratchLeft bytes (suc (suc (suc zero))) w = replicate bytes 0 ++ drop bytes w
 scratchLeft bytes (suc (suc (suc (suc n)))) w = w
 
--- a call that changes the table. On a sound one the number is `due`, and where it is accepted `after` are the live spots.
-pub record UpdatePost (c : Call) (due : ℕ) (after : ℕ → Option ℕ) (t w : List ℕ) (r : Answer) (t′ w′ : List ℕ) : Type 0 where
-  -- on every table
-  pub detail : r .detail ≡ 0
-  pub refusals : lengthNumber (lengths t [] [] w) c ≢ 0 → r .number ≡ lengthNumber (lengths t [] [] w) c
+-- a call that changes the table. On a sound one the answer is `due`, and where it is accepted `after` are the live spots.
+pub record UpdatePost (c : Call) (due : Answer) (after : ℕ → Option ℕ) (t w : List ℕ) (r : Answer) (t′ w′ : List ℕ) : Type 0 where
+  -- on every table; the detail that comes with 4 is the call's own
+  pub detail : r .number ≢ 4 → r .detail ≡ 0
+  pub refusals : lengthNumber (lengths t [] [] w) c ≢ 0 → r ≡ answer (lengthNumber (lengths t [] [] w) c) 0
   pub header : lengthNumber (lengths t [] [] w) c ≡ 0 → headerOk (length t) (headOf t) ≡ false → r .number ≡ 3
   pub numbers : lengthNumber (lengths t [] [] w) c ≡ 0 → has (r .number) (outcomes c) ≡ true
   pub unchanged : r .number ≢ 0 → t′ ≡ t
   pub sized : length t′ ≡ length t
   pub scratch : w′ ≡ scratchLeft (length t) (r .number) w
   -- "An accepted call leaves a sound table sound"
-  pub number : sound t ≡ true → lengthNumber (lengths t [] [] w) c ≡ 0 → r .number ≡ due
+  pub answered : sound t ≡ true → lengthNumber (lengths t [] [] w) c ≡ 0 → r ≡ due
   pub staysSound : sound t ≡ true → sound t′ ≡ true
   pub liveAfter : sound t ≡ true → r .number ≡ 0 → (k : ℕ) → live t′ k ≡ after k
 
 -- Add and Withdraw of the key j
-pub record ChangePost (c : Call) (j due : ℕ) (after : ℕ → Option ℕ) (t w : List ℕ) (r : Answer) (t′ w′ : List ℕ) : Type 0 where
+pub record ChangePost (c : Call) (j : ℕ) (due : Answer) (after : ℕ → Option ℕ) (t w : List ℕ) (r : Answer) (t′ w′ : List ℕ) : Type 0 where
   pub update : UpdatePost c due after t w r t′ w′
+  -- "4, detail 0", and so with every number
+  pub detail : r .detail ≡ 0
   -- on every table: 3 where block 0 or a node on the key's path, down to the first that names it, breaks a rule; 4 only where that path and a walk of
   -- everything are whole, the key is not live and no fewer spots than the capacity are counted
   pub path : lengthNumber (lengths t [] [] w) c ≡ 0 → lookedUp t j ≡ Broken → r .number ≡ 3
@@ -75,17 +77,18 @@ pub record ChangePost (c : Call) (j due : ℕ) (after : ℕ → Option ℕ) (t w
 -- "Add puts the spot in; one of the same identity is replaced"
 abbrev pub AddPost : ℤ → ℤ → ℕ → List ℕ → List ℕ → Answer → List ℕ → List ℕ → Type 0
 AddPost place rank track t =
-    ChangePost (add place rank track) (key place rank) (addNumber (length t) (liveCount t) (isLive (live t (key place rank))))
+    ChangePost (add place rank track) (key place rank) (answer (addNumber (length t) (liveCount t) (isLive (live t (key place rank)))) 0)
     (withKey (key place rank) (some track) (live t))
     t
 
 -- "Withdraw takes out the spot of that identity; where there is none the set is unchanged and the call is accepted"
 abbrev pub WithdrawPost : ℤ → ℤ → List ℕ → List ℕ → Answer → List ℕ → List ℕ → Type 0
-WithdrawPost place rank t = ChangePost (withdraw place rank) (key place rank) 0 (withKey (key place rank) none (live t)) t
+WithdrawPost place rank t = ChangePost (withdraw place rank) (key place rank) (answer 0 0) (withKey (key place rank) none (live t)) t
 
 -- "Rebuild leaves the live spots the same, track numbers included, and all waiting changes carried out"
 pub record RebuildPost (t w : List ℕ) (r : Answer) (t′ w′ : List ℕ) : Type 0 where
-  pub update : UpdatePost rebuild 0 (live t) t w r t′ w′
+  pub update : UpdatePost rebuild (answer 0 0) (live t) t w r t′ w′
+  pub detail : r .detail ≡ 0
   -- on every table: accepted exactly where the live spots can be laid out anew, and then they are
   pub answered : lengthNumber (lengths t [] [] w) rebuild ≡ 0 → r .number ≡ cond (layable (length t) (walkTable t everything)) 0 3
   pub anew : r .number ≡ 0 → (sound t′ ≡ true) × (liveSpots t′ ≡ liveSpots t)
