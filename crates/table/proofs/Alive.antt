@@ -13,7 +13,7 @@ use borrow.Author.Tests.{ltb-true, lt-ltb, le-leb, lt-leb}
 use Rattle.octets.specs.Lists.{keep, risingFrom}
 use Rattle.octets.proofs.Lists.{mem-take}
 use Rattle.octets.proofs.Tests.{every-make, every-mem, keep-mem, keep-there}
-use Rattle.octets.proofs.Order.{less-or-not, not-leb}
+use Rattle.octets.proofs.Order.{less-or-not}
 use Rattle.octets.proofs.Rising.{rising-rest, rising-least}
 use Rattle.spot.specs.declared.Spot.{Spot}
 use Rattle.spot.specs.Keys.{allKeys, key, rankKey, placeOf, rankIn}
@@ -31,8 +31,7 @@ use Rattle.tree.specs.Sound.{sound}
 use Rattle.tree.proofs.Tables.{shaped, live-none, live-rises, live-finds}
 use Rattle.table.specs.Model.{PlainSpot, placeBefore, rankHigher}
 use Rattle.table.specs.Demands.{LiveSpot, InOrder, AllLive}
-use Rattle.table.proofs.Orders.{model-ranks}
-use Rattle.table.proofs.Plain.{toKeySpot, keyed, SpotFits, AllFit, before-keys}
+use Rattle.table.proofs.Plain.{toKeySpot, keyed, SpotFits, AllFit, before-is, higher-is}
 
 -- ---- a spot of the table in whole numbers
 
@@ -112,13 +111,6 @@ in-order before R same (x ∷ xs) h a = (
       ap (before (toPlain x)) (r .2) ∙ same x (r .0) (h x (List·Memᴰ·head refl)) (h (r .0) (List·Memᴰ·tail (r .1))) (a .0 (r .0) (r .1))),
   in-order before R same xs (λ y i. h y (List·Memᴰ·tail i)) (a .1),
 )
-
-pub before-is : (x s : PlainSpot) → SpotFits x → SpotFits s → placeBefore x s ≡ ltb (toKeySpot x .key) (toKeySpot s .key)
-before-is x s f g = before-keys x s f g ∙ not-leb (toKeySpot s .key) (toKeySpot x .key)
-
-higher-is : (x s : PlainSpot) → SpotFits x → SpotFits s → rankHigher x s ≡ ltb (rk (toKeySpot s)) (rk (toKeySpot x))
-unfolding rankHigher
-higher-is x s f g = model-ranks (s .place) (s .rank) (x .place) (x .rank) (g .place) (g .rank) (f .place) (f .rank)
 
 -- place order
 abbrev pub Lower : Spot → Spot → Type 0

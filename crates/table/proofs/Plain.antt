@@ -101,17 +101,20 @@ step-in b s x ins xs c l e k =
     cond-not c (toKeySpot x ∷ l) (toKeySpot s ∷ toKeySpot x ∷ keyed xs)
 
 -- place order is the order of keys
-pub before-keys : (x s : PlainSpot) → SpotFits x → SpotFits s → placeBefore x s ≡ not (leb (toKeySpot s .key) (toKeySpot x .key))
+pub before-is : (x s : PlainSpot) → SpotFits x → SpotFits s → placeBefore x s ≡ ltb (toKeySpot x .key) (toKeySpot s .key)
 unfolding placeBefore
-before-keys x s f g =
-    model-places (x .place) (x .rank) (s .place) (s .rank) (f .place) (f .rank) (g .place) (g .rank) ∙ sym (not-leb (toKeySpot s .key) (toKeySpot x .key))
+before-is x s f g = model-places (x .place) (x .rank) (s .place) (s .rank) (f .place) (f .rank) (g .place) (g .rank)
+
+before-keys : (x s : PlainSpot) → SpotFits x → SpotFits s → placeBefore x s ≡ not (leb (toKeySpot s .key) (toKeySpot x .key))
+before-keys x s f g = before-is x s f g ∙ sym (not-leb (toKeySpot s .key) (toKeySpot x .key))
 
 -- rank order is the order of rank keys
-higher-keys : (x s : PlainSpot) → SpotFits x → SpotFits s → rankHigher x s ≡ not (leb (rankKey (toKeySpot x .key)) (rankKey (toKeySpot s .key)))
+pub higher-is : (x s : PlainSpot) → SpotFits x → SpotFits s → rankHigher x s ≡ ltb (rankKey (toKeySpot s .key)) (rankKey (toKeySpot x .key))
 unfolding rankHigher
-higher-keys x s f g =
-    model-ranks (s .place) (s .rank) (x .place) (x .rank) (g .place) (g .rank) (f .place) (f .rank) ∙
-    sym (not-leb (rankKey (toKeySpot x .key)) (rankKey (toKeySpot s .key)))
+higher-is x s f g = model-ranks (s .place) (s .rank) (x .place) (x .rank) (g .place) (g .rank) (f .place) (f .rank)
+
+higher-keys : (x s : PlainSpot) → SpotFits x → SpotFits s → rankHigher x s ≡ not (leb (rankKey (toKeySpot x .key)) (rankKey (toKeySpot s .key)))
+higher-keys x s f g = higher-is x s f g ∙ sym (not-leb (rankKey (toKeySpot x .key)) (rankKey (toKeySpot s .key)))
 
 keyed-put : (s : PlainSpot) (xs : List PlainSpot) → SpotFits s → AllFit xs → keyed (insertBy placeBefore s xs) ≡ put (toKeySpot s) (keyed xs)
 keyed-put s [] f h = refl

@@ -12,16 +12,12 @@ use borrow.Author.Tests.{leb-true, ltb-true, ltb-false, eqb-false, le-leb, lt-lt
 use lib.IntN.{ℤ}
 use Rattle.octets.specs.Lists.{every, keep}
 use Rattle.octets.proofs.Tests.{and-left, and-right, and-both, every-mem, every-make, keep-in, keep-length, neither}
-use Rattle.octets.proofs.Order.{less-or-not, not-leb}
+use Rattle.octets.proofs.Order.{less-or-not}
 use Rattle.spot.specs.Keys.{key, signed32, unsigned32}
 use Rattle.table.specs.Calls.{Call, format, add, withdraw, report, top, count, check, rebuild, kind, Lengths, argumentsFit}
 use Rattle.table.specs.Model.{PlainSpot, hasIdentity, placeBefore, ofReport, chosen, insertBy, listed, takenOut, broughtIn, highest, Plain, Reply, refuse, accept, badTable, badLent, full, handOut, ownReply, reply}
-use Rattle.table.proofs.Plain.{toKeySpot, SpotFits, AllFit, before-keys, identity-key, out-fit, two-fit}
-
--- each spot comes before all that follow it
-abbrev pub InOrder : List PlainSpot → Type 0
-InOrder [] = Unit {0}
-InOrder (s ∷ ss) = (every (placeBefore s) ss ≡ true) × InOrder ss
+use Rattle.table.specs.Demands.{InOrder}
+use Rattle.table.proofs.Plain.{toKeySpot, SpotFits, AllFit, before-is, identity-key, out-fit, two-fit}
 
 -- no identity stands twice
 abbrev pub IdentityOnce : List PlainSpot → Type 0
@@ -29,9 +25,6 @@ IdentityOnce [] = Unit {0}
 IdentityOnce (s ∷ ss) = (listed (s .place) (s .rank) ss ≡ false) × IdentityOnce ss
 
 -- ---- place order on spots that fit
-
-before-is : (x s : PlainSpot) → SpotFits x → SpotFits s → placeBefore x s ≡ ltb (toKeySpot x .key) (toKeySpot s .key)
-before-is x s f g = before-keys x s f g ∙ not-leb (toKeySpot s .key) (toKeySpot x .key)
 
 before-trans : (x y z : PlainSpot) → SpotFits x → SpotFits y → SpotFits z → placeBefore x y ≡ true → placeBefore y z ≡ true → placeBefore x z ≡ true
 before-trans x y z f g h a b =
@@ -76,11 +69,11 @@ chosen-keep f (s ∷ ss) = ap (λ (l : List PlainSpot). cond (f s) (s ∷ l) l) 
 every-chosen : (g f : PlainSpot → Bool) (ss : List PlainSpot) → every g ss ≡ true → every g (chosen f ss) ≡ true
 every-chosen g f ss h = rw (chosen-keep f ss) (every-make g (keep f ss) (λ x i. every-mem g ss h (keep-in f ss i)))
 
-order-chosen : (f : PlainSpot → Bool) (ss : List PlainSpot) → InOrder ss → InOrder (chosen f ss)
+order-chosen : (f : PlainSpot → Bool) (ss : List PlainSpot) → InOrder placeBefore ss → InOrder placeBefore (chosen f ss)
 order-chosen f [] h = tt
 order-chosen f (s ∷ ss) h = go (f s) (order-chosen f ss (h .1))
   where
-    go : (b : Bool) → InOrder (chosen f ss) → InOrder (cond b (s ∷ chosen f ss) (chosen f ss))
+    go : (b : Bool) → InOrder placeBefore (chosen f ss) → InOrder placeBefore (cond b (s ∷ chosen f ss) (chosen f ss))
     go true ih = (every-chosen (placeBefore s) f ss (h .0), ih)
     go false ih = ih
 
@@ -100,15 +93,15 @@ every-after s x (y ∷ ys) f g h p q =
     (before-trans s x y f g (h .0) p (and-left (placeBefore x y) (every (placeBefore x) ys) q))
     (every-after s x ys f g (h .1) p (and-right (placeBefore x y) (every (placeBefore x) ys) q))
 
-order-insert : (s : PlainSpot) (xs : List PlainSpot) → SpotFits s → AllFit xs → listed (s .place) (s .rank) xs ≡ false → InOrder xs
-    → InOrder (insertBy placeBefore s xs)
+order-insert : (s : PlainSpot) (xs : List PlainSpot) → SpotFits s → AllFit xs → listed (s .place) (s .rank) xs ≡ false → InOrder placeBefore xs
+    → InOrder placeBefore (insertBy placeBefore s xs)
 order-insert s [] f h n o = (refl, tt)
 order-insert s (x ∷ xs) f h n o = go (placeBefore x s) refl (order-insert s xs f (h .1) (away .1) (o .1))
   where
     away : (hasIdentity (s .place) (s .rank) x ≡ false) × (listed (s .place) (s .rank) xs ≡ false)
     away = neither (hasIdentity (s .place) (s .rank) x) (listed (s .place) (s .rank) xs) n
 
-    go : (b : Bool) → placeBefore x s ≡ b → InOrder (insertBy placeBefore s xs) → InOrder (cond b (x ∷ insertBy placeBefore s xs) (s ∷ x ∷ xs))
+    go : (b : Bool) → placeBefore x s ≡ b → InOrder placeBefore (insertBy placeBefore s xs) → InOrder placeBefore (cond b (x ∷ insertBy placeBefore s xs) (s ∷ x ∷ xs))
     go true e ih = (every-insert (placeBefore x) placeBefore s xs e (o .0), ih)
     go false e ih =
         let p = before-total s x f (h .0) e (away .0) in
@@ -126,7 +119,7 @@ listed-out place rank (s ∷ ss) = go (hasIdentity place rank s) refl (listed-ou
     go false e ih = or-none (hasIdentity place rank s) (listed place rank (takenOut place rank ss)) e ih
 
 -- place order leaves no identity twice
-pub order-once : (ss : List PlainSpot) → AllFit ss → InOrder ss → IdentityOnce ss
+pub order-once : (ss : List PlainSpot) → AllFit ss → InOrder placeBefore ss → IdentityOnce ss
 order-once [] h o = tt
 order-once (s ∷ ss) h o = (none-after ss (h .1) (o .0), order-once ss (h .1) (o .1))
   where
@@ -167,10 +160,10 @@ module _ (P : List PlainSpot → Type 0) (l : Lengths) (ps : Plain) (kept : P (p
     stays c a = refused-or (badTable (l .table)) 1 0 _ (λ z. refused-or (badLent l (kind c)) 2 0 _ (λ y. after-call c a))
 
 -- "It holds spots, no identity twice": every call keeps the list in place order
-pub stays-in-order : (l : Lengths) (c : Call) (ps : Plain) → argumentsFit c ≡ true → AllFit (ps .spots) → InOrder (ps .spots) → InOrder (reply l c ps .next .spots)
+pub stays-in-order : (l : Lengths) (c : Call) (ps : Plain) → argumentsFit c ≡ true → AllFit (ps .spots) → InOrder placeBefore (ps .spots) → InOrder placeBefore (reply l c ps .next .spots)
 unfolding argumentsFit takenOut broughtIn
 stays-in-order l c ps a h o =
-    stays InOrder l ps o tt
+    stays (InOrder placeBefore) l ps o tt
     (λ place rank track b n.
     let f = two-fit place rank (and-left (signed32 place && signed32 rank) (unsigned32 track) b) in
     order-insert (record { place = place; rank = rank; track = track }) (takenOut place rank (ps .spots)) (record { place = f .0; rank = f .1 })
