@@ -2,7 +2,7 @@
 -- Assumes nothing.
 use mathlib.Core.Path.{_≡_, refl, ap, sym, subst, _∙_}
 use mathlib.Core.Bool.{Bool, true, false, cond, not, true≢false, false≢true}
-use mathlib.Core.List.{List, [], _++_}
+use mathlib.Core.List.{List, _++_}
 use Prim.Native.Nat.{ℕ, zero, suc, _*_, _/_, _≤_, _<_}
 use native.Mathlib.Omega.{arith}
 use lib.ListN.{length, take, drop}
@@ -22,7 +22,7 @@ use Rattle.tree.specs.Walk.{Walk, broken, walked, isBroken, spots, blocksRead, 
 use Rattle.tree.specs.ReadMap.{readMap}
 use Rattle.tree.specs.Sound.{sound}
 use Rattle.table.specs.Calls.{Call, format, report, count, check, kind, Lengths}
-use Rattle.table.specs.Answers.{lengths, lent, lengthNumber, unlessRefused, spotsAnswer, outputLeft, mapLeft}
+use Rattle.table.specs.Answers.{ofTable, withOutput, lent, lengthNumber, unlessRefused, spotsAnswer, outputLeft, mapLeft}
 use Rattle.table.specs.Queries.{walkAnswer, QueryPost, ReportPost, countAnswer, CountPost, CheckPost}
 use Rattle.table.specs.Updates.{FormatPost}
 
@@ -44,13 +44,13 @@ pub formats : (t t′ : List ℕ) (r : Answer) → r ≡ cond (tableSized (lengt
     → FormatPost t r t′
 formats t t′ r a w = record { answered = a ∙ go (tableSized (length t)) refl; written = w }
   where
-    go : (b : Bool) → tableSized (length t) ≡ b → cond b (answer 0 0) (answer 1 0) ≡ unlessRefused (lengthNumber (lengths t [] [] []) format) (answer 0 0)
-    go true e = sym (long-enough (lengths t [] [] []) format (answer 0 0) e refl)
-    go false e = sym (short-table (lengths t [] [] []) format (answer 0 0) e)
+    go : (b : Bool) → tableSized (length t) ≡ b → cond b (answer 0 0) (answer 1 0) ≡ unlessRefused (lengthNumber (ofTable t) format) (answer 0 0)
+    go true e = sym (long-enough (ofTable t) format (answer 0 0) e refl)
+    go false e = sym (short-table (ofTable t) format (answer 0 0) e)
 
 -- Count
 pub count-short : (t : List ℕ) (r : Answer) → tableSized (length t) ≡ false → r ≡ answer 1 0 → CountPost t r
-count-short t r e a = record { answered = a ∙ sym (short-table (lengths t [] [] []) count _ e) }
+count-short t r e a = record { answered = a ∙ sym (short-table (ofTable t) count _ e) }
 
 broken-count : (w : Walk) → isBroken w ≡ true → answer 3 0 ≡ countAnswer w
 unfolding countAnswer
@@ -63,18 +63,18 @@ whole-count broken h = absurd (true≢false h)
 whole-count (walked found blocks) h = refl
 
 pub count-broken : (t : List ℕ) (r : Answer) → tableSized (length t) ≡ true → isBroken (walkTable t everything) ≡ true → r ≡ answer 3 0 → CountPost t r
-count-broken t r e b a = record { answered = a ∙ broken-count (walkTable t everything) b ∙ sym (long-enough (lengths t [] [] []) count _ e refl) }
+count-broken t r e b a = record { answered = a ∙ broken-count (walkTable t everything) b ∙ sym (long-enough (ofTable t) count _ e refl) }
 
 pub count-whole : (t : List ℕ) (r : Answer) → tableSized (length t) ≡ true → isBroken (walkTable t everything) ≡ false → r ≡ answer 0 (length (spots (walkTable t everything)))
     → CountPost t r
-count-whole t r e b a = record { answered = a ∙ whole-count (walkTable t everything) b ∙ sym (long-enough (lengths t [] [] []) count _ e refl) }
+count-whole t r e b a = record { answered = a ∙ whole-count (walkTable t everything) b ∙ sym (long-enough (ofTable t) count _ e refl) }
 
 -- Check
 pub check-short : (t : List ℕ) (r : Answer) → tableSized (length t) ≡ false → r ≡ answer 1 0 → CheckPost t r
-check-short t r e a = record { answered = a ∙ sym (short-table (lengths t [] [] []) check _ e) }
+check-short t r e a = record { answered = a ∙ sym (short-table (ofTable t) check _ e) }
 
 pub check-says : (t : List ℕ) (r : Answer) (b : Bool) → tableSized (length t) ≡ true → sound t ≡ b → r ≡ answer 0 (cond b 1 0) → CheckPost t r
-check-says t r b e s a = record { answered = a ∙ ap (λ (x : Bool). answer 0 (cond x 1 0)) (sym s) ∙ sym (long-enough (lengths t [] [] []) check _ e refl) }
+check-says t r b e s a = record { answered = a ∙ ap (λ (x : Bool). answer 0 (cond x 1 0)) (sym s) ∙ sym (long-enough (ofTable t) check _ e refl) }
 
 -- a call that hands out spots, refused: what it was lent is as it was
 module _ (c : Call) (w : Walk) (t out map : List ℕ) where
@@ -89,7 +89,7 @@ module _ (c : Call) (w : Walk) (t out map : List ℕ) where
   left-map (suc n) h = refl
 
   pub refused-by : (r : Answer) (n d : ℕ) → 0 < n → r ≡ answer n d
-      → answer n d ≡ unlessRefused (lengthNumber (lengths t out map []) c) (walkAnswer (length out) w)
+      → answer n d ≡ unlessRefused (lengthNumber (withOutput t out map) c) (walkAnswer (length out) w)
       → QueryPost c w t out map r out map
   refused-by r n d h a e =
       record {
@@ -99,12 +99,12 @@ module _ (c : Call) (w : Walk) (t out map : List ℕ) where
       }
 
   pub query-short : (r : Answer) → tableSized (length t) ≡ false → r ≡ answer 1 0 → QueryPost c w t out map r out map
-  query-short r e a = refused-by r 1 0 (omega arith) a (sym (short-table (lengths t out map []) c _ e))
+  query-short r e a = refused-by r 1 0 (omega arith) a (sym (short-table (withOutput t out map) c _ e))
 
-  pub query-lent : (r : Answer) → tableSized (length t) ≡ true → lent (lengths t out map []) (kind c) ≡ false → r ≡ answer 2 0 → QueryPost c w t out map r out map
-  query-lent r e f a = refused-by r 2 0 (omega arith) a (sym (short-lent (lengths t out map []) c _ e f))
+  pub query-lent : (r : Answer) → tableSized (length t) ≡ true → lent (withOutput t out map) (kind c) ≡ false → r ≡ answer 2 0 → QueryPost c w t out map r out map
+  query-lent r e f a = refused-by r 2 0 (omega arith) a (sym (short-lent (withOutput t out map) c _ e f))
 
-  module _ (e : tableSized (length t) ≡ true) (f : lent (lengths t out map []) (kind c) ≡ true) where
+  module _ (e : tableSized (length t) ≡ true) (f : lent (withOutput t out map) (kind c) ≡ true) where
     broken-answer : (v : Walk) → isBroken v ≡ true → answer 3 0 ≡ walkAnswer (length out) v
     unfolding walkAnswer
     broken-answer broken h = refl
@@ -116,13 +116,13 @@ module _ (c : Call) (w : Walk) (t out map : List ℕ) where
     whole-answer (walked found blocks) h = refl
 
     pub query-broken : (r : Answer) → isBroken w ≡ true → r ≡ answer 3 0 → QueryPost c w t out map r out map
-    query-broken r b a = refused-by r 3 0 (omega arith) a (broken-answer w b ∙ sym (long-enough (lengths t out map []) c _ e f))
+    query-broken r b a = refused-by r 3 0 (omega arith) a (broken-answer w b ∙ sym (long-enough (withOutput t out map) c _ e f))
 
     pub query-many : (r : Answer) → isBroken w ≡ false → length out / 12 < length (spots w) → r ≡ answer 5 (length (spots w)) → QueryPost c w t out map r out map
     unfolding spotsAnswer
     query-many r b h a =
         refused-by r 5 (length (spots w)) (omega arith) a
-        (rw (lt-ltb (length out / 12) (length (spots w)) h) at (whole-answer w b) ∙ sym (long-enough (lengths t out map []) c _ e f))
+        (rw (lt-ltb (length out / 12) (length (spots w)) h) at (whole-answer w b) ∙ sym (long-enough (withOutput t out map) c _ e f))
 
     -- accepted: the spots, and the map of the blocks read
     pub query-given : (r : Answer) (out′ map′ : List ℕ) → isBroken w ≡ false → length (spots w) ≤ length out / 12 → r ≡ answer 0 (length (spots w))
@@ -132,7 +132,7 @@ module _ (c : Call) (w : Walk) (t out map : List ℕ) where
     unfolding spotsAnswer outputLeft mapLeft
     query-given r out′ map′ b h a o m =
         record {
-          answered = a ∙ rw (le-ltb (length out / 12) (length (spots w)) h) at (whole-answer w b) ∙ sym (long-enough (lengths t out map []) c _ e f);
+          answered = a ∙ rw (le-ltb (length out / 12) (length (spots w)) h) at (whole-answer w b) ∙ sym (long-enough (withOutput t out map) c _ e f);
           output = o ∙ ap (λ (x : Answer). outputLeft (x .number) (spots w) out) (sym a);
           marks = m ∙ ap (λ (x : Answer). mapLeft (x .number) (blocksRead w) map) (sym a);
         }

@@ -22,7 +22,7 @@ use Rattle.revise.specs.Numbers.{addNumber}
 use Rattle.revise.specs.Revising.{Lent, Revised}
 use Rattle.revise.proofs.Calls.{two-ways, header-breaks}
 use Rattle.table.specs.Calls.{Call, add, withdraw, kind}
-use Rattle.table.specs.Answers.{lengths, lent, lengthNumber, outcomes}
+use Rattle.table.specs.Answers.{withScratch, lent, lengthNumber, outcomes}
 use Rattle.table.specs.Updates.{scratchLeft, UpdatePost, ChangePost, AddPost, WithdrawPost}
 
 -- ---- any call that changes the table
@@ -34,18 +34,18 @@ pub detail-is : {r : Answer} {n : ℕ} → r ≡ answer n 0 → r .detail ≡ 0
 detail-is a = ap (λ (x : Answer). x .detail) a
 
 module _ (c : Call) (t w : List ℕ) (e : tableSized (length t) ≡ false) where
-  pub number-short : lengthNumber (lengths t [] [] w) c ≡ 1
+  pub number-short : lengthNumber (withScratch t w) c ≡ 1
   unfolding lengthNumber
   number-short = rw e
 
 module _ (c : Call) (t w : List ℕ) (e : tableSized (length t) ≡ true) where
-  pub number-lent : lent (lengths t [] [] w) (kind c) ≡ false → lengthNumber (lengths t [] [] w) c ≡ 2
+  pub number-lent : lent (withScratch t w) (kind c) ≡ false → lengthNumber (withScratch t w) c ≡ 2
   unfolding lengthNumber
   number-lent h = rw (e, h)
 
 module _ (c : Call) (due : Answer) (after : ℕ → Option ℕ) (t w : List ℕ) (r : Answer) where
   -- refused by the lengths: everything is as it was
-  pub update-refused : (n : ℕ) → n ≢ 0 → lengthNumber (lengths t [] [] w) c ≡ n → scratchLeft (length t) n w ≡ w → r ≡ answer n 0 → UpdatePost c due after t w r t w
+  pub update-refused : (n : ℕ) → n ≢ 0 → lengthNumber (withScratch t w) c ≡ n → scratchLeft (length t) n w ≡ w → r ≡ answer n 0 → UpdatePost c due after t w r t w
   update-refused n nonzero l left a =
       record {
         detail = λ h. detail-is a;
@@ -65,11 +65,11 @@ module _ (c : Call) (due : Answer) (after : ℕ → Option ℕ) (t w : List ℕ)
   update-short e a = update-refused 1 (λ h. omega arith) (number-short c t w e) refl a
 
   -- the scratch is too short
-  pub update-lent : tableSized (length t) ≡ true → lent (lengths t [] [] w) (kind c) ≡ false → r ≡ answer 2 0 → UpdatePost c due after t w r t w
+  pub update-lent : tableSized (length t) ≡ true → lent (withScratch t w) (kind c) ≡ false → r ≡ answer 2 0 → UpdatePost c due after t w r t w
   unfolding scratchLeft
   update-lent e h a = update-refused 2 (λ x. omega arith) (number-lent c t w e h) refl a
 
-  change-refused : (j n : ℕ) → n ≢ 0 → n ≢ 4 → lengthNumber (lengths t [] [] w) c ≡ n → r ≡ answer n 0 → UpdatePost c due after t w r t w
+  change-refused : (j n : ℕ) → n ≢ 0 → n ≢ 4 → lengthNumber (withScratch t w) c ≡ n → r ≡ answer n 0 → UpdatePost c due after t w r t w
       → ChangePost c j due after t w r t w
   change-refused j n nonzero spare l a u =
       record {
@@ -84,12 +84,12 @@ module _ (c : Call) (due : Answer) (after : ℕ → Option ℕ) (t w : List ℕ)
   pub change-short : (j : ℕ) → tableSized (length t) ≡ false → r ≡ answer 1 0 → ChangePost c j due after t w r t w
   change-short j e a = change-refused j 1 (λ x. omega arith) (λ x. omega arith) (number-short c t w e) a (update-short e a)
 
-  pub change-lent : (j : ℕ) → tableSized (length t) ≡ true → lent (lengths t [] [] w) (kind c) ≡ false → r ≡ answer 2 0 → ChangePost c j due after t w r t w
+  pub change-lent : (j : ℕ) → tableSized (length t) ≡ true → lent (withScratch t w) (kind c) ≡ false → r ≡ answer 2 0 → ChangePost c j due after t w r t w
   change-lent j e h a = change-refused j 2 (λ x. omega arith) (λ x. omega arith) (number-lent c t w e h) a (update-lent e h a)
 
   -- the lengths are right
-  module _ {t′ w₁ : List ℕ} {j n : ℕ} (l : Lent t w) (asks : lent (lengths t [] [] w) (kind c) ≡ leb (length t) (length w)) (plain : due .detail ≡ 0) (g : Revised t t′ w w₁ j (due .number) (outcomes c) after n) (a : r ≡ answer n 0) where
-    fine : lengthNumber (lengths t [] [] w) c ≡ 0
+  module _ {t′ w₁ : List ℕ} {j n : ℕ} (l : Lent t w) (asks : lent (withScratch t w) (kind c) ≡ leb (length t) (length w)) (plain : due .detail ≡ 0) (g : Revised t t′ w w₁ j (due .number) (outcomes c) after n) (a : r ≡ answer n 0) where
+    fine : lengthNumber (withScratch t w) c ≡ 0
     unfolding lengthNumber
     fine = rw (l .sized, asks, le-leb (length t) (length w) (l .room))
 

@@ -26,11 +26,11 @@ use Rattle.tree.proofs.Fresh.{fresh-sized}
 use Rattle.tree.proofs.Marks.{zero-marked}
 use Rattle.tree.proofs.Sources.{walk-sources, read-in-table, read-marked}
 use Rattle.table.specs.Calls.{Call, format, add, withdraw, report, top, count, check, rebuild, kind, isQuery, Lengths}
-use Rattle.table.specs.Answers.{lengths, lent, lengthNumber, unlessRefused, spotsAnswer, outputLeft, mapLeft, outcomes}
+use Rattle.table.specs.Answers.{ofTable, withScratch, withOutput, lent, lengthNumber, unlessRefused, spotsAnswer, outputLeft, mapLeft, outcomes}
 use Rattle.table.specs.Queries.{walkAnswer, countAnswer, ReportPost, TopPost, HandsOut}
 use Rattle.table.specs.Updates.{UpdatePost}
 use Rattle.table.specs.History.{Event, MetBy}
-use Rattle.table.specs.Demands.{refusals, TurnedDown, OnlyMarked, AnyBytes, Demand1}
+use Rattle.table.specs.Demands.{refusals, TurnedDown, OnlyMarked, Demand1}
 use Rattle.table.proofs.Histories.{map-accepted}
 
 -- ---- the numbers
@@ -95,9 +95,9 @@ module _ (c : Call) (due : Answer) (after : ℕ → Option ℕ) (t : List ℕ) (
       ⊎-elim (λ l. of-five (e .answer .number) (outcomes c) h (p .numbers l) z)
       (λ l.
       of-five (e .answer .number) (0 ∷ 1 ∷ 2 ∷ []) refl
-      (ap (λ (r : Answer). has (r .number) (0 ∷ 1 ∷ 2 ∷ [])) (p .refusals l) ∙ by-lengths (lengths t [] [] (e .scratch)) c)
+      (ap (λ (r : Answer). has (r .number) (0 ∷ 1 ∷ 2 ∷ [])) (p .refusals l) ∙ by-lengths (withScratch t (e .scratch)) c)
       z)
-      (same-or-not (lengthNumber (lengths t [] [] (e .scratch)) c) 0)
+      (same-or-not (lengthNumber (withScratch t (e .scratch)) c) 0)
 
   update-down : every (λ m. eqb m 0 || has m refusals) (outcomes c) ≡ true → isQuery c ≡ false → e .answer .detail ≡ 0 → (e .answer .number ≡ 0 → ⊥) → TurnedDown c t e
   update-down h q d z =
@@ -126,7 +126,7 @@ still-down c t e r same q z =
 module _ (x1 x2 y : ℤ) (t : List ℕ) (e : Event) (same : e .table′ ≡ t) (p : ReportPost x1 x2 y t (e .output) (e .readMap) (e .answer) (e .output′) (e .readMap′)) where
   report-refusal : Refusal (e .answer)
   report-refusal =
-      subst Refusal (sym (p .answered)) (refusal-lengths _ _ (by-lengths (lengths t (e .output) (e .readMap) []) (report x1 x2 y)) (refusal-walk (length (e .output)) (walkTable t (query x1 x2 y))))
+      subst Refusal (sym (p .answered)) (refusal-lengths _ _ (by-lengths (withOutput t (e .output) (e .readMap)) (report x1 x2 y)) (refusal-walk (length (e .output)) (walkTable t (query x1 x2 y))))
 
   report-down : (e .answer .number ≡ 0 → ⊥) → TurnedDown (report x1 x2 y) t e
   unfolding outputLeft mapLeft
@@ -177,14 +177,14 @@ module _ (x1 x2 : ℤ) (k : ℕ) (t : List ℕ) (e : Event) (same : e .table′ 
       ⊎-elim (λ l. of-five (e .answer .number) (0 ∷ 3 ∷ 5 ∷ []) refl (p .refusals l) z)
       (λ l.
       of-five (e .answer .number) (0 ∷ 1 ∷ 2 ∷ []) refl
-      (ap (λ (r : Answer). has (r .number) (0 ∷ 1 ∷ 2 ∷ [])) (p .byLengths l) ∙ by-lengths (lengths t (e .output) (e .readMap) []) (top x1 x2 k))
+      (ap (λ (r : Answer). has (r .number) (0 ∷ 1 ∷ 2 ∷ [])) (p .byLengths l) ∙ by-lengths (withOutput t (e .output) (e .readMap)) (top x1 x2 k))
       z)
-      (same-or-not (lengthNumber (lengths t (e .output) (e .readMap) []) (top x1 x2 k)) 0)
+      (same-or-not (lengthNumber (withOutput t (e .output) (e .readMap)) (top x1 x2 k)) 0)
 
   top-detail : (e .answer .number ≡ 0 → ⊥) → (e .answer .number ≡ 5 → ⊥) → e .answer .detail ≡ 0
   top-detail z y =
       ⊎-elim (λ l. p .ruleBroken (three (e .answer .number) (p .refusals l) z y)) (λ l. ap (λ (r : Answer). r .detail) (p .byLengths l))
-      (same-or-not (lengthNumber (lengths t (e .output) (e .readMap) []) (top x1 x2 k)) 0)
+      (same-or-not (lengthNumber (withOutput t (e .output) (e .readMap)) (top x1 x2 k)) 0)
     where
       three : (n : ℕ) → has n (0 ∷ 3 ∷ 5 ∷ []) ≡ true → (n ≡ 0 → ⊥) → (n ≡ 5 → ⊥) → n ≡ 3
       three n h z y = eqb-true n 3 (or-right (eqb n 3) (eqb n 5 || false) (or-left (eqb n 0) (eqb n 3 || (eqb n 5 || false)) h (ne-eqb n 0 z)) (rw (ne-eqb n 5 y)))
@@ -220,7 +220,7 @@ format-down t e p z = go (tableSized (length t)) (p .promised .answered) (p .pro
 -- turned down, each call changes nothing; and the table is as long as it was
 ends : (c : Call) (t : List ℕ) (e : Event) → MetBy c t e → ((e .answer .number ≡ 0 → ⊥) → TurnedDown c t e) × (length (e .table′) ≡ length t)
 ends format t e p =
-    let r = subst Refusal (sym (p .promised .answered)) (refusal-lengths _ (answer 0 0) (by-lengths (lengths t [] [] []) format) (refusal-zero 0)) in (
+    let r = subst Refusal (sym (p .promised .answered)) (refusal-lengths _ (answer 0 0) (by-lengths (ofTable t) format) (refusal-zero 0)) in (
       λ z. record {
         number = r .number z;
         detail = r .detail z;
@@ -235,11 +235,11 @@ ends (withdraw place rank) t e p = (update-down (withdraw place rank) _ _ t e (p
 ends (report x1 x2 y) t e p = (report-down x1 x2 y t e (p .unchanged refl) (p .promised), ap length (p .unchanged refl))
 ends (top x1 x2 k) t e p = (top-down x1 x2 k t e (p .unchanged refl) (p .promised), ap length (p .unchanged refl))
 ends count t e p = (
-  still-down count t e (subst Refusal (sym (p .promised .answered)) (refusal-lengths _ _ (by-lengths (lengths t [] [] []) count) (refusal-count _))) (p .unchanged refl) refl,
+  still-down count t e (subst Refusal (sym (p .promised .answered)) (refusal-lengths _ _ (by-lengths (ofTable t) count) (refusal-count _))) (p .unchanged refl) refl,
   ap length (p .unchanged refl),
 )
 ends check t e p = (
-  still-down check t e (subst Refusal (sym (p .promised .answered)) (refusal-lengths _ _ (by-lengths (lengths t [] [] []) check) (refusal-zero _))) (p .unchanged refl) refl,
+  still-down check t e (subst Refusal (sym (p .promised .answered)) (refusal-lengths _ _ (by-lengths (ofTable t) check) (refusal-zero _))) (p .unchanged refl) refl,
   ap length (p .unchanged refl),
 )
 ends rebuild t e p = (update-down rebuild _ _ t e (p .promised .update) refl refl (p .promised .detail), p .promised .update .sized)

@@ -3,7 +3,7 @@
 use mathlib.Core.Path.{_≡_, refl, ap, sym, _∙_}
 use mathlib.Core.Logic.{_≢_}
 use mathlib.Core.Bool.{Bool, true, false, cond, true≢false}
-use mathlib.Core.List.{List, [], _++_}
+use mathlib.Core.List.{List, _++_}
 use Prim.Native.Nat.{ℕ, _≤_, _<_}
 use native.Mathlib.Omega.{arith}
 use lib.ListN.{length, drop, replicate}
@@ -18,7 +18,7 @@ use Rattle.tree.specs.Walk.{walkTable, liveSpots}
 use Rattle.tree.specs.Sound.{sound}
 use Rattle.rebuild.proofs.Rebuilt.{rebuilt-sound, rebuilt-spots, rebuilt-settled, rebuild-live}
 use Rattle.table.specs.Calls.{rebuild, updates}
-use Rattle.table.specs.Answers.{lengths, lent, lengthNumber, outcomes}
+use Rattle.table.specs.Answers.{withScratch, lent, lengthNumber, outcomes}
 use Rattle.table.specs.Updates.{scratchLeft, UpdatePost, RebuildPost}
 use Rattle.table.proofs.Changes.{number-is, detail-is, number-short, number-lent, update-short, update-lent}
 use Rattle.renew.specs.Layable.{layable}
@@ -28,7 +28,7 @@ use Rattle.renew.proofs.Renewing.{renewed-whole}
 use Rattle.revise.proofs.Counts.{live-are}
 
 abbrev asked : List ℕ → List ℕ → ℕ
-asked t w = lengthNumber (lengths t [] [] w) rebuild
+asked t w = lengthNumber (withScratch t w) rebuild
 
 module _ (t w : List ℕ) (r : Answer) where
   -- refused by the lengths
@@ -48,7 +48,7 @@ module _ (t w : List ℕ) (r : Answer) where
 
   pub rebuild-lent : tableSized (length t) ≡ true → length w < length t → r ≡ answer 2 0 → RebuildPost t w r t w
   rebuild-lent e h a =
-      let short : lent (lengths t [] [] w) updates ≡ false = lt-leb (length t) (length w) h in
+      let short : lent (withScratch t w) updates ≡ false = lt-leb (length t) (length w) h in
       rebuild-refused 2 (λ x. omega arith) (number-lent rebuild t w e short) a (update-lent rebuild _ (live t) t w r e short a)
 
 -- the lengths are right: laid out anew, or a rule is broken, and then the scratch is cleared

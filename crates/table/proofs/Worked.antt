@@ -23,7 +23,7 @@ use Rattle.tree.specs.Walk.{Walk, spots}
 use Rattle.tree.specs.Sound.{sound}
 use Rattle.tree.proofs.Fresh.{fresh-sized, fresh-walk, fresh-sound, fresh-levels}
 use Rattle.table.specs.Calls.{Call, format, add, withdraw, report, top, count, check, rebuild, Lengths, argumentsFit}
-use Rattle.table.specs.Answers.{lengths, spotsAnswer, outputLeft}
+use Rattle.table.specs.Answers.{withOutput, spotsAnswer, outputLeft}
 use Rattle.table.specs.Queries.{walkAnswer, ReportPost}
 use Rattle.table.specs.Model.{Plain, begunEmpty, eqZ, hasIdentity, placeBefore, rankHigher, ofPlaces, ofReport, takenOut, broughtIn, highest, fourBytes, complement, Reply, outputAfter, refuse, accept, badTable, badLent, full, handOut, ownReply, reply}
 use Rattle.table.proofs.Answering.{long-enough}
@@ -206,7 +206,7 @@ unfolding outputLeft walkAnswer spotsAnswer
 report-none n z x1 x2 y out map r out′ map′ m p =
     let e : r ≡ answer 0 0 =
     p .answered ∙
-    long-enough (lengths (formatted n) out map []) (report x1 x2 y) _ (ap tableSized (fresh-sized n z) ∙ z) (eq-eqb (length map) 512 m) ∙
+    long-enough (withOutput (formatted n) out map) (report x1 x2 y) _ (ap tableSized (fresh-sized n z) ∙ z) (eq-eqb (length map) 512 m) ∙
     ap (walkAnswer (length out)) (fresh-walk n z (query x1 x2 y)) ∙
     ap (λ (b : Bool). answer (cond b 5 0) 0) (le-ltb (length out / 12) 0 (omega arith)) in
     (e, p .output ∙ ap₂ (λ (a : Answer) (w : Walk). outputLeft (a .number) (spots w) out) e (fresh-walk n z (query x1 x2 y)))

@@ -16,6 +16,16 @@ use Rattle.table.specs.Calls.{Call, format, add, withdraw, report, top, 
 abbrev pub lengths : List ℕ → List ℕ → List ℕ → List ℕ → Lengths
 lengths t out map scratch = record { table = length t; output = length out; readMap = length map; scratch = length scratch }
 
+-- of a call that is lent nothing beside the table, a work area, or an output and a read map
+abbrev pub ofTable : List ℕ → Lengths
+ofTable t = lengths t [] [] []
+
+abbrev pub withScratch : List ℕ → List ℕ → Lengths
+withScratch t w = lengths t [] [] w
+
+abbrev pub withOutput : List ℕ → List ℕ → List ℕ → Lengths
+withOutput t out map = lengths t out map []
+
 -- 2: "the read map isn't 512 bytes, or the work area is shorter than the table", for the calls that are lent them
 abbrev pub lent : Lengths → Kind → Bool
 lent l makes = true
