@@ -22,7 +22,7 @@ use Rattle.text.specs.Commands.{Parsed}
 use Rattle.text.specs.Written.{Wrote}
 use Rattle.text.proofs.Written.{wrote-within}
 use Rattle.table.specs.Calls.{Call}
-use Rattle.table.specs.Answers.{withOutput, unlessRefused, spotsAnswer, outputLeft, lengthNumber}
+use Rattle.table.specs.Answers.{withOutput, unlessRefused, spotsAnswer, outputLeft, earlyNumber}
 use Rattle.table.specs.Queries.{walkAnswer, QueryPost, ReportPost, TopPost}
 use Rattle.table.specs.Updates.{AddPost, WithdrawPost}
 use Rattle.commands.specs.Printed.{printed}
@@ -70,7 +70,7 @@ module _ (out out′ : List ℕ) (text : ℕ) (r : Answer) (p : Printable (lengt
       inside-shown
       (λ e. given-inside (spots w) out out′ (r .detail) (q .output ∙ ap (λ (n : ℕ). outputLeft n (spots w) out) e)
       (ap (λ (x : Answer). x .detail) (q .answered)
-      ∙ walk-detail (lengthNumber (withOutput t out map) c) (length out) w (sym (ap (λ (x : Answer). x .number) (q .answered)) ∙ e)))
+      ∙ walk-detail (earlyNumber (withOutput t out map) c) (length out) w (sym (ap (λ (x : Answer). x .number) (q .answered)) ∙ e)))
 
   pub top-shown : (x1 x2 : ℤ) (k : ℕ) (t map map′ : List ℕ) → TopPost x1 x2 k t out map r out′ map′ → Shown r (length out′) text
   top-shown x1 x2 k t map map′ q =

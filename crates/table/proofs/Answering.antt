@@ -22,21 +22,21 @@ use Rattle.tree.specs.Walk.{Walk, broken, walked, isBroken, spots, blocksRead, 
 use Rattle.tree.specs.ReadMap.{readMap}
 use Rattle.tree.specs.Sound.{sound}
 use Rattle.table.specs.Calls.{Call, format, report, count, check, kind, Lengths}
-use Rattle.table.specs.Answers.{ofTable, withOutput, lent, lengthNumber, unlessRefused, spotsAnswer, outputLeft, mapLeft}
+use Rattle.table.specs.Answers.{ofTable, withOutput, lent, earlyNumber, unlessRefused, spotsAnswer, outputLeft, mapLeft}
 use Rattle.table.specs.Queries.{walkAnswer, QueryPost, ReportPost, countAnswer, CountPost, CheckPost}
 use Rattle.table.specs.Updates.{FormatPost}
 
 -- refused by the lengths: 1, then 2; else the call's own answer
-pub short-table : (l : Lengths) (c : Call) (a : Answer) → tableSized (l .table) ≡ false → unlessRefused (lengthNumber l c) a ≡ answer 1 0
-unfolding lengthNumber unlessRefused
+pub short-table : (l : Lengths) (c : Call) (a : Answer) → tableSized (l .table) ≡ false → unlessRefused (earlyNumber l c) a ≡ answer 1 0
+unfolding earlyNumber unlessRefused
 short-table l c a e = rw e
 
-pub short-lent : (l : Lengths) (c : Call) (a : Answer) → tableSized (l .table) ≡ true → lent l (kind c) ≡ false → unlessRefused (lengthNumber l c) a ≡ answer 2 0
-unfolding lengthNumber unlessRefused
+pub short-lent : (l : Lengths) (c : Call) (a : Answer) → tableSized (l .table) ≡ true → lent l (kind c) ≡ false → unlessRefused (earlyNumber l c) a ≡ answer 2 0
+unfolding earlyNumber unlessRefused
 short-lent l c a e f = rw (e, f)
 
-pub long-enough : (l : Lengths) (c : Call) (a : Answer) → tableSized (l .table) ≡ true → lent l (kind c) ≡ true → unlessRefused (lengthNumber l c) a ≡ a
-unfolding lengthNumber unlessRefused
+pub long-enough : (l : Lengths) (c : Call) (a : Answer) → tableSized (l .table) ≡ true → lent l (kind c) ≡ true → unlessRefused (earlyNumber l c) a ≡ a
+unfolding earlyNumber unlessRefused
 long-enough l c a e f = rw (e, f)
 
 -- Format
@@ -44,7 +44,7 @@ pub formats : (t t′ : List ℕ) (r : Answer) → r ≡ cond (tableSized (lengt
     → FormatPost t r t′
 formats t t′ r a w = record { answered = a ∙ go (tableSized (length t)) refl; written = w }
   where
-    go : (b : Bool) → tableSized (length t) ≡ b → cond b (answer 0 0) (answer 1 0) ≡ unlessRefused (lengthNumber (ofTable t) format) (answer 0 0)
+    go : (b : Bool) → tableSized (length t) ≡ b → cond b (answer 0 0) (answer 1 0) ≡ unlessRefused (earlyNumber (ofTable t) format) (answer 0 0)
     go true e = sym (long-enough (ofTable t) format (answer 0 0) e refl)
     go false e = sym (short-table (ofTable t) format (answer 0 0) e)
 
@@ -89,7 +89,7 @@ module _ (c : Call) (w : Walk) (t out map : List ℕ) where
   left-map (suc n) h = refl
 
   pub refused-by : (r : Answer) (n d : ℕ) → 0 < n → r ≡ answer n d
-      → answer n d ≡ unlessRefused (lengthNumber (withOutput t out map) c) (walkAnswer (length out) w)
+      → answer n d ≡ unlessRefused (earlyNumber (withOutput t out map) c) (walkAnswer (length out) w)
       → QueryPost c w t out map r out map
   refused-by r n d h a e =
       record {

@@ -22,7 +22,7 @@ use Rattle.revise.specs.Numbers.{addNumber}
 use Rattle.revise.specs.Revising.{Lent, Revised}
 use Rattle.revise.proofs.Calls.{two-ways, header-breaks}
 use Rattle.table.specs.Calls.{Call, add, withdraw, kind}
-use Rattle.table.specs.Answers.{withScratch, lent, lengthNumber, outcomes}
+use Rattle.table.specs.Answers.{withScratch, lent, earlyNumber, outcomes}
 use Rattle.table.specs.Updates.{scratchLeft, UpdatePost, ChangePost, AddPost, WithdrawPost}
 
 -- ---- any call that changes the table
@@ -34,18 +34,18 @@ pub detail-is : {r : Answer} {n : ℕ} → r ≡ answer n 0 → r .detail ≡ 0
 detail-is a = ap (λ (x : Answer). x .detail) a
 
 module _ (c : Call) (t w : List ℕ) (e : tableSized (length t) ≡ false) where
-  pub number-short : lengthNumber (withScratch t w) c ≡ 1
-  unfolding lengthNumber
+  pub number-short : earlyNumber (withScratch t w) c ≡ 1
+  unfolding earlyNumber
   number-short = rw e
 
 module _ (c : Call) (t w : List ℕ) (e : tableSized (length t) ≡ true) where
-  pub number-lent : lent (withScratch t w) (kind c) ≡ false → lengthNumber (withScratch t w) c ≡ 2
-  unfolding lengthNumber
+  pub number-lent : lent (withScratch t w) (kind c) ≡ false → earlyNumber (withScratch t w) c ≡ 2
+  unfolding earlyNumber
   number-lent h = rw (e, h)
 
 module _ (c : Call) (due : Answer) (after : ℕ → Option ℕ) (t w : List ℕ) (r : Answer) where
   -- refused by the lengths: everything is as it was
-  pub update-refused : (n : ℕ) → n ≢ 0 → lengthNumber (withScratch t w) c ≡ n → scratchLeft (length t) n w ≡ w → r ≡ answer n 0 → UpdatePost c due after t w r t w
+  pub update-refused : (n : ℕ) → n ≢ 0 → earlyNumber (withScratch t w) c ≡ n → scratchLeft (length t) n w ≡ w → r ≡ answer n 0 → UpdatePost c due after t w r t w
   update-refused n nonzero l left a =
       record {
         detail = λ h. detail-is a;
@@ -69,7 +69,7 @@ module _ (c : Call) (due : Answer) (after : ℕ → Option ℕ) (t w : List ℕ)
   unfolding scratchLeft
   update-lent e h a = update-refused 2 (λ x. omega arith) (number-lent c t w e h) refl a
 
-  change-refused : (j n : ℕ) → n ≢ 0 → n ≢ 4 → lengthNumber (withScratch t w) c ≡ n → r ≡ answer n 0 → UpdatePost c due after t w r t w
+  change-refused : (j n : ℕ) → n ≢ 0 → n ≢ 4 → earlyNumber (withScratch t w) c ≡ n → r ≡ answer n 0 → UpdatePost c due after t w r t w
       → ChangePost c j due after t w r t w
   change-refused j n nonzero spare l a u =
       record {
@@ -89,8 +89,8 @@ module _ (c : Call) (due : Answer) (after : ℕ → Option ℕ) (t w : List ℕ)
 
   -- the lengths are right
   module _ {t′ w₁ : List ℕ} {j n : ℕ} (l : Lent t w) (asks : lent (withScratch t w) (kind c) ≡ leb (length t) (length w)) (plain : due .detail ≡ 0) (g : Revised t t′ w w₁ j (due .number) (outcomes c) after n) (a : r ≡ answer n 0) where
-    fine : lengthNumber (withScratch t w) c ≡ 0
-    unfolding lengthNumber
+    fine : earlyNumber (withScratch t w) c ≡ 0
+    unfolding earlyNumber
     fine = rw (l .sized, asks, le-leb (length t) (length w) (l .room))
 
     revised-post : {w′ : List ℕ} → w′ ≡ scratchLeft (length t) n w → ChangePost c j due after t w r t′ w′

@@ -26,7 +26,7 @@ use Rattle.tree.proofs.Fresh.{fresh-sized}
 use Rattle.tree.proofs.Marks.{zero-marked}
 use Rattle.tree.proofs.Sources.{walk-sources, read-in-table, read-marked}
 use Rattle.table.specs.Calls.{Call, format, add, withdraw, report, top, count, check, rebuild, kind, isQuery, Lengths}
-use Rattle.table.specs.Answers.{ofTable, withScratch, withOutput, lent, lengthNumber, unlessRefused, spotsAnswer, outputLeft, mapLeft, outcomes}
+use Rattle.table.specs.Answers.{ofTable, withScratch, withOutput, lent, earlyNumber, unlessRefused, spotsAnswer, outputLeft, mapLeft, outcomes}
 use Rattle.table.specs.Queries.{walkAnswer, countAnswer, ReportPost, TopPost, HandsOut}
 use Rattle.table.specs.Updates.{UpdatePost}
 use Rattle.table.specs.History.{Event, MetBy}
@@ -40,8 +40,8 @@ of-five : (n : ℕ) (xs : List ℕ) → every (λ m. eqb m 0 || has m refusals) 
 of-five n xs h i z = or-left (eqb n 0) (has n refusals) (every-mem (λ m. eqb m 0 || has m refusals) xs h (has-mem n xs i)) (ne-eqb n 0 z)
 
 -- 1 and 2, by the lengths
-by-lengths : (l : Lengths) (c : Call) → has (lengthNumber l c) (0 ∷ 1 ∷ 2 ∷ []) ≡ true
-unfolding lengthNumber
+by-lengths : (l : Lengths) (c : Call) → has (earlyNumber l c) (0 ∷ 1 ∷ 2 ∷ []) ≡ true
+unfolding earlyNumber
 by-lengths l c = go (tableSized (l .table)) (lent l (kind c))
   where
     go : (a b : Bool) → has (cond a (cond b 0 2) 1) (0 ∷ 1 ∷ 2 ∷ []) ≡ true
@@ -97,7 +97,7 @@ module _ (c : Call) (due : Answer) (after : ℕ → Option ℕ) (t : List ℕ) (
       of-five (e .answer .number) (0 ∷ 1 ∷ 2 ∷ []) refl
       (ap (λ (r : Answer). has (r .number) (0 ∷ 1 ∷ 2 ∷ [])) (p .refusals l) ∙ by-lengths (withScratch t (e .scratch)) c)
       z)
-      (same-or-not (lengthNumber (withScratch t (e .scratch)) c) 0)
+      (same-or-not (earlyNumber (withScratch t (e .scratch)) c) 0)
 
   update-down : every (λ m. eqb m 0 || has m refusals) (outcomes c) ≡ true → isQuery c ≡ false → e .answer .detail ≡ 0 → (e .answer .number ≡ 0 → ⊥) → TurnedDown c t e
   update-down h q d z =
@@ -179,12 +179,12 @@ module _ (x1 x2 : ℤ) (k : ℕ) (t : List ℕ) (e : Event) (same : e .table′ 
       of-five (e .answer .number) (0 ∷ 1 ∷ 2 ∷ []) refl
       (ap (λ (r : Answer). has (r .number) (0 ∷ 1 ∷ 2 ∷ [])) (p .byLengths l) ∙ by-lengths (withOutput t (e .output) (e .readMap)) (top x1 x2 k))
       z)
-      (same-or-not (lengthNumber (withOutput t (e .output) (e .readMap)) (top x1 x2 k)) 0)
+      (same-or-not (earlyNumber (withOutput t (e .output) (e .readMap)) (top x1 x2 k)) 0)
 
   top-detail : (e .answer .number ≡ 0 → ⊥) → (e .answer .number ≡ 5 → ⊥) → e .answer .detail ≡ 0
   top-detail z y =
       ⊎-elim (λ l. p .ruleBroken (three (e .answer .number) (p .refusals l) z y)) (λ l. ap (λ (r : Answer). r .detail) (p .byLengths l))
-      (same-or-not (lengthNumber (withOutput t (e .output) (e .readMap)) (top x1 x2 k)) 0)
+      (same-or-not (earlyNumber (withOutput t (e .output) (e .readMap)) (top x1 x2 k)) 0)
     where
       three : (n : ℕ) → has n (0 ∷ 3 ∷ 5 ∷ []) ≡ true → (n ≡ 0 → ⊥) → (n ≡ 5 → ⊥) → n ≡ 3
       three n h z y = eqb-true n 3 (or-right (eqb n 3) (eqb n 5 || false) (or-left (eqb n 0) (eqb n 3 || (eqb n 5 || false)) h (ne-eqb n 0 z)) (rw (ne-eqb n 5 y)))
@@ -210,7 +210,7 @@ formatted-long t t′ w = ap length w ∙ go (tableSized (length t)) refl
 
 -- a Format that is refused leaves the table
 format-down : (t : List ℕ) (e : Event) → MetBy format t e → (e .answer .number ≡ 0 → ⊥) → e .table′ ≡ t
-unfolding lengthNumber unlessRefused
+unfolding earlyNumber unlessRefused
 format-down t e p z = go (tableSized (length t)) (p .promised .answered) (p .promised .written)
   where
     go : (b : Bool) → e .answer ≡ unlessRefused (cond b 0 1) (answer 0 0) → e .table′ ≡ cond b (formatted (length t)) t → e .table′ ≡ t

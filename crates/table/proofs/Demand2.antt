@@ -36,7 +36,7 @@ use Rattle.tree.proofs.Tables.{live-rises, report-finds, counted, sound-header}
 use Rattle.tree.proofs.Tops.{top-finds, top-rises}
 use Rattle.revise.specs.Numbers.{addNumber}
 use Rattle.table.specs.Calls.{Call, add, withdraw, report, top, argumentsFit}
-use Rattle.table.specs.Answers.{withScratch, withOutput, lengthNumber, unlessRefused, spotsAnswer, outputLeft}
+use Rattle.table.specs.Answers.{withScratch, withOutput, earlyNumber, unlessRefused, spotsAnswer, outputLeft}
 use Rattle.table.specs.Queries.{walkAnswer, QueryPost, ReportPost, TopPost}
 use Rattle.table.specs.Updates.{AddPost, WithdrawPost}
 use Rattle.table.specs.Model.{PlainSpot, hasIdentity, placeBefore, rankHigher, asBytes}
@@ -48,7 +48,7 @@ use Rattle.table.proofs.Alive.{plain, Small, keyed-plain, plain-length,
 -- ---- what a query hands out
 
 module _ (c : Call) (w : Walk) (found : List Spot) (whole : Finds w found) (small : Small found) (t out map : List ℕ) (r : Answer) (out′ map′ : List ℕ)
-    (lent : lengthNumber (withOutput t out map) c ≡ 0) (p : QueryPost c w t out map r out′ map′) where
+    (lent : earlyNumber (withOutput t out map) c ≡ 0) (p : QueryPost c w t out map r out′ map′) where
   answered : r ≡ spotsAnswer (length out) (length (plain found))
   unfolding unlessRefused walkAnswer
   answered =
@@ -120,7 +120,7 @@ module _ (t : List ℕ) (g : sound t ≡ true) where
     pub report-settled : (given other : List PlainSpot) → ReportOf x1 x2 y t given → ReportOf x1 x2 y t other → given ≡ other
     report-settled given other g h = is-found given g ∙ sym (is-found other h)
 
-    report-given : (out map : List ℕ) (r : Answer) (out′ map′ : List ℕ) → lengthNumber (withOutput t out map) (report x1 x2 y) ≡ 0 → ReportPost x1 x2 y t out map r out′ map′
+    report-given : (out map : List ℕ) (r : Answer) (out′ map′ : List ℕ) → earlyNumber (withOutput t out map) (report x1 x2 y) ≡ 0 → ReportPost x1 x2 y t out map r out′ map′
         → (given : List PlainSpot) × ReportOf x1 x2 y t given × HandedOut given out r out′
     unfolding found
     report-given out map r out′ map′ l p = (
@@ -195,7 +195,7 @@ module _ (t : List ℕ) (g : sound t ≡ true) where
     pub top-settled : (given other : List PlainSpot) → TopOf x1 x2 k t given → TopOf x1 x2 k t other → given ≡ other
     top-settled given other g h = is-first given g ∙ sym (is-first other h)
 
-    top-given : (out map : List ℕ) (r : Answer) (out′ map′ : List ℕ) → lengthNumber (withOutput t out map) (top x1 x2 k) ≡ 0 → TopPost x1 x2 k t out map r out′ map′
+    top-given : (out map : List ℕ) (r : Answer) (out′ map′ : List ℕ) → earlyNumber (withOutput t out map) (top x1 x2 k) ≡ 0 → TopPost x1 x2 k t out map r out′ map′
         → (given : List PlainSpot) × TopOf x1 x2 k t given × HandedOut given out r out′
     unfolding of-places ranked
     top-given out map r out′ map′ l p = (
@@ -295,7 +295,7 @@ module _ (place rank : ℤ) (fp : Fits place) (fr : Fits rank) where
         go true n = absurd (n refl)
         go false n = refl
 
-    added-to : (track : ℕ) (w : List ℕ) (r : Answer) (t′ w′ : List ℕ) → lengthNumber (withScratch t w) (add place rank track) ≡ 0 → AddPost place rank track t w r t′ w′
+    added-to : (track : ℕ) (w : List ℕ) (r : Answer) (t′ w′ : List ℕ) → earlyNumber (withScratch t w) (add place rank track) ≡ 0 → AddPost place rank track t w r t′ w′
         → AddedTo place rank track t r t′
     unfolding due Full
     added-to track w r t′ w′ l p =
@@ -323,7 +323,7 @@ module _ (place rank : ℤ) (fp : Fits place) (fr : Fits rank) where
         new-live track t′ h =
             record { placeFits = fits-signed place fp; rankFits = fits-signed rank fr; there = h (key place rank) ∙ with-key (key place rank) (some track) (live t) }
 
-    withdrawn-from : (w : List ℕ) (r : Answer) (t′ w′ : List ℕ) → lengthNumber (withScratch t w) (withdraw place rank) ≡ 0 → WithdrawPost place rank t w r t′ w′
+    withdrawn-from : (w : List ℕ) (r : Answer) (t′ w′ : List ℕ) → earlyNumber (withScratch t w) (withdraw place rank) ≡ 0 → WithdrawPost place rank t w r t′ w′
         → WithdrawnFrom place rank t r t′
     withdrawn-from w r t′ w′ l p =
         let z : r .number ≡ 0 = number-is (p .update .answered g l) in

@@ -29,7 +29,7 @@ use Rattle.tree.specs.Sound.{sound}
 use Rattle.tree.specs.Lookup.{live, withKey}
 use Rattle.tree.proofs.Says.{find-replaced, replaced-rises}
 use Rattle.table.specs.Calls.{Call, format, add, withdraw, report, top, count, check, rebuild, isQuery}
-use Rattle.table.specs.Answers.{withScratch, withOutput, lengthNumber, spotsAnswer, outputLeft, unlessRefused, mapLeft}
+use Rattle.table.specs.Answers.{withScratch, withOutput, earlyNumber, spotsAnswer, outputLeft, unlessRefused, mapLeft}
 use Rattle.table.specs.Queries.{walkAnswer, countAnswer, QueryPost}
 use Rattle.table.specs.Updates.{UpdatePost}
 use Rattle.table.specs.History.{Event, MetBy, lengthsIn, SecondTable, SameOnSecond, Agreed}
@@ -132,7 +132,7 @@ second-same c v w t u e f p q o m n x =
 -- a query, for any walk that is whole
 query-kept : (c : Call) (w : Walk) (found : List Spot) (t : List ℕ) (e : Event) → sound t ≡ true → e .table′ ≡ t → Finds w found → PostOf c w t e
     → keyReplyIn c t (liveSpots t) e
-    ≡ refusedOr (lengthNumber (withOutput t (e .output) (e .readMap)) c) (liveSpots t) (gives (length (e .output)) found (liveSpots t))
+    ≡ refusedOr (earlyNumber (withOutput t (e .output) (e .readMap)) c) (liveSpots t) (gives (length (e .output)) found (liveSpots t))
     → ((x1 x2 y : ℤ) → c ≡ report x1 x2 y → ones (readMap (blocksRead w)) ≤ 1 + 36 * (headOf t .levels) + 9 * (length (spots w) / 16))
     → ((u : List ℕ) (f : Event) → SecondTable c t e u f → ((b : ℕ) → bit (readMap (blocksRead w)) b ≡ true → block u b ≡ block t b)
     → (v : Walk) × PostOf c v u f × (v ≡ w))
@@ -157,7 +157,7 @@ query-kept c w found t e s same whole p model bound second =
     ss = liveSpots t
 
     l : ℕ
-    l = lengthNumber (withOutput t (e .output) (e .readMap)) c
+    l = earlyNumber (withOutput t (e .output) (e .readMap)) c
 
     as-model : e .answer ≡ refusedOr l ss (gives (length (e .output)) found ss) .answer
     as-model = query-answer l w found whole ss (e .output) (e .output′) (e .answer) (p .answered)
@@ -200,7 +200,7 @@ module _ (laws : TreeLaws) where
   update-kept : (c : Call) (due : Answer) (after : ℕ → Option ℕ) (t : List ℕ) (e : Event) (next : List Spot) → sound t ≡ true
       → UpdatePost c due after t (e .scratch) (e .answer) (e .table′) (e .scratch′)
       → keyReplyIn c t (liveSpots t) e
-      ≡ refusedOr (lengthNumber (withScratch t (e .scratch)) c) (liveSpots t) (changed due (liveSpots t) next)
+      ≡ refusedOr (earlyNumber (withScratch t (e .scratch)) c) (liveSpots t) (changed due (liveSpots t) next)
       → rising (keys next) ≡ true
       → ((k : ℕ) → find k next ≡ after k)
       → isQuery c ≡ false
@@ -221,7 +221,7 @@ module _ (laws : TreeLaws) where
       ss = liveSpots t
 
       l : ℕ
-      l = lengthNumber (withScratch t (e .scratch)) c
+      l = earlyNumber (withScratch t (e .scratch)) c
 
       number : e .answer ≡ refusedOr l ss (changed due ss next) .answer
       number = changed-answer l due ss next (e .answer) (p .refusals) (p .answered s)
@@ -257,7 +257,7 @@ module _ (laws : TreeLaws) where
 
   -- each call keeps the model's list and the live spots one
   pub step : (c : Call) (t : List ℕ) (e : Event) → tableSized (length t) ≡ true → sound t ≡ true → MetBy c t e → Kept c t e
-  unfolding keyReply replyTo lengthNumber refusedOr unlessRefused accepted changed nextBy countAnswer liveCount
+  unfolding keyReply replyTo earlyNumber refusedOr unlessRefused accepted changed nextBy countAnswer liveCount
   step format t e z s p =
       let left : e .table′ ≡ formatted (length t) = p .promised .written ∙ rw z in
       plain-kept format t e (p .promised .answered ∙ rw z) (rw left (laws .fresh-sound (length t) z)) (rw left (laws .fresh-sized (length t) z))

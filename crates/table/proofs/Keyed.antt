@@ -13,7 +13,7 @@ use Rattle.block.specs.Answers.{answer}
 use Rattle.tree.specs.Lookup.{isLive}
 use Rattle.table.specs.Calls.{Call, format, add, withdraw, report, top, count, check, rebuild, Lengths}
 use Rattle.revise.specs.Numbers.{addNumber}
-use Rattle.table.specs.Answers.{lengthNumber, spotsAnswer}
+use Rattle.table.specs.Answers.{earlyNumber, spotsAnswer}
 
 -- what it answers, hands out, and holds afterwards
 pub record KeyReply : Type 0 where
@@ -57,4 +57,4 @@ replyTo l rebuild ss = changed (answer 0 0) ss ss
 
 -- what the model answers, in keys
 unfoldable pub keyReply : Lengths → Call → List Spot → KeyReply
-keyReply l c ss = refusedOr (lengthNumber l c) ss (replyTo l c ss)
+keyReply l c ss = refusedOr (earlyNumber l c) ss (replyTo l c ss)

@@ -22,7 +22,7 @@ use Rattle.block.specs.Table.{sizedFor, tableSized}
 use Rattle.tree.specs.Lookup.{isLive}
 use Rattle.table.specs.Calls.{Call, format, add, withdraw, report, top, count, check, rebuild, Kind, makes, updates, queries, tells, kind, Lengths, argumentsFit}
 use Rattle.revise.specs.Numbers.{addNumber}
-use Rattle.table.specs.Answers.{lent, lengthNumber, spotsAnswer, outputLeft}
+use Rattle.table.specs.Answers.{lent, earlyNumber, spotsAnswer, outputLeft}
 use Rattle.table.specs.Model.{PlainSpot, hasIdentity, placeBefore, rankHigher, ofPlaces, ofReport, chosen, insertBy, sortBy, listed, takenOut, broughtIn, highest, fourBytes, complement, asBytes, Plain, begunEmpty, Reply, outputAfter, refuse, accept, badTable, badLent, full, handOut, ownReply, reply}
 use Rattle.table.proofs.Keyed.{KeyReply, keyReply, replyTo, refusedOr, accepted, changed, nextBy, gives}
 use Rattle.table.proofs.Orders.{model-places, model-ranks, model-identity, four-bytes, key-bytes}
@@ -317,6 +317,6 @@ like-own l check ps a h = like-accept 1 ps h
 like-own l rebuild ps a h = like-full ps h false ps _ h refl
 
 pub like : (l : Lengths) (c : Call) (ps : Plain) → argumentsFit c ≡ true → AllFit (ps .spots) → Like (reply l c ps) (keyReply l c (keyed (ps .spots)))
-unfolding reply keyReply lengthNumber
+unfolding reply keyReply earlyNumber
 like l c ps a h =
     rw (bad-table (l .table), bad-lent l (kind c)) (like-lengths ps h (tableSized (l .table)) (lent l (kind c)) _ _ (like-own l c ps a h))

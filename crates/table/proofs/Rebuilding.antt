@@ -18,7 +18,7 @@ use Rattle.tree.specs.Walk.{walkTable, liveSpots}
 use Rattle.tree.specs.Sound.{sound}
 use Rattle.rebuild.proofs.Rebuilt.{rebuilt-sound, rebuilt-spots, rebuilt-settled, rebuild-live}
 use Rattle.table.specs.Calls.{rebuild, updates}
-use Rattle.table.specs.Answers.{withScratch, lent, lengthNumber, outcomes}
+use Rattle.table.specs.Answers.{withScratch, lent, earlyNumber, outcomes}
 use Rattle.table.specs.Updates.{scratchLeft, UpdatePost, RebuildPost}
 use Rattle.table.proofs.Changes.{number-is, detail-is, number-short, number-lent, update-short, update-lent}
 use Rattle.renew.specs.Layable.{layable}
@@ -28,7 +28,7 @@ use Rattle.renew.proofs.Renewing.{renewed-whole}
 use Rattle.revise.proofs.Counts.{live-are}
 
 abbrev asked : List ℕ → List ℕ → ℕ
-asked t w = lengthNumber (withScratch t w) rebuild
+asked t w = earlyNumber (withScratch t w) rebuild
 
 module _ (t w : List ℕ) (r : Answer) where
   -- refused by the lengths
@@ -55,7 +55,7 @@ module _ (t w : List ℕ) (r : Answer) where
 module _ (t t′ w w′ w″ : List ℕ) (r : Answer) (ok : Bool) (e : tableSized (length t) ≡ true) (l : length t ≤ length w) (g : Renewed t t′ w w′ (liveSpots t) true ok)
     (cleared : w″ ≡ replicate (length t) 0 ++ drop (length t) w′) where
   fine : asked t w ≡ 0
-  unfolding lengthNumber
+  unfolding earlyNumber
   fine = rw (e, le-leb (length t) (length w) l)
 
   left : w″ ≡ replicate (length t) 0 ++ drop (length t) w

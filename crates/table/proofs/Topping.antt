@@ -35,7 +35,7 @@ use Rattle.tree.proofs.BestFirstTop.{Done, broken-head}
 use Rattle.top.specs.Runs.{Ended, Based, TopFront}
 use Rattle.top.specs.declared.TopTally.{TopTally}
 use Rattle.table.specs.Calls.{top}
-use Rattle.table.specs.Answers.{lengths, lengthNumber, outputLeft}
+use Rattle.table.specs.Answers.{lengths, earlyNumber, outputLeft}
 use Rattle.table.specs.Queries.{QueryPost, TopPost}
 use Rattle.table.specs.NoneGiven.{NoneGiven}
 use Rattle.table.proofs.Answering.{query-short, query-lent, query-broken, query-many, query-given}
@@ -43,20 +43,20 @@ use Rattle.table.proofs.Answering.{query-short, query-lent, query-broke
 module _ (x1 x2 : ℤ) (k : ℕ) (t out map : List ℕ) where
   -- ---- the lengths
 
-  number-short : tableSized (length t) ≡ false → lengthNumber (lengths t out map []) (top x1 x2 k) ≡ 1
-  unfolding lengthNumber
+  number-short : tableSized (length t) ≡ false → earlyNumber (lengths t out map []) (top x1 x2 k) ≡ 1
+  unfolding earlyNumber
   number-short e = rw e
 
-  number-lent : tableSized (length t) ≡ true → eqb (length map) 512 ≡ false → lengthNumber (lengths t out map []) (top x1 x2 k) ≡ 2
-  unfolding lengthNumber
+  number-lent : tableSized (length t) ≡ true → eqb (length map) 512 ≡ false → earlyNumber (lengths t out map []) (top x1 x2 k) ≡ 2
+  unfolding earlyNumber
   number-lent e f = rw (e, f)
 
-  number-fine : tableSized (length t) ≡ true → eqb (length map) 512 ≡ true → lengthNumber (lengths t out map []) (top x1 x2 k) ≡ 0
-  unfolding lengthNumber
+  number-fine : tableSized (length t) ≡ true → eqb (length map) 512 ≡ true → earlyNumber (lengths t out map []) (top x1 x2 k) ≡ 0
+  unfolding earlyNumber
   number-fine e f = rw (e, f)
 
   -- refused by the lengths
-  refused-lengths : (r : Answer) (m : ℕ) → lengthNumber (lengths t out map []) (top x1 x2 k) ≡ m → 0 < m → m < 3 → r ≡ answer m 0
+  refused-lengths : (r : Answer) (m : ℕ) → earlyNumber (lengths t out map []) (top x1 x2 k) ≡ m → 0 < m → m < 3 → r ≡ answer m 0
       → QueryPost (top x1 x2 k) (topTable t x1 x2 k) t out map r out map
       → TopPost x1 x2 k t out map r out map
   refused-lengths r m e some few a p =

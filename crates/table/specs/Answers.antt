@@ -33,11 +33,12 @@ lent l updates = leb (l .table) (l .scratch)
 lent l queries = eqb (l .readMap) mapBytes
 lent l tells = true
 
--- 1: "the table is not a whole number of blocks, or has under 9 or over 4,096"; then 2; or 0
-unfoldable pub lengthNumber : Lengths → Call → ℕ
-lengthNumber l c = cond (tableSized (l .table)) (cond (lent l (kind c)) 0 2) 1
+-- the number that lengths and arguments alone decide, before any byte of the table is read; "The order is that of the table": 1, "the table is not a whole
+-- number of blocks, or has under 9 or over 4,096", then 2; or 0
+unfoldable pub earlyNumber : Lengths → Call → ℕ
+earlyNumber l c = cond (tableSized (l .table)) (cond (lent l (kind c)) 0 2) 1
 
--- "1, detail 0", "2, detail 0": an answer by the lengths where they refuse, else the other
+-- "1, detail 0", "2, detail 0": an answer by that number where it refuses, else the other
 unfoldable pub unlessRefused : ℕ → Answer → Answer
 unlessRefused zero r = r
 unlessRefused (suc n) r = answer (suc n) 0
@@ -56,7 +57,7 @@ unfoldable pub mapLeft : ℕ → List ℕ → List ℕ → List ℕ
 mapLeft zero blocks map = readMap blocks
 mapLeft (suc n) blocks map = map
 
--- what a call may answer once its lengths are right, whatever the table holds: "Format gives only 1, as does Check"
+-- what a call may answer once it is not refused so, whatever the table holds: "Format gives only 1, as does Check"
 abbrev pub outcomes : Call → List ℕ
 outcomes format = 0 ∷ []
 outcomes (add place rank track) = 0 ∷ 3 ∷ 4 ∷ []

@@ -17,7 +17,7 @@ use Rattle.block.specs.declared.Answer.{Answer}
 use Rattle.tree.specs.Lookup.{live}
 use Rattle.tree.specs.Sound.{sound}
 use Rattle.table.specs.Calls.{Call, add, withdraw, report, top, isQuery, argumentsFit}
-use Rattle.table.specs.Answers.{lengths, lengthNumber, spotsAnswer}
+use Rattle.table.specs.Answers.{lengths, earlyNumber, spotsAnswer}
 use Rattle.table.specs.Queries.{HandsOut, ReportPost, TopPost}
 use Rattle.table.specs.Updates.{AddPost, WithdrawPost}
 use Rattle.table.specs.Model.{PlainSpot, hasIdentity, placeBefore, rankHigher, asBytes}
@@ -131,7 +131,7 @@ pub record WithdrawnFrom (place rank : ℤ) (t : List ℕ) (r : Answer) (t′ : 
 pub record OnSound (c : Call) (t out map w : List ℕ) : Type 0 where
   pub table : sound t ≡ true
   pub arguments : argumentsFit c ≡ true
-  pub lent : lengthNumber (lengths t out map w) c ≡ 0
+  pub lent : earlyNumber (lengths t out map w) c ≡ 0
 
 -- Demand 2: "On every sound table, addition, withdrawal, report and top k do what the paper's four definitions say of the live spots. A report holds each
 -- live spot of its range once, and nothing else. The paper's search has no upper limit of rank, and since no tour uses one, none shall be added."

@@ -20,7 +20,7 @@ use Rattle.tree.specs.Walk.{Walk, broken, walked, spots, blocksRead, walkTable}
 use Rattle.tree.specs.Sound.{sound}
 use Rattle.tree.specs.Top.{topWalk, topTable}
 use Rattle.table.specs.Calls.{Call, report, top, count, check}
-use Rattle.table.specs.Answers.{ofTable, withOutput, lengthNumber, unlessRefused, spotsAnswer, outputLeft, mapLeft, outcomes}
+use Rattle.table.specs.Answers.{ofTable, withOutput, earlyNumber, unlessRefused, spotsAnswer, outputLeft, mapLeft, outcomes}
 
 -- 3 where a rule is broken, else 0 or 5
 unfoldable pub walkAnswer : ℕ → Walk → Answer
@@ -29,7 +29,7 @@ walkAnswer bytes (walked found blocks) = spotsAnswer bytes (length found)
 
 -- a call that hands out the spots of the walk w and marks its blocks; the table is lent to be read
 pub record QueryPost (c : Call) (w : Walk) (t out map : List ℕ) (r : Answer) (out′ map′ : List ℕ) : Type 0 where
-  pub answered : r ≡ unlessRefused (lengthNumber (withOutput t out map) c) (walkAnswer (length out) w)
+  pub answered : r ≡ unlessRefused (earlyNumber (withOutput t out map) c) (walkAnswer (length out) w)
   pub output : out′ ≡ outputLeft (r .number) (spots w) out
   pub marks : map′ ≡ mapLeft (r .number) (blocksRead w) map
 
@@ -53,8 +53,8 @@ pub record HandsOut (q : Query) (t out : List ℕ) (r : Answer) (out′ map′ :
 pub record TopPost (x1 x2 : ℤ) (k : ℕ) (t out map : List ℕ) (r : Answer) (out′ map′ : List ℕ) : Type 0 where
   pub exact : rising (keys (spots (topWalk t x1 x2 k))) ≡ true → QueryPost (top x1 x2 k) (topTable t x1 x2 k) t out map r out′ map′
   -- on every table: 1 and 2 as the lengths give them, else 0, 3 with detail 0, or 5 with more spots than the output holds
-  pub byLengths : (lengthNumber (withOutput t out map) (top x1 x2 k) ≡ 0 → ⊥) → r ≡ answer (lengthNumber (withOutput t out map) (top x1 x2 k)) 0
-  pub refusals : lengthNumber (withOutput t out map) (top x1 x2 k) ≡ 0 → has (r .number) (outcomes (top x1 x2 k)) ≡ true
+  pub byLengths : (earlyNumber (withOutput t out map) (top x1 x2 k) ≡ 0 → ⊥) → r ≡ answer (earlyNumber (withOutput t out map) (top x1 x2 k)) 0
+  pub refusals : earlyNumber (withOutput t out map) (top x1 x2 k) ≡ 0 → has (r .number) (outcomes (top x1 x2 k)) ≡ true
   pub ruleBroken : r .number ≡ 3 → r .detail ≡ 0
   pub tooMany : r .number ≡ 5 → length out / 12 < r .detail
   pub unchanged : (r .number ≡ 0 → ⊥) → (out′ ≡ out) × (map′ ≡ map)
@@ -66,8 +66,8 @@ countAnswer broken = answer 3 0
 countAnswer (walked found blocks) = answer 0 (length found)
 
 pub record CountPost (t : List ℕ) (r : Answer) : Type 0 where
-  pub answered : r ≡ unlessRefused (lengthNumber (ofTable t) count) (countAnswer (walkTable t everything))
+  pub answered : r ≡ unlessRefused (earlyNumber (ofTable t) count) (countAnswer (walkTable t everything))
 
 -- "Check says yes exactly if the table is sound"; "1 or 0 for Check's yes or no"
 pub record CheckPost (t : List ℕ) (r : Answer) : Type 0 where
-  pub answered : r ≡ unlessRefused (lengthNumber (ofTable t) check) (answer 0 (cond (sound t) 1 0))
+  pub answered : r ≡ unlessRefused (earlyNumber (ofTable t) check) (answer 0 (cond (sound t) 1 0))

@@ -30,11 +30,11 @@ use Rattle.lookup.specs.declared.Looked.the-variants.{Broken}
 use Rattle.renew.specs.Layable.{layable}
 use Rattle.revise.specs.Numbers.{addNumber, Full}
 use Rattle.table.specs.Calls.{Call, format, add, withdraw, rebuild}
-use Rattle.table.specs.Answers.{ofTable, withScratch, lengthNumber, unlessRefused, outcomes}
+use Rattle.table.specs.Answers.{ofTable, withScratch, earlyNumber, unlessRefused, outcomes}
 
 -- "Format makes the empty table, one leaf and one level"
 pub record FormatPost (t : List ℕ) (r : Answer) (t′ : List ℕ) : Type 0 where
-  pub answered : r ≡ unlessRefused (lengthNumber (ofTable t) format) (answer 0 0)
+  pub answered : r ≡ unlessRefused (earlyNumber (ofTable t) format) (answer 0 0)
   pub written : t′ ≡ cond (tableSized (length t)) (formatted (length t)) t
 
 -- "once accepted, its first table-length bytes are zero and the others unchanged", and so after 3
@@ -49,14 +49,14 @@ scratchLeft bytes (suc (suc (suc (suc n)))) w = w
 pub record UpdatePost (c : Call) (due : Answer) (after : ℕ → Option ℕ) (t w : List ℕ) (r : Answer) (t′ w′ : List ℕ) : Type 0 where
   -- on every table; the detail that comes with 4 is the call's own
   pub detail : r .number ≢ 4 → r .detail ≡ 0
-  pub refusals : lengthNumber (withScratch t w) c ≢ 0 → r ≡ answer (lengthNumber (withScratch t w) c) 0
-  pub header : lengthNumber (withScratch t w) c ≡ 0 → headerOk (length t) (headOf t) ≡ false → r .number ≡ 3
-  pub numbers : lengthNumber (withScratch t w) c ≡ 0 → has (r .number) (outcomes c) ≡ true
+  pub refusals : earlyNumber (withScratch t w) c ≢ 0 → r ≡ answer (earlyNumber (withScratch t w) c) 0
+  pub header : earlyNumber (withScratch t w) c ≡ 0 → headerOk (length t) (headOf t) ≡ false → r .number ≡ 3
+  pub numbers : earlyNumber (withScratch t w) c ≡ 0 → has (r .number) (outcomes c) ≡ true
   pub unchanged : r .number ≢ 0 → t′ ≡ t
   pub sized : length t′ ≡ length t
   pub scratch : w′ ≡ scratchLeft (length t) (r .number) w
   -- "An accepted call leaves a sound table sound"
-  pub answered : sound t ≡ true → lengthNumber (withScratch t w) c ≡ 0 → r ≡ due
+  pub answered : sound t ≡ true → earlyNumber (withScratch t w) c ≡ 0 → r ≡ due
   pub staysSound : sound t ≡ true → sound t′ ≡ true
   pub liveAfter : sound t ≡ true → r .number ≡ 0 → (k : ℕ) → live t′ k ≡ after k
 
@@ -67,7 +67,7 @@ pub record ChangePost (c : Call) (j : ℕ) (due : Answer) (after : ℕ → Optio
   pub detail : r .detail ≡ 0
   -- on every table: 3 where block 0 or a node on the key's path, down to the first that names it, breaks a rule; 4 only where that path and a walk of
   -- everything are whole, the key is not live and no fewer spots than the capacity are counted
-  pub path : lengthNumber (withScratch t w) c ≡ 0 → lookedUp t j ≡ Broken → r .number ≡ 3
+  pub path : earlyNumber (withScratch t w) c ≡ 0 → lookedUp t j ≡ Broken → r .number ≡ 3
   pub full : r .number ≡ 4 → Full t j
   -- the figure in block 0: exact before, exact after
   pub exact : sound t ≡ true → headOf t .bound ≡ liveCount t → headOf t′ .bound ≡ liveCount t′
@@ -90,7 +90,7 @@ pub record RebuildPost (t w : List ℕ) (r : Answer) (t′ w′ : List ℕ) : Ty
   pub update : UpdatePost rebuild (answer 0 0) (live t) t w r t′ w′
   pub detail : r .detail ≡ 0
   -- on every table: accepted exactly where the live spots can be laid out anew, and then they are
-  pub answered : lengthNumber (withScratch t w) rebuild ≡ 0 → r .number ≡ cond (layable (length t) (walkTable t everything)) 0 3
+  pub answered : earlyNumber (withScratch t w) rebuild ≡ 0 → r .number ≡ cond (layable (length t) (walkTable t everything)) 0 3
   pub anew : r .number ≡ 0 → (sound t′ ≡ true) × (liveSpots t′ ≡ liveSpots t)
   pub exact : r .number ≡ 0 → headOf t′ .bound ≡ liveCount t′
   pub carriedOut : r .number ≡ 0
