@@ -1,73 +1,203 @@
 -- Spots are given, one after the other.
 -- Assumes nothing.
-use mathlib.Core.Path.{_≡_, ap, sym, subst, _∙_}
-use mathlib.Core.Bool.{Bool, true, false, cond, _&&_}
+use mathlib.Core.Path.{_≡_, ap, ap₂, sym, subst, _∙_}
+use mathlib.Core.Logic.{_⊎_, inl, inr, ⊎-elim}
+use mathlib.Core.Bool.{Bool, true, false, cond, _&&_, true≢false}
 use mathlib.Core.List.{List, [], _∷_, _++_}
-use Prim.Native.Nat.{ℕ, _+_, _*_, _≤_, _<_}
+use Prim.Native.Nat.{ℕ, _+_, _-_, _*_, _/_, _%_, _≤_, _<_}
 use native.Mathlib.Omega.{arith}
-use lib.ListN.{length-append}
-use lib.Dec.{leb, ltb}
-use borrow.Author.Tests.{leb-true, leb-false}
+use lib.ListN.{length, length-append}
+use lib.Dec.{ltb}
+use lib.IntN.{ℤ}
+use borrow.Author.Tests.{ltb-true, ltb-false, lt-ltb}
+use Rattle.octets.proofs.Order.{less-or-not}
 use Rattle.octets.proofs.Tests.{and-left, and-right}
 use Rattle.spot.specs.Keys.{rankKey, rankOf}
 use Rattle.spot.specs.Spots.{putSpot}
 use Rattle.spot.specs.Query.{topQuery}
 use Rattle.spot.specs.declared.Spot.{Spot}
 use Rattle.spot.specs.declared.Query.{Query}
-use Rattle.front.specs.declared.Next.{Next}
-use Rattle.front.specs.declared.Lead.{Lead}
-use Rattle.front.specs.Frontier.{slotAt, headAt, Leads}
-use Rattle.top.specs.Reading.{Standing, Under, shownOf}
-use Rattle.top.specs.Runs.{Moved, Passes}
+use Rattle.block.specs.Access.{frontOf}
+use Rattle.block.specs.Node.{storeOf}
+use Rattle.block.specs.NodeRules.{ValidBlock}
+use Rattle.block.specs.Table.{block, blocksOf}
+use Rattle.block.proofs.Facts.{block-facts}
+use Rattle.frontier.specs.declared.Pick.{Pick}
+use Rattle.frontier.specs.Frontier.{blockBy, slotBy, Chain}
+use Rattle.frontier.specs.Picks.{spotCount, spotBy, nextOf, Picked}
+use Rattle.frontier.proofs.Chains.{stands-valid}
+use Rattle.top.specs.Reading.{Under, shownOf, Going}
+use Rattle.top.specs.Rows.{pickRow, topKey, topValue, foundIn, headBy, PickedUnder, Heads}
+use Rattle.top.specs.Runs.{Leads, Movable, Moved, Sofar, Passes, Givable}
+use Rattle.top.proofs.Heaps.{put, put-same, put-other, put-all, First, first-row, first-most}
+use Rattle.top.proofs.Lefts.{best-under, under-none}
 use Rattle.top.proofs.Ups.{shown-is}
 use Rattle.top.proofs.Steps.{spot-given}
 use Rattle.top.proofs.Outs.{written-more}
 
-module _ (t : List ℕ) (q : Query) (k room : ℕ) (rows paths orders orders' heads heads' : List (List ℕ)) (ranks ranks' : List ℕ) (n floor : ℕ) (out out' : List ℕ) (j : ℕ) (lead : Lead) (v : Leads heads n lead) where
-  -- the best is given
-  pub give-step : lead .next .there && leb floor (rankOf (lead .next .spot .key)) ≡ true → j < k
-      → ((s : ℕ) → s < n → Standing t (slotAt rows paths s))
-      → out' ≡ cond (ltb j room) (putSpot out (12 * j) (lead .next .spot)) out
-      → Moved t q rows paths orders orders' heads heads' ranks ranks' (lead .slot)
-      → Passes t q k room rows paths heads heads' n floor out out' j (j + 1)
-  give-step clear less stands o m x1 x2 cell base blocks asks high s =
-      let here = v .here (and-left (lead .next .there) (leb floor (rankOf (lead .next .spot .key))) clear) in
-      let i = lead .slot in
-      let is : headAt heads i ≡ lead .next = here .1 in
-      let there : headAt heads i .there ≡ true = ap (λ (h : Next). h .there) is ∙ and-left (lead .next .there) (leb floor (rankOf (lead .next .spot .key))) clear in
-      let over : floor ≤ rankOf (headAt heads i .spot .key) =
-      subst (λ (h : Next). floor ≤ rankOf (h .spot .key)) (sym is) (leb-true floor (rankOf (lead .next .spot .key)) (and-right (lead .next .there) (leb floor (rankOf (lead .next .spot .key))) clear)) in
-      let next : Under (rankKey (headAt heads i .spot .key)) (shownOf t (topQuery x1 x2 0) (slotAt rows paths i)) (headAt heads' i) =
-      subst (λ (u : Query). Under (rankKey (headAt heads i .spot .key)) (shownOf t u (slotAt rows paths i)) (headAt heads' i)) asks
-      (subst (λ (ss : List Spot). Under (rankKey (headAt heads i .spot .key)) ss (headAt heads' i)) (shown-is t q (slotAt rows paths i) (stands i (here .0))) (m .next)) in
-      let c = s .counted in
-      record {
-        given = s .given ++ (headAt heads i .spot ∷ []);
-        going =
-            spot-given t x1 x2 k (slotAt rows paths) (headAt heads) cell n (s .given) blocks (s .going) i (here .0) there
-            (λ p l y. subst (λ (h : Next). rankKey (headAt heads p .spot .key) ≤ rankKey (h .spot .key)) (sym is) (v .most p l y))
+-- a node has at most 128 spots
+pub spots-few : {t : List ℕ} {b : ℕ} → ValidBlock t b → spotCount t b ≤ 128
+unfolding storeOf frontOf
+spots-few {t} {b} v = let f = block-facts (blocksOf (length t)) (v .level) (v .asked) (block t b) (v .ok) in omega (arith, f .p-most, f .i-most)
+
+-- ---- the best under a rank key
+
+pub picked-under : {t : List ℕ} {b r : ℕ} {ss : List Spot} {p : Pick} → 0 < r → Picked t b (r - 1) ss p → PickedUnder t b r ss p
+picked-under {ss = ss} l v = record { index = v .index; rank = v .rank; under = best-under ss l (v .best) }
+
+pub picked-none : {t : List ℕ} {b r : ℕ} {ss : List Spot} {p : Pick} → r ≡ 0 → p .there ≡ false → PickedUnder t b r ss p
+picked-none {ss = ss} e f =
+    record { index = λ h. absurd (true≢false (sym h ∙ f)); rank = λ h. absurd (true≢false (sym h ∙ f)); under = under-none ss e f }
+
+-- ---- the first row of the heap of spots
+
+module _ {t : List ℕ} {q : Query} {k room : ℕ} {rows heads : List (List ℕ)} {m n : ℕ} {cell : ℕ → ℕ} {base out blocks : List ℕ} {count : ℕ}
+    (few : n ≤ 4096) (chain : Chain t rows n) (s : Sofar t q k room rows heads m n cell base out blocks count) where
+  abbrev pick : ℕ → Pick
+  pick = s .pick
+
+  module _ (some : 0 < m) where
+    -- the slot of the first row
+    lead-row : First heads (λ i. pick i .there) (λ i. pick i .rank) (λ i. 128 * i + pick i .at) n
+    lead-row = first-row (λ i. pick i .there) (λ i. pick i .rank) (λ i. 128 * i + pick i .at) (s .headed .held) some
+
+    abbrev i : ℕ
+    i = lead-row .at
+
+    lead-index : pick i .at < spotCount t (slotBy t rows i .block)
+    lead-index = s .headed .index i (lead-row .inside) (lead-row .there)
+
+    lead-low : pick i .at < 128
+    lead-low = omega (arith, lead-index, spots-few (stands-valid (chain .stands i (lead-row .inside))))
+
+    lead-slot : topValue heads / 128 ≡ i
+    lead-slot = let e = lead-row .value-is in let l = lead-low in omega arith
+
+    lead-at : topValue heads % 128 ≡ pick i .at
+    lead-at = let e = lead-row .value-is in let l = lead-low in omega arith
+
+    lead-block : blockBy rows (topValue heads / 128) ≡ slotBy t rows i .block
+    lead-block = ap (blockBy rows) lead-slot ∙ chain .blocks i (lead-row .inside)
+
+    lead-spot : spotBy t (blockBy rows (topValue heads / 128)) (topValue heads % 128) ≡ headBy t rows pick i .spot
+    lead-spot = ap₂ (spotBy t) lead-block lead-at
+
+    lead-rank : topKey heads ≡ rankKey (headBy t rows pick i .spot .key)
+    lead-rank = lead-row .key-is ∙ s .headed .rank i (lead-row .inside) (lead-row .there)
+
+    pub leads : Leads t rows heads
+    leads =
+        let r = s .headed .held .room in
+        let c = chain .room in
+        let l = lead-row .inside in
+        let e = lead-slot in
+        record {
+          some = omega arith;
+          slot = omega arith;
+          valid = subst (ValidBlock t) (sym lead-block) (stands-valid (chain .stands i l));
+          index = let z : topValue heads % 128 < spotCount t (slotBy t rows i .block) = omega (arith, lead-at, lead-index) in subst (λ (b : ℕ). topValue heads % 128 < spotCount t b) (sym lead-block) z;
+        }
+
+    pub movable : Movable t rows heads m
+    movable =
+        let l = lead-row .inside in
+        let e = lead-slot in
+        record {
+          some = some;
+          room = s .headed .held .room;
+          heap = s .headed .held .heap;
+          near = omega arith;
+          hangs = record { n = n; inside = omega arith; chain = chain };
+        }
+
+    -- ---- it is given
+
+    module _ {heads' : List (List ℕ)} {m' : ℕ} (v : Moved t q rows heads heads' m m') where
+      abbrev next : ℕ → Pick
+      next = put pick i (v .next)
+
+      follows : PickedUnder t (slotBy t rows i .block) (topKey heads) (foundIn t q (slotBy t rows i)) (v .next)
+      follows = subst (λ (j : ℕ). PickedUnder t (slotBy t rows j .block) (topKey heads) (foundIn t q (slotBy t rows j)) (v .next)) lead-slot (v .under)
+
+      moved-heads : Heads t rows heads' m' n next
+      moved-heads =
+          record {
+            held =
+                v .lowered .held (λ j. pickRow j (pick j)) (λ j. pickRow j (next j)) n i (s .headed .held) (lead-row .inside) (lead-row .row-is)
+                (ap (pickRow i) (put-same pick i (v .next)) ∙ ap (λ (j : ℕ). pickRow j (v .next)) (sym lead-slot))
+                (λ j d. ap (pickRow j) (put-other pick i (v .next) j d));
+            index =
+                put-all pick i (v .next) (λ j p. j < n → p .there ≡ true → p .at < spotCount t (slotBy t rows j .block)) (λ l. follows .index) (λ j d. s .headed .index j);
+            rank =
+                put-all pick i (v .next) (λ j p. j < n → p .there ≡ true → p .rank ≡ rankKey (spotBy t (slotBy t rows j .block) (p .at) .key)) (λ l. follows .rank) (λ j d. s .headed .rank j);
+          }
+
+      module _ (floor : ℕ) (low : (c : ℕ) → c < 8 * n → cell c ≤ floor) (over : floor ≤ topKey heads / 4294967296) (less : count < k) where
+        given-going : (x1 x2 : ℤ) → q ≡ topQuery x1 x2 0 → Going t x1 x2 k (slotBy t rows) (headBy t rows next) cell n (s .given ++ (headBy t rows pick i .spot ∷ [])) blocks
+        given-going x1 x2 asks =
+            let e = lead-rank in
+            let c = s .counted in
+            spot-given t x1 x2 k (slotBy t rows) (headBy t rows pick) cell n (s .given) blocks (s .going x1 x2 asks) i (lead-row .inside) (lead-row .there)
+            (λ j l h. omega (arith, first-most (λ y. pick y .there) (λ y. pick y .rank) (λ y. 128 * y + pick y .at) (s .headed .held) j l h .1, s .headed .rank j l h))
             floor
-            high
-            over
+            low
             (omega arith)
-            (headAt heads')
-            (m .others)
-            next;
-        counted = omega (arith, length-append (s .given) (headAt heads i .spot ∷ []));
-        output =
-            o ∙ ap (λ (h : Next). cond (ltb j room) (putSpot out (12 * j) (h .spot)) out) (sym is)
-            ∙ ap (λ (w : List ℕ). cond (ltb j room) (putSpot w (12 * j) (headAt heads i .spot)) w) (s .output)
-            ∙ written-more room (s .given) (headAt heads i .spot) base j c (s .fits);
-        fits = s .fits;
-      }
+            (omega arith)
+            (headBy t rows next)
+            (λ j d. ap (nextOf t (slotBy t rows j .block)) (put-other pick i (v .next) j d))
+            (subst (Under (rankKey (headBy t rows pick i .spot .key)) (shownOf t (topQuery x1 x2 0) (slotBy t rows i))) (sym (ap (nextOf t (slotBy t rows i .block)) (put-same pick i (v .next))))
+            (subst (λ (u : Query). Under (rankKey (headBy t rows pick i .spot .key)) (shownOf t u (slotBy t rows i)) (nextOf t (slotBy t rows i .block) (v .next))) asks
+            (subst (λ (ss : List Spot). Under (rankKey (headBy t rows pick i .spot .key)) ss (nextOf t (slotBy t rows i .block) (v .next))) (shown-is t q (slotBy t rows i) (chain .stands i (lead-row .inside)))
+            (subst (λ (r : ℕ). Under r (foundIn t q (slotBy t rows i)) (nextOf t (slotBy t rows i .block) (v .next))) lead-rank (follows .under)))))
 
-  -- or no next spot reaches the floor
-  pub give-stop : lead .next .there && leb floor (rankOf (lead .next .spot .key)) ≡ false → (s : ℕ) → s < n → headAt heads s .there ≡ true → rankOf (headAt heads s .spot .key) < floor
-  give-stop f s l y =
-      let z = leb-false floor (rankOf (lead .next .spot .key)) (sym (ap (λ (b : Bool). b && leb floor (rankOf (lead .next .spot .key))) (v .some s l y)) ∙ f) in
-      omega (arith, v .most s l y)
+        given-sofar : {out' : List ℕ} {x : Spot} → x ≡ spotBy t (blockBy rows (topValue heads / 128)) (topValue heads % 128) → out' ≡ cond (ltb count room) (putSpot out (12 * count) x) out
+            → Sofar t q k room rows heads' m' n cell base out' blocks (count + 1)
+        given-sofar {out'} {x} is o =
+            let y = headBy t rows pick i .spot in
+            let c = s .counted in
+            record {
+              pick = next;
+              headed = moved-heads;
+              given = s .given ++ (y ∷ []);
+              going = given-going;
+              counted = omega (arith, length-append (s .given) (y ∷ []));
+              output =
+                  o ∙ ap (λ (z : Spot). cond (ltb count room) (putSpot out (12 * count) z) out) (is ∙ lead-spot)
+                  ∙ ap (λ (w : List ℕ). cond (ltb count room) (putSpot w (12 * count) y) w) (s .output)
+                  ∙ written-more room (s .given) y base count c (s .fits);
+              fits = s .fits;
+            }
 
-pub pass-on : {t : List ℕ} {q : Query} {k room : ℕ} {rows paths heads mid after : List (List ℕ)} {n floor : ℕ} {out via out' : List ℕ} {i j l : ℕ}
-    → Passes t q k room rows paths heads mid n floor out via i j → Passes t q k room rows paths mid after n floor via out' j l
-    → Passes t q k room rows paths heads after n floor out out' i l
-pass-on a b x1 x2 cell base blocks e h s = b x1 x2 cell base blocks e h (a x1 x2 cell base blocks e h s)
+  -- no spot that is left reaches the floor
+  pub none-reaches : (floor : ℕ) → (m ≡ 0) ⊎ (topKey heads / 4294967296 < floor) → (j : ℕ) → j < n → headBy t rows pick j .there ≡ true → rankOf (headBy t rows pick j .spot .key) < floor
+  none-reaches floor e j l h =
+      let f = first-most (λ y. pick y .there) (λ y. pick y .rank) (λ y. 128 * y + pick y .at) (s .headed .held) j l h in
+      let r = s .headed .rank j l h in
+      ⊎-elim (λ (z : m ≡ 0). let y : ⊥ = omega (arith, f .0) in absurd y) (λ (z : topKey heads / 4294967296 < floor). omega (arith, f .1)) e
+
+-- ---- one after the other
+
+pub give-none : {t : List ℕ} {q : Query} {k room : ℕ} {rows heads : List (List ℕ)} {m floor : ℕ} {out : List ℕ} {count : ℕ} → Passes t q k room rows heads heads m m floor out out count count
+give-none = record { on = λ n cell base blocks few chain low s. s }
+
+pub give-step : {t : List ℕ} {q : Query} {k room : ℕ} {rows first heads heads' : List (List ℕ)} {m₀ m m' floor : ℕ} {out₀ out out' : List ℕ} {count₀ count : ℕ} {x : Spot}
+    → Passes t q k room rows first heads m₀ m floor out₀ out count₀ count → 0 < m → count < k → floor ≤ topKey heads / 4294967296
+    → x ≡ spotBy t (blockBy rows (topValue heads / 128)) (topValue heads % 128) → out' ≡ cond (ltb count room) (putSpot out (12 * count) x) out → Moved t q rows heads heads' m m'
+    → Passes t q k room rows first heads' m₀ m' floor out₀ out' count₀ (count + 1)
+give-step {floor = floor} p some less over is o v =
+    record { on = λ n cell base blocks few chain low s. given-sofar few chain (p .on n cell base blocks few chain low s) some v floor low over less is o }
+
+-- where the loop is
+pub give-at : {t : List ℕ} {q : Query} {k room : ℕ} {rows first heads : List (List ℕ)} {m₀ m floor : ℕ} {out₀ out : List ℕ} {count₀ count : ℕ} (g : Givable t q k room rows first m₀ floor out₀ count₀)
+    → Passes t q k room rows first heads m₀ m floor out₀ out count₀ count → Sofar t q k room rows heads m (g .n) (g .cell) (g .base) out (g .blocks) count
+give-at g p = p .on (g .n) (g .cell) (g .base) (g .blocks) (g .few) (g .chain) (g .low) (g .sofar)
+
+-- where it goes on, and where it ends
+pub give-on : (j k left : ℕ) → ltb j k && ltb 0 left ≡ true → (j < k) × (0 < left)
+give-on j k left h = (ltb-true j k (and-left (ltb j k) (ltb 0 left) h), ltb-true 0 left (and-right (ltb j k) (ltb 0 left) h))
+
+pub give-ends : {A : Type 0} (j k left : ℕ) → ltb j k && ltb 0 left ≡ false → (k ≤ j) ⊎ ((left ≡ 0) ⊎ A)
+give-ends j k left h =
+    ⊎-elim (λ (l : k ≤ j). inl l)
+    (λ (l : j < k). inr (inl (let z = ltb-false 0 left (sym (ap (λ (b : Bool). b && ltb 0 left) (lt-ltb j k l)) ∙ h) in omega arith)))
+    (less-or-not k j)

@@ -20,8 +20,7 @@ use Rattle.spot.proofs.Buffers.{keys-mem}
 use Rattle.spot.proofs.Halves.{rank-small, rank-inj}
 use Rattle.spot.proofs.Ranks.{rk}
 use Rattle.tree.proofs.BestFirstSums.{Reordered, reordered-none, reordered-then, reordered-join, reordered-front}
-use Rattle.front.specs.declared.Next.{Next}
-use Rattle.front.specs.Frontier.{Best}
+use Rattle.frontier.specs.Picks.{Next, Best}
 use Rattle.top.specs.Reading.{leftOf, Under}
 
 -- ---- rank keys that differ

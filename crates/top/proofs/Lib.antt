@@ -3,8 +3,8 @@ pub mod Lefts
 pub mod Ups
 pub mod Steps
 pub mod Outs
-pub mod Turns
-pub mod Slots
+pub mod Heaps
 pub mod Gives
+pub mod Takes
+pub mod Joins
 pub mod Sweeps
-pub mod Cleared

@@ -31,11 +31,10 @@ use Rattle.tree.proofs.BestFirstTree.{rootOf}
 use Rattle.tree.proofs.BestFirstSteps.{NoneRanks}
 use Rattle.tree.proofs.BestFirstTop.{Done}
 use Rattle.tree.proofs.BestFirst.{Progress, start, read-part, broken-node, broken-twice, give, reorder, done-full, done-empty, blocks-few}
-use Rattle.front.specs.declared.Slot.{Slot}
-use Rattle.front.specs.declared.Next.{Next}
-use Rattle.front.specs.Frontier.{kidCell, Best}
-use Rattle.front.proofs.Kids.{cell-says}
-use Rattle.top.specs.Reading.{flat, pendOf, childOf, seat, seats, unreadOf, shownOf, leftOf, lefts, foundOf, Standing, Awaits, Known, Going, Under}
+use Rattle.frontier.specs.Picks.{Next, Best}
+use Rattle.frontier.specs.Frontier.{Slot, kidCell, Standing}
+use Rattle.frontier.proofs.Kids.{cell-says}
+use Rattle.top.specs.Reading.{flat, pendOf, childOf, seat, seats, unreadOf, shownOf, leftOf, lefts, foundOf, Awaits, Known, Going, Under}
 use Rattle.top.proofs.Flats.{flat-same, flat-mem, flat-none, flat-add, flat-out}
 use Rattle.top.proofs.Lefts.{left-mem, left-gone, left-all, left-give}
 use Rattle.top.proofs.Ups.{shown-small, shown-once, kids-known}

@@ -22,7 +22,7 @@ use Rattle.block.specs.declared.Asked.{Asked}
 use Rattle.block.specs.declared.Entry.{Entry}
 use Rattle.block.specs.Table.{block, blocksOf}
 use Rattle.block.specs.Node.{Store, storeOf}
-use Rattle.block.specs.NodeRules.{names, ValidBlock}
+use Rattle.block.specs.NodeRules.{names}
 use Rattle.block.specs.Access.{frontOf}
 use Rattle.block.proofs.Facts.{node-facts, block-facts}
 use Rattle.tree.specs.Part.{Part, parts}
@@ -32,12 +32,11 @@ use Rattle.tree.specs.BestFirst.{Pending, known, opened}
 use Rattle.visit.specs.declared.Path.{Path}
 use Rattle.visit.specs.Visit.{endOf, above, namedAbove, waitingAbove, entriesIn}
 use Rattle.visit.proofs.Above.{finds-waiting, entries-are}
-use Rattle.visit.proofs.Runs.{runs-of}
-use Rattle.front.specs.declared.Slot.{Slot}
-use Rattle.front.specs.Frontier.{kidCount, kidEntry, kidLow, kidPart, kidCell}
-use Rattle.front.proofs.Orders.{node-small}
-use Rattle.front.proofs.Kids.{kid-next, kid-none, cell-is, cell-past}
-use Rattle.top.specs.Reading.{flat, rev, namedUp, pendOf, childOf, seat, shownOf, Standing}
+use Rattle.frontier.specs.Frontier.{Slot, kidCount, kidEntry, kidLow, kidPart, kidCell, Standing}
+use Rattle.frontier.proofs.Spots.{spots-small}
+use Rattle.frontier.proofs.Chains.{stands-valid}
+use Rattle.frontier.proofs.Kids.{kid-next, kid-none, cell-is, cell-past}
+use Rattle.top.specs.Reading.{flat, rev, namedUp, pendOf, childOf, seat, shownOf}
 use Rattle.top.proofs.Lefts.{ranks, ranks-distinct, ranks-keep}
 
 -- ---- named above
@@ -69,9 +68,6 @@ named-rev m k (x ∷ xs) =
 -- ---- the node of a slot
 
 module _ (t : List ℕ) (q : Query) (s : Slot) (v : Standing t s) where
-  pub stands-valid : ValidBlock t (s .block)
-  stands-valid = record { level = s .level; asked = v .asked; ok = v .ok; inside = v .inside }
-
   -- what waits above decides, as the code has it
   pub shown-is : finds q (waitingAbove t (s .path)) (storeOf t (s .block)) ≡ shownOf t q s
   unfolding finds takesKey
@@ -83,7 +79,7 @@ module _ (t : List ℕ) (q : Query) (s : Slot) (v : Standing t s) where
       ∙ finds-waiting t (s .block) (s .level) (v .asked) (v .ok) q (s .path) (v .ancestors))
 
   node-keys : {x : Spot} → List·Memᴰ x (storeOf t (s .block) .points ++ storeOf t (s .block) .inserts) → x .key < allKeys
-  node-keys i = node-small t (s .block) (frontOf (block t (s .block))) (runs-of t (s .block) stands-valid refl) i
+  node-keys i = spots-small t (s .block) (stands-valid v) i
 
   pub shown-small : (x : Spot) → List·Memᴰ x (shownOf t q s) → x .key < allKeys
   unfolding finds

@@ -1,10 +1,10 @@
 -- Top on its way, as the code keeps it: what the slots, heads and cells of its frontier stand for.
 -- Assumes nothing.
 use mathlib.Core.Path.{_≡_}
-use Prim.Native.Nat.{ℕ, zero, suc, _+_, _*_, _/_, _%_, _≤_, _<_}
 use mathlib.Core.Bool.{true, cond}
 use mathlib.Core.Logic.{_⊎_}
 use mathlib.Core.List.{List, [], _∷_, _++_, List·Memᴰ}
+use Prim.Native.Nat.{ℕ, zero, suc, _+_, _*_, _/_, _%_, _≤_, _<_}
 use lib.ListN.{length}
 use lib.Dec.{leb}
 use lib.IntN.{ℤ}
@@ -15,16 +15,15 @@ use Rattle.spot.specs.declared.Spot.{Spot}
 use Rattle.spot.specs.declared.Query.{Query}
 use Rattle.block.specs.declared.Asked.{Asked}
 use Rattle.block.specs.Node.{storeOf}
-use Rattle.block.specs.NodeRules.{names, nodeOk}
+use Rattle.block.specs.NodeRules.{names}
 use Rattle.tree.specs.Walk.{admits, finds}
 use Rattle.tree.specs.Trace.{namedBy}
 use Rattle.tree.specs.BestFirst.{Pending}
 use Rattle.tree.proofs.BestFirst.{Progress}
 use Rattle.visit.specs.declared.Path.{Path}
-use Rattle.visit.specs.Visit.{partOf, above, ceiling, Ancestors}
-use Rattle.front.specs.declared.Slot.{Slot}
-use Rattle.front.specs.declared.Next.{Next}
-use Rattle.front.specs.Frontier.{kidCount, kidEntry, kidPart}
+use Rattle.visit.specs.Visit.{partOf, above}
+use Rattle.frontier.specs.Frontier.{Slot, kidCount, kidEntry, kidPart, Standing}
+use Rattle.frontier.specs.Picks.{Next}
 
 -- f 0, f 1, .. one after the other, n of them
 abbrev pub flat : {A : Type 0} → (ℕ → List A) → ℕ → List A
@@ -73,14 +72,6 @@ lefts t q slot head s = leftOf (shownOf t q (slot s)) (head s)
 
 abbrev pub foundOf : List ℕ → Query → (ℕ → Slot) → (ℕ → Next) → ℕ → List Spot
 foundOf t q slot head n = flat (lefts t q slot head) n
-
--- a slot's node keeps the rules, and so do the nodes above it
-pub record Standing (t : List ℕ) (s : Slot) : Type 0 where
-  pub asked : Asked
-  pub ok : nodeOk (s .level) asked (storeOf t (s .block)) ≡ true
-  pub inside : s .block * 2048 + 2048 ≤ length t
-  pub ancestors : Ancestors t (s .path) (ceiling asked)
-  pub deep : s .path .n + s .level ≤ 6
 
 -- v is one more than the promise of the i-th child, which the query admits
 pub record Awaits (t : List ℕ) (q : Query) (s : Slot) (i v : ℕ) : Type 0 where

@@ -1,105 +1,136 @@
 -- What the functions of Top are handed and hand back.
 -- Assumes nothing.
 use mathlib.Core.Path.{_≡_}
-use Prim.Native.Nat.{ℕ, suc, _+_, _*_, _/_, _%_, _≤_, _<_}
-use mathlib.Core.Bool.{Bool, true, false}
+use mathlib.Core.Bool.{true, false}
 use mathlib.Core.Logic.{_⊎_}
 use mathlib.Core.List.{List, [], _∷_, _++_, List·Memᴰ}
+use Prim.Native.Nat.{ℕ, _+_, _-_, _*_, _/_, _%_, _≤_, _<_}
 use lib.ListN.{length, take, drop, getD, set, replicate}
 use lib.IntN.{ℤ}
 use Rattle.octets.specs.Bitmap.{bit, setBit}
-use Rattle.spot.specs.Keys.{rankKey, rankOf}
+use Rattle.octets.specs.Lists.{has}
 use Rattle.spot.specs.Spots.{spotsBytes}
 use Rattle.spot.specs.Query.{topQuery}
 use Rattle.spot.specs.declared.Spot.{Spot}
 use Rattle.spot.specs.declared.Query.{Query}
+use Rattle.block.specs.declared.Entry.{Entry}
 use Rattle.block.specs.declared.Asked.{Asked}
-use Rattle.block.specs.declared.Asked.the-variants.{Root, Child}
+use Rattle.block.specs.declared.Asked.the-variants.{Child}
 use Rattle.block.specs.Table.{tableSized, blocksOf}
-use Rattle.octets.specs.Lists.{has}
 use Rattle.block.specs.Node.{storeOf}
-use Rattle.block.specs.NodeRules.{nodeOk}
-use Rattle.tree.specs.Walk.{broken, finds}
+use Rattle.block.specs.NodeRules.{nodeOk, ValidBlock}
+use Rattle.tree.specs.Walk.{broken}
 use Rattle.tree.specs.Top.{topWalk}
 use Rattle.tree.specs.ReadMap.{readMap}
-use Rattle.tree.proofs.BestFirstTree.{rootOf}
 use Rattle.tree.proofs.BestFirstTop.{Done}
-use Rattle.visit.specs.Visit.{above, waitingAbove, ceiling, Ancestors}
-use Rattle.front.specs.declared.Slot.{Slot}
-use Rattle.front.specs.Frontier.{slotAt, headAt, leftAt, lowAt, kidCount, kidEntry, kidSpan, Best, Cells}
-use Rattle.front.specs.Orders.{Turn, Orderly}
+use Rattle.heap.specs.Heaps.{Heap}
+use Rattle.frontier.specs.declared.Pick.{Pick}
+use Rattle.frontier.specs.declared.KidPick.{KidPick}
+use Rattle.frontier.specs.declared.Place.{Place}
+use Rattle.frontier.specs.Frontier.{Slot, kidCount, kidEntry, placeOf, childSlot, blockBy, slotBy, Chain, Hangs}
+use Rattle.frontier.specs.Picks.{spotCount, Picked, KidBest}
+use Rattle.top.specs.declared.Sizes.{Sizes}
+use Rattle.top.specs.declared.Joined.{Joined}
 use Rattle.top.specs.declared.Fresh.{Fresh}
+use Rattle.top.specs.declared.Given.{Given}
 use Rattle.top.specs.declared.Search.{Search}
 use Rattle.top.specs.declared.TopTally.{TopTally}
-use Rattle.top.specs.Reading.{pendOf, Standing, Going, Under}
-
-abbrev pub cellAt : List ℕ → ℕ → ℕ
-cellAt kids c = getD kids c 0
+use Rattle.top.specs.Reading.{Going}
+use Rattle.top.specs.Rows.{pickRow, kidRow, topKey, topValue, foundIn, headBy, cellBy, Hung, Lowered, PickedUnder, Heads, Kids}
 
 -- ---- a node is read
 
--- a node to be read, and room for a slot
-pub record Readable (t seen : List ℕ) (rows paths orders heads : List (List ℕ)) (ranks kids : List ℕ) (n : ℕ) (s : Slot) (a : Asked) : Type 0 where
-  pub inside : s .block * 2048 + 2048 ≤ length t
-  pub near : s .block < 4096
+-- a node that keeps the rules, and room for its slot
+pub record Joinable (t : List ℕ) (rows kids heads : List (List ℕ)) (z : Sizes) (p : Place) (up : ℕ) : Type 0 where
+  pub few : z .slots < 4096
+  pub row : z .slots < length rows
+  pub kidRoom : z .kids < length kids
+  pub headRoom : z .heads < length heads
+  pub kidHeap : Heap (z .kids) kids
+  pub headHeap : Heap (z .heads) heads
+  pub near : p .block < 4096
+  pub low : up < 65536
+  pub valid : ValidBlock t (p .block)
+  pub chain : Chain t (set rows (z .slots) (p .block ∷ up ∷ [])) (z .slots + 1)
+
+-- the frontier with the node in the next slot
+pub record Added (t : List ℕ) (q : Query) (rows rows' kids kids' heads heads' : List (List ℕ)) (z z' : Sizes) (p : Place) (up : ℕ) : Type 0 where
+  pub slots : z' .slots ≡ z .slots + 1
+  pub rowed : rows' ≡ set rows (z .slots) (p .block ∷ up ∷ [])
+  pub pick : Pick
+  pub picked : Picked t (slotBy t rows' (z .slots) .block) 18446744073709551615 (foundIn t q (slotBy t rows' (z .slots))) pick
+  pub headed : Hung heads (z .heads) (pickRow (z .slots) pick) heads' (z' .heads)
+  pub kid : KidPick
+  pub best : KidBest t (p .block) (p .span) q 18446744073709551615 kid
+  pub hung : Hung kids (z .kids) (kidRow (z .slots) kid) kids' (z' .kids)
+
+-- a node to be read
+pub record Readable (t seen : List ℕ) (rows kids heads : List (List ℕ)) (z : Sizes) (p : Place) (a : Asked) (up : ℕ) : Type 0 where
+  pub inside : p .block * 2048 + 2048 ≤ length t
+  pub near : p .block < 4096
   pub mapped : length seen ≡ 512
-  pub few : n < 4096
-  pub row : n < length rows
-  pub pathed : n < length paths
-  pub ordered : n < length orders
-  pub head : n < length heads
-  pub ranked : n < length ranks
-  pub cells : 8 * n + 8 ≤ length kids
-  pub ancestors : Ancestors t (s .path) (ceiling a)
-  pub deep : s .path .n + s .level ≤ 6
+  pub joins : nodeOk (p .level) a (storeOf t (p .block)) ≡ true → Joinable t rows kids heads z p up
 
--- the frontier with the node in slot n
-pub record Added (t : List ℕ) (q : Query) (seen seen' : List ℕ) (rows rows' paths paths' orders orders' heads heads' : List (List ℕ)) (ranks ranks' kids kids' : List ℕ) (n : ℕ) (s : Slot) (a : Asked) : Type 0 where
-  pub new : bit seen (s .block) ≡ false
-  pub ok : nodeOk (s .level) a (storeOf t (s .block)) ≡ true
-  pub marked : seen' ≡ setBit seen (s .block)
-  pub slots : (j : ℕ) → j < n → slotAt rows' paths' j ≡ slotAt rows paths j
-  pub slotted : slotAt rows' paths' n ≡ s
-  pub headsKept : (j : ℕ) → j < n → headAt heads' j ≡ headAt heads j
-  pub headed : Best 18446744073709551615 (finds q (waitingAbove t (s .path)) (storeOf t (s .block))) (headAt heads' n)
-  pub orderly : Orderly t q rows paths orders heads ranks n → Orderly t q rows' paths' orders' heads' ranks' (n + 1)
-  pub cells : Cells t (s .block) (s .span) q (8 * n) kids kids'
+-- it is read, or it was before, or it breaks a rule
+pub record NodeRead (t : List ℕ) (q : Query) (seen seen' : List ℕ) (rows rows' kids kids' heads heads' : List (List ℕ)) (z : Sizes) (p : Place) (a : Asked) (up : ℕ) (r : Joined) : Type 0 where
+  pub broken : r .ok ≡ false → (bit seen (p .block) ≡ true) ⊎ (nodeOk (p .level) a (storeOf t (p .block)) ≡ false)
+  pub new : r .ok ≡ true → bit seen (p .block) ≡ false
+  pub valid : r .ok ≡ true → nodeOk (p .level) a (storeOf t (p .block)) ≡ true
+  pub marked : r .ok ≡ true → seen' ≡ setBit seen (p .block)
+  pub added : r .ok ≡ true → Added t q rows rows' kids kids' heads heads' z (r .sizes) p up
 
-pub record NodeRead (t : List ℕ) (q : Query) (seen seen' : List ℕ) (rows rows' paths paths' orders orders' heads heads' : List (List ℕ)) (ranks ranks' kids kids' : List ℕ) (n : ℕ) (s : Slot) (a : Asked) (r : Bool) : Type 0 where
-  pub broken : r ≡ false → (bit seen (s .block) ≡ true) ⊎ (nodeOk (s .level) a (storeOf t (s .block)) ≡ false)
-  pub added : r ≡ true → Added t q seen seen' rows rows' paths paths' orders orders' heads heads' ranks ranks' kids kids' n s a
+-- ---- a child is taken
 
--- the root's slot
-pub record Rooted (t : List ℕ) (s : Slot) : Type 0 where
-  pub same : pendOf t s (Root (s .block)) ≡ rootOf t
-  pub inside : s .block * 2048 + 2048 ≤ length t
-  pub near : s .block < 4096
-  pub ancestors : Ancestors t (s .path) (ceiling (Root (s .block)))
-  pub deep : s .path .n + s .level ≤ 6
+-- the slot whose child has the highest key, and the child's slot
+abbrev pub topParent : List ℕ → List (List ℕ) → List (List ℕ) → Slot
+topParent t rows kids = slotBy t rows (topValue kids / 8)
 
--- the slot of the i-th child of s
-pub record Follows (t : List ℕ) (s : Slot) (i : ℕ) (r : Fresh) : Type 0 where
-  pub entry : r .entry ≡ kidEntry t (s .block) i
-  pub block : r .slot .block ≡ kidEntry t (s .block) i .block
-  pub level : suc (r .slot .level) ≡ s .level
-  pub span : r .slot .span ≡ kidSpan t (s .block) (s .span) i
-  pub longer : r .slot .path .n ≡ s .path .n + 1
-  pub path : above (r .slot .path) ≡ above (s .path) ++ (s .block ∷ [])
+abbrev pub topSlot : List ℕ → List (List ℕ) → List (List ℕ) → Slot
+topSlot t rows kids = childSlot t (topParent t rows kids) (topValue kids % 8)
 
--- the child at the cell c can be read into slot n
-pub record NextKid (t seen : List ℕ) (rows paths orders heads : List (List ℕ)) (ranks kids : List ℕ) (n c : ℕ) : Type 0 where
-  pub row : c / 8 < length rows
-  pub path : c / 8 < length paths
-  pub stands : Standing t (slotAt rows paths (c / 8))
-  pub below : c % 8 < kidCount t (slotAt rows paths (c / 8) .block)
-  pub cell : c < length kids
-  pub readable : (f : Fresh) → Follows t (slotAt rows paths (c / 8)) (c % 8) f → Readable t seen rows paths orders heads ranks (set kids c 0) n (f .slot) (Child (f .entry))
+abbrev pub topEntry : List ℕ → List (List ℕ) → List (List ℕ) → Entry
+topEntry t rows kids = kidEntry t (topParent t rows kids .block) (topValue kids % 8)
+
+-- the first row is that of a slot's child
+pub record Takable (t : List ℕ) (rows kids : List (List ℕ)) (m : ℕ) : Type 0 where
+  pub some : 0 < m
+  pub room : m ≤ length kids
+  pub heap : Heap m kids
+  pub key : 0 < topKey kids
+  pub near : topValue kids < 32768
+  pub hangs : Hangs t rows (topValue kids / 8)
+  pub below : topValue kids % 8 < kidCount t (topParent t rows kids .block)
+  pub level : 1 ≤ topParent t rows kids .level
+
+-- it is taken, and the next of its parent's comes in
+pub record Taken (t : List ℕ) (q : Query) (rows kids kids' : List (List ℕ)) (m : ℕ) (r : Fresh) : Type 0 where
+  pub place : r .place ≡ placeOf (topSlot t rows kids)
+  pub entry : r .entry ≡ topEntry t rows kids
+  pub up : r .up ≡ topValue kids
+  pub next : KidPick
+  pub best : KidBest t (topParent t rows kids .block) (topParent t rows kids .span) q (topKey kids - 1) next
+  pub lowered : Lowered kids m (kidRow (topValue kids / 8) next) kids' (r .kids)
+
+-- the sizes with other numbers of children, or of spots
+abbrev pub withKids : Sizes → ℕ → Sizes
+withKids z m = record { slots = z .slots; kids = m; heads = z .heads }
+
+abbrev pub withHeads : Sizes → ℕ → Sizes
+withHeads z m = record { slots = z .slots; kids = z .kids; heads = m }
+
+-- the child of the first row can be read
+pub record NextKid (t : List ℕ) (q : Query) (seen : List ℕ) (rows kids heads : List (List ℕ)) (z : Sizes) : Type 0 where
+  pub takes : Takable t rows kids (z .kids)
+  pub reads : (kids' : List (List ℕ)) (f : Fresh) → Taken t q rows kids kids' (z .kids) f → length kids' ≡ length kids
+      → Readable t seen rows kids' heads (withKids z (f .kids)) (f .place) (Child (f .entry)) (f .up)
 
 -- it is read
-pub record KidRead (t : List ℕ) (q : Query) (seen seen' : List ℕ) (rows rows' paths paths' orders orders' heads heads' : List (List ℕ)) (ranks ranks' kids kids' : List ℕ) (n c : ℕ) (r : Bool) : Type 0 where
+pub record KidRead (t : List ℕ) (q : Query) (seen seen' : List ℕ) (rows rows' kids kids' heads heads' : List (List ℕ)) (z : Sizes) (r : Joined) : Type 0 where
   pub fresh : Fresh
-  pub follows : Follows t (slotAt rows paths (c / 8)) (c % 8) fresh
-  pub read : NodeRead t q seen seen' rows rows' paths paths' orders orders' heads heads' ranks ranks' (set kids c 0) kids' n (fresh .slot) (Child (fresh .entry)) r
+  pub via : List (List ℕ)
+  pub long : length via ≡ length kids
+  pub taken : Taken t q rows kids via (z .kids) fresh
+  pub read : NodeRead t q seen seen' rows rows' via kids' heads heads' (withKids z (fresh .kids)) (fresh .place) (Child (fresh .entry)) (fresh .up) r
 
 -- ---- spots are given
 
@@ -107,54 +138,57 @@ pub record KidRead (t : List ℕ) (q : Query) (seen seen' : List ℕ) (rows rows
 abbrev pub written : ℕ → List Spot → List ℕ → List ℕ
 written room given base = spotsBytes (take room given) ++ drop (12 * length (take room given)) base
 
--- slot j has a next spot, and its order
-pub record Movable (t : List ℕ) (q : Query) (rows paths orders heads : List (List ℕ)) (ranks : List ℕ) (j : ℕ) : Type 0 where
-  pub row : j < length rows
-  pub pathed : j < length paths
-  pub ordered : j < length orders
-  pub head : j < length heads
-  pub ranked : j < length ranks
-  pub stands : Standing t (slotAt rows paths j)
-  pub there : headAt heads j .there ≡ true
-  pub turn : Turn t q (slotAt rows paths j) (getD orders j []) (headAt heads j) (leftAt heads j) (lowAt heads j) (getD ranks j 0)
+-- the first row is that of a slot's spot
+pub record Leads (t : List ℕ) (rows heads : List (List ℕ)) : Type 0 where
+  pub some : 0 < length heads
+  pub slot : topValue heads / 128 < length rows
+  pub valid : ValidBlock t (blockBy rows (topValue heads / 128))
+  pub index : topValue heads % 128 < spotCount t (blockBy rows (topValue heads / 128))
 
--- the next spot of slot j is now the next one under its rank key
-pub record Moved (t : List ℕ) (q : Query) (rows paths orders orders' heads heads' : List (List ℕ)) (ranks ranks' : List ℕ) (j : ℕ) : Type 0 where
-  pub others : (s : ℕ) → (s ≡ j → ⊥) → headAt heads' s ≡ headAt heads s
-  pub next : Under (rankKey (headAt heads j .spot .key)) (finds q (waitingAbove t (slotAt rows paths j .path)) (storeOf t (slotAt rows paths j .block))) (headAt heads' j)
-  pub orderly : (n : ℕ) → j < n → Orderly t q rows paths orders heads ranks n → Orderly t q rows paths orders' heads' ranks' n
+pub record Movable (t : List ℕ) (rows heads : List (List ℕ)) (m : ℕ) : Type 0 where
+  pub some : 0 < m
+  pub room : m ≤ length heads
+  pub heap : Heap m heads
+  pub near : topValue heads / 128 < 4096
+  pub hangs : Hangs t rows (topValue heads / 128)
 
-pub record Givable (t : List ℕ) (q : Query) (out : List ℕ) (rows paths orders heads : List (List ℕ)) (ranks : List ℕ) (n room : ℕ) : Type 0 where
-  pub some : 0 < n
-  pub row : n ≤ length rows
-  pub pathed : n ≤ length paths
-  pub ordered : n ≤ length orders
-  pub head : n ≤ length heads
-  pub ranked : n ≤ length ranks
-  pub stands : (s : ℕ) → s < n → Standing t (slotAt rows paths s)
-  pub orderly : Orderly t q rows paths orders heads ranks n
-  pub fits : 12 * room ≤ length out
+-- the next spot of its slot, the best under its rank key, takes its place
+pub record Moved (t : List ℕ) (q : Query) (rows heads heads' : List (List ℕ)) (m r : ℕ) : Type 0 where
+  pub next : Pick
+  pub under : PickedUnder t (slotBy t rows (topValue heads / 128) .block) (topKey heads) (foundIn t q (slotBy t rows (topValue heads / 128))) next
+  pub lowered : Lowered heads m (pickRow (topValue heads / 128) next) heads' r
 
 -- Top on its way, with these spots given and written, of which there are `count`
-pub record Sofar (t : List ℕ) (x1 x2 : ℤ) (k room : ℕ) (rows paths heads : List (List ℕ)) (cell : ℕ → ℕ) (n : ℕ) (base out blocks : List ℕ) (count : ℕ) : Type 0 where
+pub record Sofar (t : List ℕ) (q : Query) (k room : ℕ) (rows heads : List (List ℕ)) (m n : ℕ) (cell : ℕ → ℕ) (base out blocks : List ℕ) (count : ℕ) : Type 0 where
+  pub pick : ℕ → Pick
+  pub headed : Heads t rows heads m n pick
   pub given : List Spot
-  pub going : Going t x1 x2 k (slotAt rows paths) (headAt heads) cell n given blocks
+  pub going : (x1 x2 : ℤ) → q ≡ topQuery x1 x2 0 → Going t x1 x2 k (slotBy t rows) (headBy t rows pick) cell n given blocks
   pub counted : count ≡ length given
   pub output : out ≡ written room given base
   pub fits : 12 * room ≤ length base
 
 -- from one such state to another
-abbrev pub Passes : List ℕ → Query → ℕ → ℕ → List (List ℕ) → List (List ℕ) → List (List ℕ) → List (List ℕ) → ℕ → ℕ → List ℕ → List ℕ → ℕ → ℕ → Type 0
-Passes t q k room rows paths heads heads' n floor out out' count count' =
-    (x1 x2 : ℤ) (cell : ℕ → ℕ) (base blocks : List ℕ) → q ≡ topQuery x1 x2 0 → ((c : ℕ) → c < 8 * n → cell c ≤ floor)
-    → Sofar t x1 x2 k room rows paths heads cell n base out blocks count
-    → Sofar t x1 x2 k room rows paths heads' cell n base out' blocks count'
+pub record Passes (t : List ℕ) (q : Query) (k room : ℕ) (rows heads heads' : List (List ℕ)) (m m' floor : ℕ) (out out' : List ℕ) (count count' : ℕ) : Type 0 where
+  pub on : (n : ℕ) (cell : ℕ → ℕ) (base blocks : List ℕ) → n ≤ 4096 → Chain t rows n → ((c : ℕ) → c < 8 * n → cell c ≤ floor)
+      → Sofar t q k room rows heads m n cell base out blocks count → Sofar t q k room rows heads' m' n cell base out' blocks count'
+
+-- some state to give from
+pub record Givable (t : List ℕ) (q : Query) (k room : ℕ) (rows heads : List (List ℕ)) (m floor : ℕ) (out : List ℕ) (count : ℕ) : Type 0 where
+  pub n : ℕ
+  pub cell : ℕ → ℕ
+  pub base : List ℕ
+  pub blocks : List ℕ
+  pub few : n ≤ 4096
+  pub chain : Chain t rows n
+  pub low : (c : ℕ) → c < 8 * n → cell c ≤ floor
+  pub sofar : Sofar t q k room rows heads m n cell base out blocks count
+  pub fits : 12 * room ≤ length out
 
 -- the spots above the floor are given, or k
-pub record Gave (t : List ℕ) (q : Query) (k room : ℕ) (rows paths orders orders' heads heads' : List (List ℕ)) (ranks ranks' : List ℕ) (n floor : ℕ) (out out' : List ℕ) (count r : ℕ) : Type 0 where
-  pub passes : Passes t q k room rows paths heads heads' n floor out out' count r
-  pub orderly : Orderly t q rows paths orders' heads' ranks' n
-  pub ends : (k ≤ r) ⊎ ((s : ℕ) → s < n → headAt heads' s .there ≡ true → rankOf (headAt heads' s .spot .key) < floor)
+pub record Gave (t : List ℕ) (q : Query) (k room : ℕ) (rows heads heads' : List (List ℕ)) (m floor : ℕ) (out out' : List ℕ) (count : ℕ) (r : Given) : Type 0 where
+  pub passes : Passes t q k room rows heads heads' m (r .heads) floor out out' count (r .spots)
+  pub ends : (k ≤ r .spots) ⊎ ((r .heads ≡ 0) ⊎ (topKey heads' / 4294967296 < floor))
 
 -- ---- the whole of it
 
@@ -165,28 +199,27 @@ pub record Seen (seen blocks : List ℕ) : Type 0 where
   pub bits : (b : ℕ) → bit seen b ≡ has b blocks
 
 -- Top on its way, with the map of the blocks read
-pub record Swept (t : List ℕ) (x1 x2 : ℤ) (k room : ℕ) (base seen out : List ℕ) (rows paths heads : List (List ℕ)) (kids : List ℕ) (n count : ℕ) : Type 0 where
+pub record Swept (t : List ℕ) (q : Query) (k room : ℕ) (base seen out : List ℕ) (rows kids heads : List (List ℕ)) (z : Sizes) (count : ℕ) : Type 0 where
+  pub some : 1 ≤ z .slots
+  pub chain : Chain t rows (z .slots)
+  pub kid : ℕ → KidPick
+  pub known : Kids t q rows kids (z .kids) (z .slots) kid
   pub blocks : List ℕ
-  pub sofar : Sofar t x1 x2 k room rows paths heads (cellAt kids) n base out blocks count
+  pub sofar : Sofar t q k room rows heads (z .heads) (z .slots) (cellBy t q rows kid) base out blocks count
   pub seenIs : Seen seen blocks
 
 -- the root is read
-pub record Sweepable (t : List ℕ) (q : Query) (seen out : List ℕ) (rows paths orders heads : List (List ℕ)) (ranks kids : List ℕ) (k room : ℕ) : Type 0 where
+pub record Sweepable (t : List ℕ) (q : Query) (seen out : List ℕ) (rows kids heads : List (List ℕ)) (z : Sizes) (k room : ℕ) : Type 0 where
   pub x1 : ℤ
   pub x2 : ℤ
   pub asks : q ≡ topQuery x1 x2 0
-  pub few : blocksOf (length t) ≤ 4096
   pub fits : 12 * room ≤ length out
-  pub slots : 1 ≤ length rows
-  pub pathed : length paths ≡ length rows
-  pub ordered : length orders ≡ length rows
-  pub head : length heads ≡ length rows
-  pub ranked : length ranks ≡ length rows
-  pub cells : length kids ≡ 8 * length rows
-  pub orderly : Orderly t q rows paths orders heads ranks 1
-  pub begun : (y1 y2 : ℤ) → q ≡ topQuery y1 y2 0 → Swept t y1 y2 k room out seen out rows paths heads kids 1 0
+  pub few : length rows ≤ 4096
+  pub kidRows : length kids ≡ length rows
+  pub headRows : length heads ≡ length rows
+  pub begun : Swept t q k room out seen out rows kids heads z 0
 
-pub record Searchable (t : List ℕ) (q : Query) (seen out : List ℕ) (rows paths orders heads : List (List ℕ)) (ranks kids : List ℕ) (k room : ℕ) : Type 0 where
+pub record Searchable (t : List ℕ) (q : Query) (seen out : List ℕ) (rows kids heads : List (List ℕ)) (k room : ℕ) : Type 0 where
   pub x1 : ℤ
   pub x2 : ℤ
   pub asks : q ≡ topQuery x1 x2 0
@@ -195,11 +228,9 @@ pub record Searchable (t : List ℕ) (q : Query) (seen out : List ℕ) (rows pat
   pub some : 0 < k
   pub fits : 12 * room ≤ length out
   pub slots : 1 ≤ length rows
-  pub pathed : length paths ≡ length rows
-  pub ordered : length orders ≡ length rows
-  pub head : length heads ≡ length rows
-  pub ranked : length ranks ≡ length rows
-  pub cells : length kids ≡ 8 * length rows
+  pub few : length rows ≤ 4096
+  pub kidRows : length kids ≡ length rows
+  pub headRows : length heads ≡ length rows
 
 -- Top is at its end: what it gives and what it reads are the definition's
 pub record Ended (t : List ℕ) (x1 x2 : ℤ) (k room : ℕ) (base seen' out' : List ℕ) (spots : ℕ) : Type 0 where

@@ -1,22 +1,42 @@
 // Top: reads best first, and gives the highest spots, the highest first.
 ghost use mathlib.Core.Path.{_≡_};
-ghost use mathlib.Core.Bool.{true, false, cond, _&&_};
+ghost use mathlib.Core.Bool.{true, false, cond};
+ghost use mathlib.Core.List.{[], _∷_};
 ghost use Prim.Native.Nat.{_+_, _*_, _/_, _%_, _≤_, _<_};
-ghost use lib.Dec.{leb, ltb};
-ghost use lib.ListN.{length};
-ghost use Rattle.spot.specs.Keys.{rankOf};
+ghost use lib.Dec.{eqb, ltb};
+ghost use lib.ListN.{length, getD};
 ghost use Rattle.spot.specs.Spots.{putSpot};
-ghost use Rattle.block.specs.Header.{headOf};
-ghost use Rattle.block.specs.HeaderRules.{headerOk};
-ghost use Rattle.block.specs.Table.{tableSized};
-ghost use Rattle.front.specs.Frontier.{slotAt, kidCount};
-ghost use Rattle.top.specs.Reading.{Standing};
-ghost use Rattle.top.specs.Runs.{Readable, NodeRead, Rooted, Follows, NextKid, KidRead, Movable, Moved, Givable, Gave, Sweepable, Searchable, Searched, Runnable, TopRun, TopFront};
+ghost use Rattle.heap.specs.Heaps.{Heap};
+ghost use Rattle.frontier.specs.Frontier.{blockBy, slotBy, Hangs};
+ghost use Rattle.frontier.specs.Picks.{spotBy};
+ghost use Rattle.top.specs.Rows.{pickRow, topKey, topValue, foundIn, Seated, Hung, Lowered, PickedUnder};
+ghost use Rattle.top.specs.Runs.{Joinable, Added, Readable, NodeRead, Takable, Taken, NextKid, KidRead, Leads, Movable, Moved, Givable, Gave, Sweepable, Searchable, Searched, Runnable, TopRun, TopFront};
 
-// A child on its way to a slot, and the entry that leads to it.
+// How many slots there are, and how many rows in the heaps of children and of spots.
+pub struct Sizes {
+    pub slots: usize,
+    pub kids: usize,
+    pub heads: usize,
+}
+
+// A node that was to be read: whether it was, and the sizes then.
+pub struct Joined {
+    pub ok: bool,
+    pub sizes: Sizes,
+}
+
+// A child on its way to a slot: its place and the entry that leads to it, where it hangs, and the rows left in the heap of children.
 pub struct Fresh {
-    pub slot: front::Slot,
+    pub place: frontier::Place,
     pub entry: block::Entry,
+    pub up: usize,
+    pub kids: usize,
+}
+
+// How many spots are given, and the rows left in the heap of spots.
+pub struct Given {
+    pub spots: usize,
+    pub heads: usize,
 }
 
 // A search: whether it ended, or would have needed more slots, and how many spots it gave.
@@ -32,144 +52,203 @@ pub struct TopTally {
     pub spots: usize,
 }
 
-// Reads a node into slot n; false if it was read before or breaks a rule.
+// The row of slot s's best spot, if it has one.
+fn head_row(s: usize, p: frontier::Pick) -> [u64; 2]
+    requires { ⌜ Seated s p ⌝ }
+    ensures { λ r. ⌜ cond (p .there) r [] ≡ pickRow s p ⌝ }
+{
+    if !p.there {
+        return [0, 0];
+    }
+    [p.rank, (128 * s + p.at) as u64]
+}
+
+// A slot more in a heap of m rows: its row x comes in, if it has one.
+fn hang(h: &mut [[u64; 2]], m: usize, some: bool, x: [u64; 2]) -> usize
+    requires { ⌜ (m < length (now h)) × Heap m (now h) ⌝ }
+    ensures { λ r. ⌜ Hung (now (h .entry)) m (cond some x []) (now (h .exit)) r ⌝ }
+{
+    if !some {
+        return m;
+    }
+    heap::push(h, m, x);
+    m + 1
+}
+
+// The slot of the first row takes the row x in its place, or has none any more.
+fn lower(h: &mut [[u64; 2]], m: usize, some: bool, x: [u64; 2]) -> usize
+    requires { ⌜ (0 < m) × (m ≤ length (now h)) × Heap m (now h) ⌝ }
+    ensures { λ r. ⌜ Lowered (now (h .entry)) m (cond some x []) (now (h .exit)) r ⌝ }
+{
+    if !some {
+        heap::pop_top(h, m);
+        return m - 1;
+    }
+    heap::replace_top(h, m, x);
+    m
+}
+
+// A node that keeps the rules comes into the next slot, its best spot and its best child into the heaps.
+fn join(
+    t: &[u8],
+    rows: &mut [[u16; 2]],
+    kids: &mut [[u64; 2]],
+    heads: &mut [[u64; 2]],
+    z: Sizes,
+    place: frontier::Place,
+    up: usize,
+    q: spot::Query,
+) -> Sizes
+    requires { ⌜ Joinable (now t) (now rows) (now kids) (now heads) z place up ⌝ }
+    ensures { λ r. ⌜ Added (now (t .entry)) q (now (rows .entry)) (now (rows .exit)) (now (kids .entry)) (now (kids .exit)) (now (heads .entry)) (now (heads .exit)) z r place up ⌝ }
+{
+    let n = z.slots;
+    rows[n] = [place.block as u16, up as u16];
+    let best = frontier::best_below(t, rows, n, q, 18446744073709551615);
+    let head = head_row(n, best);
+    let spots = hang(heads, z.heads, best.there, head);
+    let kid = frontier::best_kid(t, place.block, place.span, q, 18446744073709551615);
+    let row = [kid.key, (8 * n + kid.at) as u64];
+    let unread = hang(kids, z.kids, 0 < kid.key, row);
+    Sizes {
+        slots: n + 1,
+        kids: unread,
+        heads: spots,
+    }
+}
+
+// Reads a node into the next slot; not ok if it was read before or breaks a rule.
 fn read_node(
     t: &[u8],
     seen: &mut [u8],
-    rows: &mut [[u64; 6]],
-    paths: &mut [[usize; 8]],
-    orders: &mut [[u8; 64]],
-    heads: &mut [[u64; 5]],
-    ranks: &mut [u64],
-    kids: &mut [u64],
-    n: usize,
-    s: front::Slot,
+    rows: &mut [[u16; 2]],
+    kids: &mut [[u64; 2]],
+    heads: &mut [[u64; 2]],
+    z: Sizes,
+    place: frontier::Place,
     asked: block::Asked,
+    up: usize,
     q: spot::Query,
-) -> bool
-    requires { ⌜ Readable (now t) (now seen) (now rows) (now paths) (now orders) (now heads) (now ranks) (now kids) n s asked ⌝ }
-    ensures { λ r. ⌜ NodeRead (now (t .entry)) q (now (seen .entry)) (now (seen .exit)) (now (rows .entry)) (now (rows .exit)) (now (paths .entry)) (now (paths .exit)) (now (orders .entry)) (now (orders .exit)) (now (heads .entry)) (now (heads .exit)) (now (ranks .entry)) (now (ranks .exit)) (now (kids .entry)) (now (kids .exit)) n s asked r ⌝ }
+) -> Joined
+    requires { ⌜ Readable (now t) (now seen) (now rows) (now kids) (now heads) z place asked up ⌝ }
+    ensures { λ r. ⌜ NodeRead (now (t .entry)) q (now (seen .entry)) (now (seen .exit)) (now (rows .entry)) (now (rows .exit)) (now (kids .entry)) (now (kids .exit)) (now (heads .entry)) (now (heads .exit)) z place asked up r ⌝ }
 {
-    if octets::test_bit(seen, s.block) {
-        return false;
+    if octets::test_bit(seen, place.block) {
+        return Joined {
+            ok: false,
+            sizes: z,
+        };
     }
-    if !block::block_ok(t, s.block, s.level, asked) {
-        return false;
+    if !block::block_ok(t, place.block, place.level, asked) {
+        return Joined {
+            ok: false,
+            sizes: z,
+        };
     }
-    octets::set_bit(seen, s.block);
-    front::put_slot(rows, paths, n, s);
-    let order = front::order_of(t, s.block, q, s.path);
-    let left = order.n;
-    let low = order.low;
-    let at = order.at;
-    orders[n] = at;
-    let next = front::next_by(t, s.block, orders, n, left);
-    front::put_head(heads, ranks, n, next, left, low);
-    front::open_kids(t, kids, 8 * n, s.block, s.span, q);
-    true
+    octets::set_bit(seen, place.block);
+    let sizes = join(t, rows, kids, heads, z, place, up, q);
+    Joined { ok: true, sizes }
 }
 
-// The slot of the root.
-fn root_slot(t: &[u8]) -> front::Slot
-    requires { ⌜ (tableSized (length (now t)) ≡ true) × (headerOk (length (now t)) (headOf (now t)) ≡ true) ⌝ }
-    ensures { λ r. ⌜ Rooted (now (t .entry)) r ⌝ }
+// The child with the highest key goes out of the heap, and the next of the same parent comes in, if there is one.
+fn take_kid(t: &[u8], rows: &[[u16; 2]], kids: &mut [[u64; 2]], m: usize, q: spot::Query) -> Fresh
+    requires { ⌜ Takable (now t) (now rows) (now kids) m ⌝ }
+    ensures { λ r. ⌜ Taken (now (t .entry)) q (now (rows .entry)) (now (kids .entry)) (now (kids .exit)) m r ⌝ }
 {
-    let block = block::root_of(t);
-    let level = block::levels_of(t) - 1;
-    let span = visit::root_span();
-    let path = visit::no_path();
-    front::Slot {
-        block,
-        level,
-        span,
-        path,
-    }
-}
-
-// The slot of the child whose cell is c.
-fn next_kid(t: &[u8], rows: &[[u64; 6]], paths: &[[usize; 8]], c: usize) -> Fresh
-    requires { ⌜ (c / 8 < length (now rows)) × (c / 8 < length (now paths)) × Standing (now t) (slotAt (now rows) (now paths) (c / 8)) × (c % 8 < kidCount (now t) (slotAt (now rows) (now paths) (c / 8) .block)) ⌝ }
-    ensures { λ r. ⌜ Follows (now (t .entry)) (slotAt (now (rows .entry)) (now (paths .entry)) (c / 8)) (c % 8) r ⌝ }
-{
-    let s = front::slot_at(rows, paths, c / 8);
-    let kid = front::kid_of(t, s.block, c % 8, s.span);
-    let path = visit::step(s.path, s.block);
+    let row = kids[0];
+    let up = row[1] as usize;
+    let s = up / 8;
+    let parent = frontier::place_at(t, rows, s);
+    let next = frontier::best_kid(t, parent.block, parent.span, q, row[0] - 1);
+    let lower_row = [next.key, (8 * s + next.at) as u64];
+    let left = lower(kids, m, 0 < next.key, lower_row);
+    let kid = frontier::kid_of(t, parent.block, up % 8, parent.span);
     let entry = kid.entry;
     let span = kid.span;
-    let slot = front::Slot {
+    let place = frontier::Place {
         block: entry.block,
-        level: s.level - 1,
+        level: parent.level - 1,
         span,
-        path,
     };
-    Fresh { slot, entry }
+    Fresh {
+        place,
+        entry,
+        up,
+        kids: left,
+    }
 }
 
-// Clears the cell c and reads its child into slot n; false if that fails.
+// Reads the child with the highest key into the next slot.
 fn read_kid(
     t: &[u8],
     seen: &mut [u8],
-    rows: &mut [[u64; 6]],
-    paths: &mut [[usize; 8]],
-    orders: &mut [[u8; 64]],
-    heads: &mut [[u64; 5]],
-    ranks: &mut [u64],
-    kids: &mut [u64],
-    n: usize,
-    c: usize,
+    rows: &mut [[u16; 2]],
+    kids: &mut [[u64; 2]],
+    heads: &mut [[u64; 2]],
+    z: Sizes,
     q: spot::Query,
-) -> bool
-    requires { ⌜ NextKid (now t) (now seen) (now rows) (now paths) (now orders) (now heads) (now ranks) (now kids) n c ⌝ }
-    ensures { λ r. ⌜ KidRead (now (t .entry)) q (now (seen .entry)) (now (seen .exit)) (now (rows .entry)) (now (rows .exit)) (now (paths .entry)) (now (paths .exit)) (now (orders .entry)) (now (orders .exit)) (now (heads .entry)) (now (heads .exit)) (now (ranks .entry)) (now (ranks .exit)) (now (kids .entry)) (now (kids .exit)) n c r ⌝ }
+) -> Joined
+    requires { ⌜ NextKid (now t) q (now seen) (now rows) (now kids) (now heads) z ⌝ }
+    ensures { λ r. ⌜ KidRead (now (t .entry)) q (now (seen .entry)) (now (seen .exit)) (now (rows .entry)) (now (rows .exit)) (now (kids .entry)) (now (kids .exit)) (now (heads .entry)) (now (heads .exit)) z r ⌝ }
 {
-    let kid = next_kid(t, rows, paths, c);
-    let slot = kid.slot;
+    let kid = take_kid(t, rows, kids, z.kids, q);
+    let place = kid.place;
     let entry = kid.entry;
-    kids[c] = 0;
+    let sizes = Sizes {
+        slots: z.slots,
+        kids: kid.kids,
+        heads: z.heads,
+    };
     read_node(
         t,
         seen,
         rows,
-        paths,
-        orders,
-        heads,
-        ranks,
         kids,
-        n,
-        slot,
+        heads,
+        sizes,
+        place,
         block::Asked::Child(entry),
+        kid.up,
         q,
     )
 }
 
-// Slot j's next spot is given: the one after it in its order takes its place, and after the last point the highest insert.
-fn move_on(
-    t: &[u8],
-    rows: &[[u64; 6]],
-    paths: &[[usize; 8]],
-    orders: &mut [[u8; 64]],
-    heads: &mut [[u64; 5]],
-    ranks: &mut [u64],
-    j: usize,
-    q: spot::Query,
-)
-    requires { ⌜ Movable (now t) q (now rows) (now paths) (now orders) (now heads) (now ranks) j ⌝ }
-    ensures { λ u. ⌜ Moved (now (t .entry)) q (now (rows .entry)) (now (paths .entry)) (now (orders .entry)) (now (orders .exit)) (now (heads .entry)) (now (heads .exit)) (now (ranks .entry)) (now (ranks .exit)) j ⌝ }
+// The spot at the head of the heap of spots.
+fn lead(t: &[u8], rows: &[[u16; 2]], heads: &[[u64; 2]]) -> spot::Spot
+    requires { ⌜ Leads (now t) (now rows) (now heads) ⌝ }
+    ensures { λ r. ⌜ r ≡ spotBy (now (t .entry)) (blockBy (now (rows .entry)) (topValue (now (heads .entry)) / 128)) (topValue (now (heads .entry)) % 128) ⌝ }
 {
-    let s = front::slot_at(rows, paths, j);
-    let left = front::left_at(heads, j) - 1;
-    let low = front::low_at(heads, j);
-    if (left == 0) & !low {
-        let order = front::low_order(t, s.block, q, s.path);
-        let n = order.n;
-        let at = order.at;
-        orders[j] = at;
-        let first = front::next_by(t, s.block, orders, j, n);
-        front::put_head(heads, ranks, j, first, n, true);
-        return;
+    let row = heads[0];
+    let v = row[1] as usize;
+    let slot = rows[v / 128];
+    frontier::spot_by(t, slot[0] as usize, v % 128)
+}
+
+// The best spot of slot i under the rank key r.
+fn next_below(t: &[u8], rows: &[[u16; 2]], i: usize, q: spot::Query, r: u64) -> frontier::Pick
+    requires { ⌜ Hangs (now t) (now rows) i ⌝ }
+    ensures { λ p. ⌜ PickedUnder (now (t .entry)) (slotBy (now (t .entry)) (now (rows .entry)) i .block) r (foundIn (now (t .entry)) q (slotBy (now (t .entry)) (now (rows .entry)) i)) p ⌝ }
+{
+    if r == 0 {
+        return frontier::Pick {
+            there: false,
+            rank: 0,
+            at: 0,
+        };
     }
-    let next = front::next_by(t, s.block, orders, j, left);
-    front::put_head(heads, ranks, j, next, left, low);
+    frontier::best_below(t, rows, i, q, r - 1)
+}
+
+// The first spot is given: the next one of its slot takes its place, if there is one.
+fn move_on(t: &[u8], rows: &[[u16; 2]], heads: &mut [[u64; 2]], m: usize, q: spot::Query) -> usize
+    requires { ⌜ Movable (now t) (now rows) (now heads) m ⌝ }
+    ensures { λ r. ⌜ Moved (now (t .entry)) q (now (rows .entry)) (now (heads .entry)) (now (heads .exit)) m r ⌝ }
+{
+    let row = heads[0];
+    let s = row[1] as usize / 128;
+    let next = next_below(t, rows, s, q, row[0]);
+    let head = head_row(s, next);
+    lower(heads, m, next.there, head)
 }
 
 // Writes the j-th spot, if there is room.
@@ -182,43 +261,53 @@ fn put_out(out: &mut [u8], j: usize, room: usize, s: spot::Spot)
     }
 }
 
-// There is a spot, and its rank is not under the floor.
-fn clears(h: front::Next, floor: u64) -> bool
-    ensures { λ r. ⌜ r ≡ h .there && leb floor (rankOf (h .spot .key)) ⌝ }
-{
-    h.there & (floor <= spot::rank_key(h.spot.key) / 4294967296)
-}
-
 // Gives spots, the highest first, while they are not under the floor, until k are given; `given` were before.
 fn give_above(
     t: &[u8],
-    rows: &[[u64; 6]],
-    paths: &[[usize; 8]],
-    orders: &mut [[u8; 64]],
-    heads: &mut [[u64; 5]],
-    ranks: &mut [u64],
-    n: usize,
+    rows: &[[u16; 2]],
+    heads: &mut [[u64; 2]],
+    m: usize,
     q: spot::Query,
     floor: u64,
     given: usize,
     k: usize,
     out: &mut [u8],
     room: usize,
-) -> usize
-    requires { ⌜ Givable (now t) q (now out) (now rows) (now paths) (now orders) (now heads) (now ranks) n room ⌝ }
-    ensures { λ r. ⌜ Gave (now (t .entry)) q k room (now (rows .entry)) (now (paths .entry)) (now (orders .entry)) (now (orders .exit)) (now (heads .entry)) (now (heads .exit)) (now (ranks .entry)) (now (ranks .exit)) n floor (now (out .entry)) (now (out .exit)) given r ⌝ }
+) -> Given
+    requires { ⌜ Givable (now t) q k room (now rows) (now heads) m floor (now out) given ⌝ }
+    ensures { λ r. ⌜ Gave (now (t .entry)) q k room (now (rows .entry)) (now (heads .entry)) (now (heads .exit)) m floor (now (out .entry)) (now (out .exit)) given r ⌝ }
 {
     let mut j = given;
-    while j < k {
-        let lead = front::lead_of(heads, ranks, n);
-        if !clears(lead.next, floor) {
-            return j;
+    let mut left = m;
+    while (j < k) & (0 < left) {
+        let row = heads[0];
+        if row[0] / 4294967296 < floor {
+            return Given {
+                spots: j,
+                heads: left,
+            };
         }
-        put_out(out, j, room, lead.next.spot);
-        move_on(t, rows, paths, orders, heads, ranks, lead.slot, q);
+        let s = lead(t, rows, heads);
+        put_out(out, j, room, s);
+        left = move_on(t, rows, heads, left, q);
         j += 1;
     }
-    j
+    Given {
+        spots: j,
+        heads: left,
+    }
+}
+
+// One more than the highest rank that an unread child promises, 0 where there is none.
+fn floor_of(kids: &[[u64; 2]], m: usize) -> u64
+    requires { ⌜ m ≤ length (now kids) ⌝ }
+    ensures { λ r. ⌜ r ≡ cond (eqb m 0) 0 (topKey (now (kids .entry)) / 65536) ⌝ }
+{
+    if m == 0 {
+        return 0;
+    }
+    let row = kids[0];
+    row[0] / 65536
 }
 
 // A search that gives nothing.
@@ -236,41 +325,25 @@ fn stops(short: bool) -> Search
 fn sweep(
     t: &[u8],
     seen: &mut [u8],
-    rows: &mut [[u64; 6]],
-    paths: &mut [[usize; 8]],
-    orders: &mut [[u8; 64]],
-    heads: &mut [[u64; 5]],
-    ranks: &mut [u64],
-    kids: &mut [u64],
+    rows: &mut [[u16; 2]],
+    kids: &mut [[u64; 2]],
+    heads: &mut [[u64; 2]],
+    start: Sizes,
     q: spot::Query,
     k: usize,
     out: &mut [u8],
     room: usize,
 ) -> Search
-    requires { ⌜ Sweepable (now t) q (now seen) (now out) (now rows) (now paths) (now orders) (now heads) (now ranks) (now kids) k room ⌝ }
+    requires { ⌜ Sweepable (now t) q (now seen) (now out) (now rows) (now kids) (now heads) start k room ⌝ }
     ensures { λ r. ⌜ Searched (now (t .entry)) q k room (length (now (rows .entry))) (now (out .entry)) (now (seen .exit)) (now (out .exit)) r ⌝ }
 {
     let cap = rows.len();
-    let mut n = 1;
+    let mut z = start;
     let mut given = 0;
-    while n < cap {
-        let c = front::highest(kids, 8 * n);
-        let floor = kids[c];
-        given = give_above(
-            t,
-            rows,
-            paths,
-            orders,
-            heads,
-            ranks,
-            n,
-            q,
-            floor,
-            given,
-            k,
-            out,
-            room,
-        );
+    while z.slots < cap {
+        let floor = floor_of(kids, z.kids);
+        let g = give_above(t, rows, heads, z.heads, q, floor, given, k, out, room);
+        given = g.spots;
         if (k <= given) | (floor == 0) {
             octets::set_bit(seen, 0);
             return Search {
@@ -279,10 +352,17 @@ fn sweep(
                 spots: given,
             };
         }
-        if !read_kid(t, seen, rows, paths, orders, heads, ranks, kids, n, c, q) {
+        let sizes = Sizes {
+            slots: z.slots,
+            kids: z.kids,
+            heads: g.heads,
+        };
+        let next = read_kid(t, seen, rows, kids, heads, sizes, q);
+        if !next.ok {
             return stops(false);
         }
-        n += 1;
+        let more = next.sizes;
+        z = more;
     }
     stops(true)
 }
@@ -295,54 +375,43 @@ fn look(
     k: usize,
     out: &mut [u8],
     room: usize,
-    rows: &mut [[u64; 6]],
-    paths: &mut [[usize; 8]],
-    orders: &mut [[u8; 64]],
-    heads: &mut [[u64; 5]],
-    ranks: &mut [u64],
-    kids: &mut [u64],
+    rows: &mut [[u16; 2]],
+    kids: &mut [[u64; 2]],
+    heads: &mut [[u64; 2]],
 ) -> Search
-    requires { ⌜ Searchable (now t) q (now seen) (now out) (now rows) (now paths) (now orders) (now heads) (now ranks) (now kids) k room ⌝ }
+    requires { ⌜ Searchable (now t) q (now seen) (now out) (now rows) (now kids) (now heads) k room ⌝ }
     ensures { λ r. ⌜ Searched (now (t .entry)) q k room (length (now (rows .entry))) (now (out .entry)) (now (seen .exit)) (now (out .exit)) r ⌝ }
 {
     if !block::header_ok(t) {
         return stops(false);
     }
-    let root = root_slot(t);
-    if !read_node(
+    let root = frontier::root_place(t);
+    let none = Sizes {
+        slots: 0,
+        kids: 0,
+        heads: 0,
+    };
+    let first = read_node(
         t,
         seen,
         rows,
-        paths,
-        orders,
-        heads,
-        ranks,
         kids,
-        0,
+        heads,
+        none,
         root,
         block::Asked::Root(root.block),
+        0,
         q,
-    ) {
+    );
+    if !first.ok {
         return stops(false);
     }
-    sweep(
-        t,
-        seen,
-        rows,
-        paths,
-        orders,
-        heads,
-        ranks,
-        kids,
-        q,
-        k,
-        out,
-        room,
-    )
+    let sizes = first.sizes;
+    sweep(t, seen, rows, kids, heads, sizes, q, k, out, room)
 }
 
 // Top of a table, with a slot for every block that a table may have.
-// Its frame takes 1.2 MB, so it has one caller: inlined at two, it would lie on the stack twice.
+// Its frame takes 148 KB, so it has one caller: inlined at two, it would lie on the stack twice.
 fn wide_run(
     t: &[u8],
     seen: &mut [u8],
@@ -354,26 +423,10 @@ fn wide_run(
     requires { ⌜ Runnable (now t) q (now seen) (now out) k room ⌝ }
     ensures { λ r. ⌜ TopRun (now (t .entry)) q k room (now (out .entry)) (now (seen .exit)) (now (out .exit)) r ⌝ }
 {
-    let mut rows = [[0u64; 6]; 4096];
-    let mut paths = [[0usize; 8]; 4096];
-    let mut orders = [[0u8; 64]; 4096];
-    let mut heads = [[0u64; 5]; 4096];
-    let mut ranks = [0u64; 4096];
-    let mut kids = [0u64; 32768];
-    let all = look(
-        t,
-        seen,
-        q,
-        k,
-        out,
-        room,
-        &mut rows,
-        &mut paths,
-        &mut orders,
-        &mut heads,
-        &mut ranks,
-        &mut kids,
-    );
+    let mut rows = [[0u16; 2]; 4096];
+    let mut kids = [[0u64; 2]; 4096];
+    let mut heads = [[0u64; 2]; 4096];
+    let all = look(t, seen, q, k, out, room, &mut rows, &mut kids, &mut heads);
     TopTally {
         ok: all.ok,
         spots: all.spots,
@@ -392,26 +445,10 @@ pub fn top_run(
     requires { ⌜ Runnable (now t) q (now seen) (now out) k room ⌝ }
     ensures { λ r. ⌜ TopFront (now (t .entry)) q k room (now (out .entry)) (now (seen .exit)) (now (out .exit)) r ⌝ }
 {
-    let mut rows = [[0u64; 6]; 128];
-    let mut paths = [[0usize; 8]; 128];
-    let mut orders = [[0u8; 64]; 128];
-    let mut heads = [[0u64; 5]; 128];
-    let mut ranks = [0u64; 128];
-    let mut kids = [0u64; 1024];
-    let some = look(
-        t,
-        seen,
-        q,
-        k,
-        out,
-        room,
-        &mut rows,
-        &mut paths,
-        &mut orders,
-        &mut heads,
-        &mut ranks,
-        &mut kids,
-    );
+    let mut rows = [[0u16; 2]; 128];
+    let mut kids = [[0u64; 2]; 128];
+    let mut heads = [[0u64; 2]; 128];
+    let some = look(t, seen, q, k, out, room, &mut rows, &mut kids, &mut heads);
     if !some.short {
         return TopTally {
             ok: some.ok,

@@ -1,12 +1,12 @@
 -- `top::put_out` meets its contract.
 -- Assumes nothing.
-use Rattle.spot.specs.Spots.{putSpot}
-use borrow.Author.Tests.{lt-ltb, le-ltb}
-use denote.Ref.{now}
-use Prim.Native.Nat.{_*_}
 use mathlib.Core.Bool.{Bool, cond}
 use mathlib.Core.Path.{ap, sym, _∙_}
+use Prim.Native.Nat.{_*_}
+use denote.Ref.{now}
+use borrow.Author.Tests.{lt-ltb, le-ltb}
 use borrow.Author.Needs.{needs}
+use Rattle.spot.specs.Spots.{putSpot}
 use Rattle.top.proofs.put_out.Statement.{statement}
 use Rattle.top.proofs.put_out.Tie as tie
 

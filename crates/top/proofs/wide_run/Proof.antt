@@ -1,12 +1,10 @@
 -- `top::wide_run` meets its contract: a table needs no more slots.
 -- Assumes nothing.
-use mathlib.Core.Path.{refl}
-use lib.ListN.{replicate, length-replicate}
 use Prim.Native.Nat.{ℕ}
-use Rattle.top.proofs.Sweeps.{run-wide, searched-as}
-use Rattle.top.proofs.Cleared.{look-ready}
-use borrow.Author.Needs.{needs}
 use native.Mathlib.Omega.{arith}
+use lib.ListN.{replicate, length-replicate}
+use borrow.Author.Needs.{needs}
+use Rattle.top.proofs.Sweeps.{look-ready, run-wide, searched-as}
 use Rattle.top.proofs.wide_run.Statement.{statement}
 use Rattle.top.proofs.wide_run.Tie as tie
 
@@ -19,17 +17,8 @@ slice-aggregate-look-2 c = search needs
 slice-aggregate-look-3 : tie.Need-slice-aggregate-look-3
 slice-aggregate-look-3 c = search needs
 
-slice-aggregate-look-4 : tie.Need-slice-aggregate-look-4
-slice-aggregate-look-4 c = search needs
-
-slice-aggregate-look-5 : tie.Need-slice-aggregate-look-5
-slice-aggregate-look-5 c = search needs
-
-slice-aggregate-look-6 : tie.Need-slice-aggregate-look-6
-slice-aggregate-look-6 c = search needs
-
 look-requires : tie.Need-look-requires
-look-requires c κs = look-ready 4096 32768 (omega arith) refl (c .before .before .before .before .before .before .before .before .before .before .before .pre)
+look-requires c κs = look-ready 4096 (omega arith) (omega arith) (c .before .before .before .before .before .before .before .before .pre)
 
 same-length : tie.Need-same-length
 same-length c = search needs
@@ -38,7 +27,7 @@ same-length-2 : tie.Need-same-length-2
 same-length-2 c = search needs
 
 returns : tie.Need-returns
-returns c = run-wide (searched-as (length-replicate 4096 (replicate {A = ℕ} 6 0)) (c .before .before .before .before .before .before .before .before .before .before .look .ensures))
+returns c = run-wide (searched-as (length-replicate 4096 (replicate {A = ℕ} 2 0)) (c .before .before .before .before .before .before .before .look .ensures))
 
 pub wide-run-spec : {M : Type 1} → statement M
 wide-run-spec =
@@ -47,9 +36,6 @@ wide-run-spec =
     slice-aggregate-look
     slice-aggregate-look-2
     slice-aggregate-look-3
-    slice-aggregate-look-4
-    slice-aggregate-look-5
-    slice-aggregate-look-6
     look-requires
     same-length
     same-length-2

@@ -1,2 +1,0 @@
-pub mod Frontier
-pub mod Orders

@@ -1,0 +1,5 @@
+pub mod Spots
+pub mod Kids
+pub mod Chains
+mod Bests
+mod Waits

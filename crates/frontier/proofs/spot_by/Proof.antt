@@ -1,0 +1,80 @@
+-- `frontier::spot_by` meets its contract.
+-- Assumes nothing.
+use Rattle.frontier.proofs.Spots.{Sizes, part-sizes, spots-fit}
+use Rattle.frontier.specs.Picks.{spotsAt}
+use Rattle.spot.specs.Spots.{spotAt}
+use denote.Ref.{now}
+use lib.ListN.{length}
+use Prim.Native.Nat.{ℕ, _+_, _*_, _≤_}
+use mathlib.Core.Path.{_≡_, ap, _∙_}
+use borrow.Author.Needs.{needs}
+use native.Mathlib.Omega.{arith}
+use Rattle.frontier.proofs.spot_by.Statement.{statement}
+use Rattle.frontier.proofs.spot_by.Tie as tie
+
+-- the node's numbers
+known : (c : tie.After-front-of) → let a = c .before .before .before .args in Sizes (now (a .t)) (a .b) (c .front-of .result)
+known c = let s = c .before .before .before in part-sizes (now (s .args .t)) (s .args .b) (s .pre .0) (c .front-of .ensures .0)
+
+-- where its spots begin
+start : (c : tie.After-points-from) → let a = c .before .before .before .before .args in a .b * 2048 + c .points-from .result ≡ spotsAt (now (a .t)) (a .b)
+start c = omega (arith, known (c .before) .children, c .points-from .ensures)
+
+-- the spot lies in the table
+few : (c : tie.After-points-from) → let a = c .before .before .before .before .args in spotsAt (now (a .t)) (a .b) + 12 * a .j + 12 ≤ length (now (a .t))
+few c = let s = c .before .before .before .before in omega (arith, s .pre .0 .inside, spots-fit (now (s .args .t)) (s .args .b) (s .pre .0) (s .args .j) (s .pre .1))
+
+mul-from : tie.Need-mul-from
+mul-from c = search needs
+
+add-to : tie.Need-add-to
+add-to c = search needs
+
+sub-front-of : tie.Need-sub-front-of
+sub-front-of c = search needs
+
+part-front-of-start : tie.Need-part-front-of-start
+part-front-of-start c = search needs
+
+part-front-of-end : tie.Need-part-front-of-end
+part-front-of-end c = search needs
+
+front-of-requires : tie.Need-front-of-requires
+front-of-requires c κs = search needs
+
+points-from-requires : tie.Need-points-from-requires
+points-from-requires c κs = omega (arith, known c .runs .used)
+
+add-read-spot : tie.Need-add-read-spot
+add-read-spot c = search needs
+
+mul-read-spot : tie.Need-mul-read-spot
+mul-read-spot c = omega (arith, few c)
+
+add-read-spot-2 : tie.Need-add-read-spot-2
+add-read-spot-2 c = omega (arith, few c, start c)
+
+read-spot-requires : tie.Need-read-spot-requires
+read-spot-requires c κs = omega (arith, few c, start c)
+
+returns : tie.Need-returns
+returns c =
+    let a = c .before .before .before .before .before .args in
+    c .read-spot .ensures ∙ ap (λ (x : ℕ). spotAt (now (a .t)) (x + 12 * a .j)) (start (c .before))
+
+pub spot-by-spec : {M : Type 1} → statement M
+spot-by-spec =
+    tie.close
+    (tie.spec
+    mul-from
+    add-to
+    sub-front-of
+    part-front-of-start
+    part-front-of-end
+    front-of-requires
+    points-from-requires
+    add-read-spot
+    mul-read-spot
+    add-read-spot-2
+    read-spot-requires
+    returns)
