@@ -8,25 +8,26 @@ use Prim.Native.Nat.{ℕ, zero, suc, _+_, _-_, _*_, _≤_, _<_}
 use native.Mathlib.Numerals.{add-one}
 use native.Mathlib.Nat.{mul-suc, mul-zero}
 use native.Mathlib.Omega.{arith}
-use lib.Dec.{eqb}
+use lib.Dec.{eqb, leb}
 use lib.ListN.{length, take, getD, set, replicate, length-append, length-set, length-replicate, getD-replicate, List·getD-eq-default}
 use lib.Seq.{take-suc, take-all, getD-set-same, getD-set-other, getD-take}
-use borrow.Author.Tests.{ne-eqb}
+use borrow.Author.Tests.{ne-eqb, eqb-true, leb-true, le-leb}
 use Rattle.octets.specs.Lists.{has, keep, records, rising}
 use Rattle.octets.proofs.Order.{same-or-not, less-or-not}
 use Rattle.octets.proofs.Records.{left, left-cons, length-records, records-at, records-append, records-more}
 use Rattle.octets.proofs.Rising.{rising-rest, rising-make, rising-least, rising-right}
 use Rattle.octets.proofs.Sets.{has-append, has-not}
-use Rattle.octets.proofs.Tests.{keep-append}
+use Rattle.octets.proofs.Tests.{keep-append, and-left, and-right, and-both}
 use Rattle.spot.specs.Spots.{keyAt, spotAt}
-use Rattle.spot.specs.Query.{wantsKey}
+use Rattle.spot.specs.Keys.{rankOf}
+use Rattle.spot.specs.Query.{placed, wantsKey}
 use Rattle.spot.specs.declared.Spot.{Spot}
 use Rattle.spot.specs.declared.Query.{Query}
 use Rattle.block.specs.Node.{storeOf}
 use Rattle.block.proofs.Shut.{all2}
 use Rattle.tree.specs.Walk.{takes, takesKey}
 use Rattle.visit.specs.declared.Path.{Path}
-use Rattle.visit.specs.Visit.{above, waiting, waitingBy, waitingAbove, keysFrom, belowIn, taken, chosen, marksIn, Wanted, Struck, Marks}
+use Rattle.visit.specs.Visit.{above, waiting, waitingBy, waitingAbove, keysFrom, belowIn, taken, chosen, marksIn, AllWanted, FirstMarks, Wanted, Struck, Marks}
 use Rattle.visit.proofs.Counts.{spot-key}
 use Rattle.visit.proofs.Paths.{waiting-append, path-length}
 use Rattle.visit.proofs.Search.{run-down, run-at, run-rises}
@@ -61,6 +62,47 @@ module _ (t : List ℕ) (at : ℕ) (q : Query) where
             (same-or-not j i);
         rest = λ j h. getD-set-other m i j b false (λ s. omega arith) ∙ v .rest j (omega arith);
       }
+
+-- ---- all of them
+
+pub first-none : FirstMarks 0 (replicate 64 false)
+first-none =
+    let none = wanted-none [] 0 (record { from = 0; last = 0; least = 0 }) in
+    record {
+      sized = none .sized;
+      first = λ i h. absurd (let z : ⊥ = omega arith in z);
+      rest = none .rest;
+    }
+
+pub first-more : {m : List Bool} (i : ℕ) → FirstMarks i m → i < 64 → FirstMarks (i + 1) (set m i true)
+first-more {m} i v l =
+    record {
+      sized = length-set m i true ∙ v .sized;
+      first = λ j h.
+          ⊎-elim (λ (s : j ≡ i). ap (λ (y : ℕ). getD (set m i true) y false) s ∙ getD-set-same m i true false (omega (arith, v .sized)))
+          (λ (d : j ≡ i → ⊥). getD-set-other m i j true false d ∙ v .first j (omega arith))
+          (same-or-not j i);
+      rest = λ j h. getD-set-other m i j true false (λ s. omega arith) ∙ v .rest j (omega arith);
+    }
+
+pub first-wanted : {t : List ℕ} {at n : ℕ} {q : Query} {m : List Bool} → FirstMarks n m → AllWanted t at n q → Wanted t at n q m
+first-wanted v w = record { sized = v .sized; takes = λ i h. v .first i h ∙ sym (w i h); rest = v .rest }
+
+-- keys that rise from one of the query's places to another
+pub all-wanted : (t : List ℕ) (at n : ℕ) (q : Query) {lo hi : ℕ} → 0 < n → rising (keysFrom t 12 n at) ≡ true → lo ≡ keyAt t at → hi ≡ keyAt t (at + 12 * (n - 1))
+    → (eqb (q .least) 0 && leb (q .from) lo) && leb hi (q .last) ≡ true → AllWanted t at n q
+unfolding wantsKey placed
+all-wanted t at n q {lo} {hi} some p e g h i l =
+    let k : ℕ = keyAt t (at + 12 * i) in
+    let b : eqb (q .least) 0 && leb (q .from) lo ≡ true = and-left (eqb (q .least) 0 && leb (q .from) lo) (leb hi (q .last)) h in
+    let z : q .least ≡ 0 = eqb-true (q .least) 0 (and-left (eqb (q .least) 0) (leb (q .from) lo) b) in
+    let f : q .from ≤ lo = leb-true (q .from) lo (and-right (eqb (q .least) 0) (leb (q .from) lo) b) in
+    let s : hi ≤ q .last = leb-true hi (q .last) (and-right (eqb (q .least) 0 && leb (q .from) lo) (leb hi (q .last)) h) in
+    let o : at + 12 * 0 ≡ at = omega arith in
+    let a : keyAt t at ≤ k = subst (λ (x : ℕ). keyAt t x ≤ k) o (run-rises t 12 n at p 0 i (omega arith) l) in
+    let c : k ≤ keyAt t (at + 12 * (n - 1)) = run-rises t 12 n at p i (n - 1) (omega arith) (omega arith) in
+    let place : placed q k ≡ true = all2 (leb (q .from) k) (leb k (q .last)) ∙ and-both (leb (q .from) k) (leb k (q .last)) (le-leb (q .from) k (omega arith)) (le-leb k (q .last) (omega arith)) in
+    all2 (placed q k) (leb (q .least) (rankOf k)) ∙ and-both (placed q k) (leb (q .least) (rankOf k)) place (le-leb (q .least) (rankOf k) (omega arith))
 
 -- ---- those struck
 

@@ -1,13 +1,14 @@
 -- Rising keys: how many are below a key, by halving, and whether the first that is not below is it.
 -- Assumes nothing.
 use mathlib.Core.Path.{_≡_, refl, sym, ap, _∙_}
-use mathlib.Core.Logic.{⊎-elim}
+use mathlib.Core.Logic.{_⊎_, inl, inr, ⊎-elim}
 use mathlib.Core.Bool.{Bool, true, false, _||_, or-false}
 use mathlib.Core.List.{List, [], _∷_}
 use Prim.Native.Nat.{ℕ, zero, suc, _+_, _*_, _≤_, _<_}
 use native.Mathlib.Omega.{arith}
 use lib.Dec.{ltb, leb, eqb}
 use lib.ListN.{length, getD}
+use mir.Val.{boolByte}
 use borrow.Author.Tests.{leb-true, lt-ltb, le-ltb, ne-eqb}
 use Rattle.octets.specs.Lists.{has, risingFrom, rising}
 use Rattle.octets.proofs.Order.{less-or-not, eqb-flip, stride}
@@ -86,6 +87,32 @@ has-at k a (x ∷ ks) d p h =
     ap (λ (i : ℕ). eqb k (getD (x ∷ ks) i d)) z ∙ sym (ap (λ (b : Bool). eqb k x || b) (not-under k (suc x) ks r (omega arith)) ∙ or-false (eqb k x)))
     (λ (l : x < k). ap (λ (i : ℕ). eqb k (getD (x ∷ ks) i d)) (count-yes k x ks l) ∙ has-at k (suc x) ks d r (omega (arith, count-yes k x ks l))
     ∙ sym (ap (λ (b : Bool). b || has k ks) (ne-eqb k x (λ e. omega arith))))
+    (less-or-not k x)
+
+-- ---- counted with no branch
+
+pub byte-most : (b : Bool) → boolByte b ≤ 1
+byte-most true = omega arith
+byte-most false = omega arith
+
+-- every eighth key is looked at: one more counts if it is below k, of which there are m in all
+pub eighth-turn : (m c j x k : ℕ) → (c ≤ j) × (8 * c ≤ m) × ((c ≡ j) ⊎ (m < 8 * c + 8)) → (x < k → 8 * j + 7 < m) → (k ≤ x → m ≤ 8 * j + 7)
+    → (c + boolByte (ltb x k) ≤ j + 1) × (8 * (c + boolByte (ltb x k)) ≤ m) × ((c + boolByte (ltb x k) ≡ j + 1) ⊎ (m < 8 * (c + boolByte (ltb x k)) + 8))
+eighth-turn m c j x k s up down =
+    ⊎-elim
+    (λ (h : k ≤ x). let d : m ≤ 8 * j + 7 = down h in rw (le-ltb x k h) (omega arith, omega arith, inr (⊎-elim (λ e. omega arith) (λ l. omega arith) (s .2))))
+    (λ (h : x < k). let u : 8 * j + 7 < m = up h in
+    rw (lt-ltb x k h) (omega arith, ⊎-elim (λ e. omega arith) (λ l. omega arith) (s .2), ⊎-elim (λ e. inl (omega arith)) (λ l. absurd (omega arith)) (s .2)))
+    (less-or-not k x)
+
+-- every key is
+pub near-turn : (m r i x k : ℕ) → (r ≤ i) × (r ≤ m) × ((r ≡ i) ⊎ (m ≤ r)) → (x < k → i < m) → (k ≤ x → m ≤ i)
+    → (r + boolByte (ltb x k) ≤ i + 1) × (r + boolByte (ltb x k) ≤ m) × ((r + boolByte (ltb x k) ≡ i + 1) ⊎ (m ≤ r + boolByte (ltb x k)))
+near-turn m r i x k s up down =
+    ⊎-elim
+    (λ (h : k ≤ x). let d : m ≤ i = down h in rw (le-ltb x k h) (omega arith, omega arith, inr (⊎-elim (λ e. omega arith) (λ l. omega arith) (s .2))))
+    (λ (h : x < k). let u : i < m = up h in
+    rw (lt-ltb x k h) (omega arith, ⊎-elim (λ e. omega arith) (λ l. omega arith) (s .2), ⊎-elim (λ e. inl (omega arith)) (λ l. absurd (omega arith)) (s .2)))
     (less-or-not k x)
 
 -- ---- keys as records

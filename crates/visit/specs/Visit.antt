@@ -94,6 +94,16 @@ module _ {A : Type 0} where
 abbrev pub marksIn : List Bool → ℕ
 marksIn m = length (keep (λ b. b) m)
 
+-- a query wants each of the n spots from at on
+abbrev pub AllWanted : List ℕ → ℕ → ℕ → Query → Type 0
+AllWanted t at n q = (i : ℕ) → i < n → wantsKey q (keyAt t (at + 12 * i)) ≡ true
+
+-- the first n have a mark
+pub record FirstMarks (n : ℕ) (m : List Bool) : Type 0 where
+  pub sized : length m ≡ 64
+  pub first : (i : ℕ) → i < n → getD m i false ≡ true
+  pub rest : (i : ℕ) → n ≤ i → getD m i false ≡ false
+
 -- of the n spots from at on those have a mark that a query wants
 pub record Wanted (t : List ℕ) (at n : ℕ) (q : Query) (m : List Bool) : Type 0 where
   pub sized : length m ≡ 64

@@ -11,7 +11,7 @@ ghost use Rattle.block.specs.Node.{storeOf};
 ghost use Rattle.block.specs.NodeRules.{ValidBlock};
 ghost use Rattle.block.specs.declared.Asked.the-variants.{Child};
 ghost use Rattle.tree.specs.Walk.{admits, finds};
-ghost use Rattle.visit.specs.Visit.{endOf, partOf, above, waiting, waitingAbove, ValidPath, keysFrom, Ready, Wanted, Struck, Marks, marksIn, belowIn, taken, childSpan, entriesIn};
+ghost use Rattle.visit.specs.Visit.{endOf, partOf, above, waiting, waitingAbove, ValidPath, keysFrom, Ready, AllWanted, FirstMarks, Wanted, Struck, Marks, marksIn, belowIn, taken, childSpan, entriesIn};
 
 // A range of keys, from lo up to, and without, hi, or to the end.
 pub struct Span {
@@ -55,22 +55,46 @@ pub fn step(p: Path, b: usize) -> Path
     next
 }
 
+// How many eights of the n keys, w bytes apart from at on, are below k; they rise. No branch depends on a key, here and in `near`: a branch that none can
+// foresee costs more than the keys read in vain.
+fn eighths(t: &[u8], at: usize, w: usize, n: usize, k: u64) -> usize
+    requires { ⌜ Ready (now t) at w n ⌝ }
+    ensures { λ r. ⌜ (8 * r ≤ belowIn k (keysFrom (now (t .entry)) w n at)) × (belowIn k (keysFrom (now (t .entry)) w n at) < 8 * r + 8) ⌝ }
+{
+    let m = n / 8;
+    let mut c: usize = 0;
+    let mut j: usize = 0;
+    while j < m {
+        c += (spot::read_key(t, at + w * (8 * j + 7)) < k) as usize;
+        j += 1;
+    }
+    c
+}
+
+// How many of those keys are below k, if the first a are and those from e on are not.
+fn near(t: &[u8], at: usize, w: usize, n: usize, k: u64, a: usize, e: usize) -> usize
+    requires { ⌜ Ready (now t) at w n × (a ≤ belowIn k (keysFrom (now t) w n at)) × (belowIn k (keysFrom (now t) w n at) ≤ e) × (e ≤ n) ⌝ }
+    ensures { λ r. ⌜ r ≡ belowIn k (keysFrom (now (t .entry)) w n at) ⌝ }
+{
+    let mut r = a;
+    let mut i = a;
+    while i < e {
+        r += (spot::read_key(t, at + w * i) < k) as usize;
+        i += 1;
+    }
+    r
+}
+
 // How many of the n keys, w bytes apart from at on, are below k; they rise.
 pub fn below(t: &[u8], at: usize, w: usize, n: usize, k: u64) -> usize
     requires { ⌜ (8 ≤ w) × (w ≤ 12) × (n ≤ 64) × (at + w * n ≤ length (now t)) × (rising (keysFrom (now t) w n at) ≡ true) ⌝ }
     ensures { λ r. ⌜ (r ≡ belowIn k (keysFrom (now (t .entry)) w n at)) × (r ≤ n) ⌝ }
 {
-    let mut lo = 0;
-    let mut hi = n;
-    while lo < hi {
-        let mid = lo + (hi - lo) / 2;
-        if spot::read_key(t, at + w * mid) < k {
-            lo = mid + 1;
-        } else {
-            hi = mid;
-        }
+    let a = 8 * eighths(t, at, w, n, k);
+    if n < a + 8 {
+        return near(t, at, w, n, k, a, n);
     }
-    lo
+    near(t, at, w, n, k, a, a + 8)
 }
 
 // One of those keys is k.
@@ -85,8 +109,35 @@ pub fn has_key(t: &[u8], at: usize, w: usize, n: usize, k: u64) -> bool
     spot::read_key(t, at + w * i) == k
 }
 
-// Marks those of the n spots from at on that the query wants.
-fn wanted(t: &[u8], at: usize, n: usize, q: spot::Query) -> [bool; 64]
+// The query wants each of the n spots from at on, which rise: it asks for no rank, and the first and the last are of its places.
+fn wants_all(t: &[u8], at: usize, n: usize, q: spot::Query) -> bool
+    requires { ⌜ Ready (now t) at 12 n ⌝ }
+    ensures { λ r. ⌜ (r ≡ true → AllWanted (now (t .entry)) at n q) ⌝ }
+{
+    if n == 0 {
+        return false;
+    }
+    let first = spot::read_key(t, at);
+    let last = spot::read_key(t, at + 12 * (n - 1));
+    (q.least == 0) & (q.from <= first) & (last <= q.last)
+}
+
+// Marks at the first n.
+fn first_marks(n: usize) -> [bool; 64]
+    requires { ⌜ n ≤ 64 ⌝ }
+    ensures { λ r. ⌜ FirstMarks n r ⌝ }
+{
+    let mut m = [false; 64];
+    let mut i = 0;
+    while i < n {
+        m[i] = true;
+        i += 1;
+    }
+    m
+}
+
+// Marks those of the n spots from at on that the query wants, each tested.
+fn wanted_each(t: &[u8], at: usize, n: usize, q: spot::Query) -> [bool; 64]
     requires { ⌜ (n ≤ 64) × (at + 12 * n ≤ length (now t)) ⌝ }
     ensures { λ r. ⌜ Wanted (now (t .entry)) at n q r ⌝ }
 {
@@ -98,6 +149,17 @@ fn wanted(t: &[u8], at: usize, n: usize, q: spot::Query) -> [bool; 64]
         i += 1;
     }
     m
+}
+
+// Marks those of the n spots from at on, which rise, that the query wants.
+fn wanted(t: &[u8], at: usize, n: usize, q: spot::Query) -> [bool; 64]
+    requires { ⌜ Ready (now t) at 12 n ⌝ }
+    ensures { λ r. ⌜ Wanted (now (t .entry)) at n q r ⌝ }
+{
+    if wants_all(t, at, n, q) {
+        return first_marks(n);
+    }
+    wanted_each(t, at, n, q)
 }
 
 // Takes the mark from the spot with key k, if it is among the n that rise from at on.
