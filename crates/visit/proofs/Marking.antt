@@ -1,8 +1,8 @@
 -- Marks at the spots of a run: set where the query wants the key, and struck where a change of it waits above.
 -- Assumes nothing.
 use mathlib.Core.Path.{_≡_, refl, sym, ap, ap₂, subst, _∙_}
-use mathlib.Core.Logic.{⊎-elim}
-use mathlib.Core.Bool.{Bool, true, false, cond, not, _&&_, _||_, and-true, and-assoc, or-false}
+use mathlib.Core.Logic.{_⊎_, inl, inr, ⊎-elim}
+use mathlib.Core.Bool.{Bool, true, false, cond, not, _&&_, _||_, and-true, and-false, and-assoc, or-false}
 use mathlib.Core.List.{List, [], _∷_, _++_, List·Memᴰ}
 use Prim.Native.Nat.{ℕ, zero, suc, _+_, _-_, _*_, _≤_, _<_}
 use native.Mathlib.Numerals.{add-one}
@@ -11,7 +11,7 @@ use native.Mathlib.Omega.{arith}
 use lib.Dec.{eqb, leb}
 use lib.ListN.{length, take, getD, set, replicate, length-append, length-set, length-replicate, getD-replicate, List·getD-eq-default}
 use lib.Seq.{take-suc, take-all, getD-set-same, getD-set-other, getD-take}
-use borrow.Author.Tests.{ne-eqb, eqb-true, leb-true, le-leb}
+use borrow.Author.Tests.{ne-eqb, eqb-true, leb-true, le-leb, lt-leb}
 use Rattle.octets.specs.Lists.{has, keep, records, rising}
 use Rattle.octets.proofs.Order.{same-or-not, less-or-not}
 use Rattle.octets.proofs.Records.{left, left-cons, length-records, records-at, records-append, records-more}
@@ -27,7 +27,7 @@ use Rattle.block.specs.Node.{storeOf}
 use Rattle.block.proofs.Shut.{all2}
 use Rattle.tree.specs.Walk.{takes, takesKey}
 use Rattle.visit.specs.declared.Path.{Path}
-use Rattle.visit.specs.Visit.{above, waiting, waitingBy, waitingAbove, keysFrom, belowIn, taken, chosen, marksIn, AllWanted, FirstMarks, Wanted, Struck, Marks}
+use Rattle.visit.specs.Visit.{above, waiting, waitingBy, waitingAbove, keysFrom, belowIn, taken, chosen, marksIn, AllWanted, FirstMarks, Wanted, Blank, Struck, Marks}
 use Rattle.visit.proofs.Counts.{spot-key}
 use Rattle.visit.proofs.Paths.{waiting-append, path-length}
 use Rattle.visit.proofs.Search.{run-down, run-at, run-rises}
@@ -104,6 +104,37 @@ all-wanted t at n q {lo} {hi} some p e g h i l =
     let place : placed q k ≡ true = all2 (leb (q .from) k) (leb k (q .last)) ∙ and-both (leb (q .from) k) (leb k (q .last)) (le-leb (q .from) k (omega arith)) (le-leb k (q .last) (omega arith)) in
     all2 (placed q k) (leb (q .least) (rankOf k)) ∙ and-both (placed q k) (leb (q .least) (rankOf k)) place (le-leb (q .least) (rankOf k) (omega arith))
 
+-- ---- where there may be marks
+
+unwanted : (q : Query) (k : ℕ) → (k < q .from) ⊎ (q .last < k) → wantsKey q k ≡ false
+unfolding wantsKey placed
+unwanted q k o =
+    let place : placed q k ≡ false =
+    all2 (leb (q .from) k) (leb k (q .last))
+    ∙ ⊎-elim (λ (l : k < q .from). ap (λ (b : Bool). b && leb k (q .last)) (lt-leb (q .from) k l))
+    (λ (l : q .last < k). ap (λ (b : Bool). leb (q .from) k && b) (lt-leb k (q .last) l) ∙ and-false (leb (q .from) k))
+    o
+    in
+    all2 (placed q k) (leb (q .least) (rankOf k)) ∙ ap (λ (b : Bool). b && leb (q .least) (rankOf k)) place
+
+-- none before the query's first place or the run's, nor behind the last
+module _ (t : List ℕ) (at n : ℕ) (q : Query) (some : 0 < n) (p : rising (keysFrom t 12 n at) ≡ true) where
+  before-lo : (i : ℕ) {lo first : ℕ} → i < n → first ≡ keyAt t at → (lo ≡ q .from) ⊎ (lo ≡ first) → keyAt t (at + 12 * i) < lo → keyAt t (at + 12 * i) < q .from
+  before-lo i l e o h =
+      let z : at + 12 * 0 ≡ at = omega arith in
+      let a : keyAt t at ≤ keyAt t (at + 12 * i) = subst (λ (x : ℕ). keyAt t x ≤ keyAt t (at + 12 * i)) z (run-rises t 12 n at p 0 i (omega arith) l) in
+      ⊎-elim (λ f. omega arith) (λ f. absurd (omega arith)) o
+
+  behind-hi : (i : ℕ) {hi last : ℕ} → i < n → last ≡ keyAt t (at + 12 * (n - 1)) → (hi ≡ q .last) ⊎ (hi ≡ last) → hi < keyAt t (at + 12 * i) → q .last < keyAt t (at + 12 * i)
+  behind-hi i l e o h =
+      let a : keyAt t (at + 12 * i) ≤ keyAt t (at + 12 * (n - 1)) = run-rises t 12 n at p i (n - 1) (omega arith) (omega arith) in
+      ⊎-elim (λ f. omega arith) (λ f. absurd (omega arith)) o
+
+  pub wanted-blank : {lo hi first last : ℕ} {m : List Bool} → first ≡ keyAt t at → last ≡ keyAt t (at + 12 * (n - 1)) → (lo ≡ q .from) ⊎ (lo ≡ first) → (hi ≡ q .last) ⊎ (hi ≡ last)
+      → Wanted t at n q m → Blank t at n lo hi m
+  wanted-blank e g a b v i l o =
+      v .takes i l ∙ unwanted q (keyAt t (at + 12 * i)) (⊎-elim (λ h. inl (before-lo i l e a h)) (λ h. inr (behind-hi i l g b h)) o)
+
 -- ---- those struck
 
 not-or : (a b : Bool) → not (a || b) ≡ not a && not b
@@ -111,22 +142,42 @@ not-or true b = refl
 not-or false b = refl
 
 module _ {t : List ℕ} {at n : ℕ} where
-  pub struck-none : {ks : List ℕ} (m : List Bool) → ((i : ℕ) → i < n → has (keyAt t (at + 12 * i)) ks ≡ false) → Struck t at n ks m m
-  struck-none m h =
+  -- a spot that has no mark is not struck
+  struck-idle : {ks : List ℕ} (m : List Bool) → ((i : ℕ) → i < n → (has (keyAt t (at + 12 * i)) ks ≡ false) ⊎ (getD m i false ≡ false)) → Struck t at n ks m m
+  struck-idle {ks} m h =
       record {
         sized = refl;
-        takes = λ i l. sym (ap (λ (b : Bool). getD m i false && not b) (h i l) ∙ and-true (getD m i false));
+        takes = λ i l.
+            let k : ℕ = keyAt t (at + 12 * i) in
+            ⊎-elim (λ (e : has k ks ≡ false). sym (ap (λ (b : Bool). getD m i false && not b) e ∙ and-true (getD m i false)))
+            (λ (e : getD m i false ≡ false). e ∙ sym (ap (λ (b : Bool). b && not (has k ks)) e))
+            (h i l);
         rest = λ i l. refl;
+      }
+
+  pub struck-none : {ks : List ℕ} (m : List Bool) → ((i : ℕ) → i < n → has (keyAt t (at + 12 * i)) ks ≡ false) → Struck t at n ks m m
+  struck-none m h = struck-idle m (λ i l. inl (h i l))
+
+  struck-either : {xs ys : List ℕ} {m m′ : List Bool}
+      → ((i : ℕ) → i < n → (has (keyAt t (at + 12 * i)) xs ≡ has (keyAt t (at + 12 * i)) ys) ⊎ (getD m i false ≡ false)) → Struck t at n xs m m′ → Struck t at n ys m m′
+  struck-either {xs} {ys} {m} h s =
+      record {
+        sized = s .sized;
+        takes = λ i l.
+            let k : ℕ = keyAt t (at + 12 * i) in
+            s .takes i l
+            ∙ ⊎-elim (λ (e : has k xs ≡ has k ys). ap (λ (b : Bool). getD m i false && not b) e)
+            (λ (e : getD m i false ≡ false). ap (λ (b : Bool). b && not (has k xs)) e ∙ sym (ap (λ (b : Bool). b && not (has k ys)) e))
+            (h i l);
+        rest = s .rest;
       }
 
   pub struck-same : {xs ys : List ℕ} {m m′ : List Bool} → ((i : ℕ) → i < n → has (keyAt t (at + 12 * i)) xs ≡ has (keyAt t (at + 12 * i)) ys)
       → Struck t at n xs m m′ → Struck t at n ys m m′
-  struck-same {xs} {ys} {m} h s =
-      record {
-        sized = s .sized;
-        takes = λ i l. s .takes i l ∙ ap (λ (b : Bool). getD m i false && not b) (h i l);
-        rest = s .rest;
-      }
+  struck-same h s = struck-either (λ i l. inl (h i l)) s
+
+  pub blank-struck : (lo hi : ℕ) {ks : List ℕ} {m m′ : List Bool} → Struck t at n ks m m′ → Blank t at n lo hi m → Blank t at n lo hi m′
+  blank-struck lo hi {ks = ks} s blank i l o = s .takes i l ∙ ap (λ (b : Bool). b && not (has (keyAt t (at + 12 * i)) ks)) (blank i l o)
 
   -- by some keys, and then by others
   pub struck-then : {xs ys : List ℕ} {m m′ m″ : List Bool} → Struck t at n xs m m′ → Struck t at n ys m′ m″ → Struck t at n (xs ++ ys) m m″
@@ -181,21 +232,15 @@ has-none f w (suc n) at k h =
 first-least : (x : ℕ) (xs : List ℕ) {k : ℕ} → rising (x ∷ xs) ≡ true → List·Memᴰ k (x ∷ xs) → x ≤ k
 first-least x xs p i = rising-least x (x ∷ xs) (rising-make x x xs (omega arith) (rising-rest 0 x xs p)) i
 
-module _ (t : List ℕ) (at n a w c : ℕ) (some : 0 < n) (p : rising (keysFrom t 12 n at) ≡ true) (r : rising (keysFrom t w c a) ≡ true) where
-  first-key : (i : ℕ) → i < n → keyAt t at ≤ keyAt t (at + 12 * i)
-  first-key i h =
-      let e : at + 12 * 0 ≡ at = omega arith in
-      subst (λ (x : ℕ). keyAt t x ≤ keyAt t (at + 12 * i)) e (run-rises t 12 n at p 0 i (omega arith) h)
-
-  -- keys below the first spot strike none
-  pub strike-start : {lo j : ℕ} (m : List Bool) → lo ≡ keyAt t at → j ≡ belowIn lo (keysFrom t w c a) → j ≤ c → Struck t at n (keysFrom t w j a) m m
-  strike-start {lo} {j} m e g l = struck-none m (λ i h. has-none (keyAt t) w j a (keyAt t (at + 12 * i)) (apart i h))
-    where
-      apart : (i : ℕ) → i < n → (y : ℕ) → y < j → keyAt t (at + 12 * i) ≡ keyAt t (a + w * y) → ⊥
-      apart i h y z q =
-          ⊎-elim (λ (o : lo ≤ keyAt t (a + w * y)). omega (arith, run-down t w c a r lo y (omega arith) o))
-          (λ (o : keyAt t (a + w * y) < lo). omega (arith, first-key i h))
-          (less-or-not lo (keyAt t (a + w * y)))
+module _ (t : List ℕ) (at n a w c lo hi : ℕ) (r : rising (keysFrom t w c a) ≡ true) where
+  -- keys below lo strike none
+  pub strike-start : {j : ℕ} (m : List Bool) → Blank t at n lo hi m → j ≡ belowIn lo (keysFrom t w c a) → j ≤ c → Struck t at n (keysFrom t w j a) m m
+  strike-start {j} m blank g l =
+      struck-idle m
+      (λ i h.
+      ⊎-elim (λ (o : lo ≤ keyAt t (at + 12 * i)). inl (has-none (keyAt t) w j a (keyAt t (at + 12 * i)) (λ y z q. omega (arith, run-down t w c a r lo y (omega arith) (omega arith)))))
+      (λ (o : keyAt t (at + 12 * i) < lo). inr (blank i h (inl o)))
+      (less-or-not lo (keyAt t (at + 12 * i))))
 
   pub strike-next : {k : ℕ} {m m′ m″ : List Bool} (j : ℕ) → k ≡ keyAt t (a + w * j) → Struck t at n (keysFrom t w j a) m m′ → Struck t at n (k ∷ []) m′ m″
       → Struck t at n (keysFrom t w (j + 1) a) m m″
@@ -204,10 +249,13 @@ module _ (t : List ℕ) (at n a w c : ℕ) (some : 0 < n) (p : rising (keysFrom 
       (ap (λ (x : ℕ). keysFrom t w j a ++ (x ∷ [])) e ∙ sym (records-more (keyAt t) w j a) ∙ ap (λ (x : ℕ). keysFrom t w x a) (sym (add-one j)))
       (struck-then s v)
 
-  -- keys above the last spot strike none
-  pub strike-stop : {hi k : ℕ} {m m′ : List Bool} (j : ℕ) → j < c → hi ≡ keyAt t (at + 12 * (n - 1)) → k ≡ keyAt t (a + w * j) → hi < k
+  -- keys above hi strike none
+  pub strike-stop : {k : ℕ} {m m′ : List Bool} (j : ℕ) → Blank t at n lo hi m → j < c → k ≡ keyAt t (a + w * j) → hi < k
       → Struck t at n (keysFrom t w j a) m m′ → Struck t at n (keysFrom t w c a) m m′
-  strike-stop {hi} {k} j h e g l s = struck-same same s
+  strike-stop {k} j blank h g l s =
+      struck-either
+      (λ i z. ⊎-elim (λ (o : keyAt t (at + 12 * i) ≤ hi). inl (same i o)) (λ (o : hi < keyAt t (at + 12 * i)). inr (blank i z (inr o))) (less-or-not (keyAt t (at + 12 * i)) hi))
+      s
     where
       whole : keysFrom t w c a ≡ keysFrom t w j a ++ left (keyAt t) w c a j
       whole =
@@ -217,15 +265,15 @@ module _ (t : List ℕ) (at n a w c : ℕ) (some : 0 < n) (p : rising (keysFrom 
       rest : left (keyAt t) w c a j ≡ keyAt t (a + w * j) ∷ left (keyAt t) w c a (j + 1)
       rest = left-cons (keyAt t) w c a j h
 
-      above-last : (i : ℕ) → i < n → has (keyAt t (at + 12 * i)) (left (keyAt t) w c a j) ≡ false
+      above-last : (i : ℕ) → keyAt t (at + 12 * i) ≤ hi → has (keyAt t (at + 12 * i)) (left (keyAt t) w c a j) ≡ false
       above-last i z =
           has-not (keyAt t (at + 12 * i)) (left (keyAt t) w c a j)
           (λ o.
           let up : rising (keyAt t (a + w * j) ∷ left (keyAt t) w c a (j + 1)) ≡ true = sym (ap rising rest) ∙ rising-right 0 (keysFrom t w j a) (left (keyAt t) w c a j) (sym (ap rising whole) ∙ r) in
           let f : keyAt t (a + w * j) ≤ keyAt t (at + 12 * i) = first-least (keyAt t (a + w * j)) (left (keyAt t) w c a (j + 1)) up (subst (λ (y : List ℕ). List·Memᴰ (keyAt t (at + 12 * i)) y) rest o) in
-          omega (arith, run-rises t 12 n at p i (n - 1) (omega arith) (omega arith)))
+          omega arith)
 
-      same : (i : ℕ) → i < n → has (keyAt t (at + 12 * i)) (keysFrom t w j a) ≡ has (keyAt t (at + 12 * i)) (keysFrom t w c a)
+      same : (i : ℕ) → keyAt t (at + 12 * i) ≤ hi → has (keyAt t (at + 12 * i)) (keysFrom t w j a) ≡ has (keyAt t (at + 12 * i)) (keysFrom t w c a)
       same i z =
           let x : ℕ = keyAt t (at + 12 * i) in
           sym (

@@ -1,6 +1,7 @@
 -- What is known of a node and of the nodes above it while a walk reads it.
 -- Assumes nothing.
 use mathlib.Core.Path.{_≡_}
+use mathlib.Core.Logic.{_⊎_}
 use Prim.Native.Nat.{ℕ, suc, _+_, _*_, _≤_, _<_}
 use mathlib.Core.Bool.{Bool, true, false, cond, not, _&&_}
 use mathlib.Core.List.{List, [], _∷_, _++_, List·Memᴰ}
@@ -109,6 +110,10 @@ pub record Wanted (t : List ℕ) (at n : ℕ) (q : Query) (m : List Bool) : Type
   pub sized : length m ≡ 64
   pub takes : (i : ℕ) → i < n → getD m i false ≡ wantsKey q (keyAt t (at + 12 * i))
   pub rest : (i : ℕ) → n ≤ i → getD m i false ≡ false
+
+-- of the n spots from at on none below lo or above hi has a mark
+abbrev pub Blank : List ℕ → ℕ → ℕ → ℕ → ℕ → List Bool → Type 0
+Blank t at n lo hi m = (i : ℕ) → i < n → (keyAt t (at + 12 * i) < lo) ⊎ (hi < keyAt t (at + 12 * i)) → getD m i false ≡ false
 
 -- the marks of the n spots from at on, but for those whose key is among ks
 pub record Struck (t : List ℕ) (at n : ℕ) (ks : List ℕ) (m m′ : List Bool) : Type 0 where

@@ -1,6 +1,7 @@
 // Reading one node during a walk: which of its spots a query takes, given what waits in the nodes above, and which children it reads.
 ghost use mathlib.Core.Path.{_≡_};
 ghost use mathlib.Core.Bool.{true};
+ghost use mathlib.Core.Logic.{_⊎_};
 ghost use mathlib.Core.List.{_∷_, [], _++_};
 ghost use Prim.Native.Nat.{_+_, _*_, _≤_, _<_};
 ghost use lib.ListN.{length, take};
@@ -11,7 +12,7 @@ ghost use Rattle.block.specs.Node.{storeOf};
 ghost use Rattle.block.specs.NodeRules.{ValidBlock};
 ghost use Rattle.block.specs.declared.Asked.the-variants.{Child};
 ghost use Rattle.tree.specs.Walk.{admits, finds};
-ghost use Rattle.visit.specs.Visit.{endOf, partOf, above, waiting, waitingAbove, ValidPath, keysFrom, Ready, AllWanted, FirstMarks, Wanted, Struck, Marks, marksIn, belowIn, taken, childSpan, entriesIn};
+ghost use Rattle.visit.specs.Visit.{endOf, partOf, above, waiting, waitingAbove, ValidPath, keysFrom, Ready, AllWanted, FirstMarks, Wanted, Blank, Struck, Marks, marksIn, belowIn, taken, childSpan, entriesIn};
 
 // A range of keys, from lo up to, and without, hi, or to the end.
 pub struct Span {
@@ -173,13 +174,21 @@ fn strike_key(t: &[u8], at: usize, n: usize, m: &mut [bool], k: u64)
     }
 }
 
-// The same with c rising keys, w bytes apart from a on: only those between the first and the last spot are looked for.
-fn strike(t: &[u8], at: usize, n: usize, m: &mut [bool], a: usize, w: usize, c: usize)
-    requires { ⌜ (0 < n) × Ready (now t) at 12 n × Ready (now t) a w c × (n ≤ length (now m)) ⌝ }
+// The same with c rising keys, w bytes apart from a on: only those from lo to hi are looked for, the spots outside have no mark.
+fn strike(
+    t: &[u8],
+    at: usize,
+    n: usize,
+    m: &mut [bool],
+    a: usize,
+    w: usize,
+    c: usize,
+    lo: u64,
+    hi: u64,
+)
+    requires { ⌜ Ready (now t) at 12 n × Ready (now t) a w c × (n ≤ length (now m)) × Blank (now t) at n lo hi (now m) ⌝ }
     ensures { λ _. ⌜ Struck (now (t .entry)) at n (keysFrom (now (t .entry)) w c a) (now (m .entry)) (now (m .exit)) ⌝ }
 {
-    let lo = spot::read_key(t, at);
-    let hi = spot::read_key(t, at + 12 * (n - 1));
     let mut j = below(t, a, w, c, lo);
     while j < c {
         let k = spot::read_key(t, a + w * j);
@@ -192,8 +201,8 @@ fn strike(t: &[u8], at: usize, n: usize, m: &mut [bool], a: usize, w: usize, c: 
 }
 
 // The same with the keys of the changes that wait in the node at b.
-fn strike_node(t: &[u8], at: usize, n: usize, m: &mut [bool], b: usize)
-    requires { ⌜ (0 < n) × Ready (now t) at 12 n × ValidBlock (now t) b × (n ≤ length (now m)) ⌝ }
+fn strike_node(t: &[u8], at: usize, n: usize, m: &mut [bool], b: usize, lo: u64, hi: u64)
+    requires { ⌜ Ready (now t) at 12 n × ValidBlock (now t) b × (n ≤ length (now m)) × Blank (now t) at n lo hi (now m) ⌝ }
     ensures { λ _. ⌜ Struck (now (t .entry)) at n (waiting (storeOf (now (t .entry)) b)) (now (m .entry)) (now (m .exit)) ⌝ }
 {
     let from = b * 2048;
@@ -201,8 +210,27 @@ fn strike_node(t: &[u8], at: usize, n: usize, m: &mut [bool], b: usize)
     let h = block::front_of(&t[from..to]);
     let ai = from + block::inserts_from(h);
     let ad = from + block::deletes_from(h);
-    strike(t, at, n, m, ai, 12, h.i);
-    strike(t, at, n, m, ad, 8, h.d);
+    strike(t, at, n, m, ai, 12, h.i, lo, hi);
+    strike(t, at, n, m, ad, 8, h.d, lo, hi);
+}
+
+// The larger of two keys, and the smaller.
+fn later(a: u64, b: u64) -> u64
+    ensures { λ r. ⌜ (r ≡ a) ⊎ (r ≡ b) ⌝ }
+{
+    if a < b {
+        return b;
+    }
+    a
+}
+
+fn earlier(a: u64, b: u64) -> u64
+    ensures { λ r. ⌜ (r ≡ a) ⊎ (r ≡ b) ⌝ }
+{
+    if a < b {
+        return a;
+    }
+    b
 }
 
 // Marks those of the n spots from at on that the query takes: the wanted ones, but for those of which a change waits above.
@@ -214,11 +242,13 @@ pub fn marks(t: &[u8], at: usize, n: usize, q: spot::Query, p: Path) -> [bool; 6
     if n == 0 {
         return m;
     }
+    let lo = later(q.from, spot::read_key(t, at));
+    let hi = earlier(q.last, spot::read_key(t, at + 12 * (n - 1)));
     let c = p.n;
     let mut i = 0;
     while i < c {
         let b = p.blocks[i];
-        strike_node(t, at, n, &mut m, b);
+        strike_node(t, at, n, &mut m, b, lo, hi);
         i += 1;
     }
     m

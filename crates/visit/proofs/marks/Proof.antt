@@ -1,21 +1,21 @@
 -- `visit::marks` meets its contract: what waits in the nodes above is struck from the wanted ones, node after node.
 -- Assumes nothing.
-use borrow.Author.Needs.{needs}
-use native.Mathlib.Omega.{arith}
 use mathlib.Core.Path.{_≡_}
 use Prim.Native.Nat.{_-_, _≤_}
 use lib.ListN.{length, getD}
 use denote.Ref.{now}
-use Rattle.visit.proofs.Marking.{StruckBy, path-start, path-more, marks-all, marks-none}
+use Rattle.visit.proofs.Marking.{StruckBy, wanted-blank, blank-struck, path-start, path-more, marks-all, marks-none}
 use Rattle.visit.proofs.Paths.{path-at}
+use borrow.Author.Needs.{needs}
+use native.Mathlib.Omega.{arith}
 use Rattle.visit.proofs.marks.Statement.{statement}
 use Rattle.visit.proofs.marks.Tie as tie
 
 abbrev Inv-loop : tie.InvT-loop
-Inv-loop t at n p m₀ c i₀ m i = (i ≤ c) × StruckBy t at n p i m₀ m
+Inv-loop t at n p m₀ lo hi c i₀ m i = (i ≤ c) × StruckBy t at n p i m₀ m
 
 abbrev μ-loop : tie.MeasureT-loop
-μ-loop t at n p m₀ c i₀ m i = c - i
+μ-loop t at n p m₀ lo hi c i₀ m i = c - i
 
 long : (c : tie.Start Inv-loop μ-loop) → length (c .args .t5 .blocks) ≡ 8
 long c = search needs
@@ -26,11 +26,32 @@ wanted-requires c κs = search needs
 returns : tie.Need-returns Inv-loop μ-loop
 returns c = marks-none (c .before .before .before .args .t5) (omega arith) (c .before .wanted .ensures)
 
+read-key-requires : tie.Need-read-key-requires Inv-loop μ-loop
+read-key-requires c κs = omega arith
+
+later-requires : tie.Need-later-requires Inv-loop μ-loop
+later-requires c κs = search needs
+
+sub-read-key : tie.Need-sub-read-key Inv-loop μ-loop
+sub-read-key c = omega arith
+
+mul-read-key : tie.Need-mul-read-key Inv-loop μ-loop
+mul-read-key c = omega arith
+
+add-read-key : tie.Need-add-read-key Inv-loop μ-loop
+add-read-key c = omega arith
+
+read-key-requires-2 : tie.Need-read-key-requires-2 Inv-loop μ-loop
+read-key-requires-2 c κs = omega arith
+
+earlier-requires : tie.Need-earlier-requires Inv-loop μ-loop
+earlier-requires c κs = search needs
+
 loop-holds : tie.Need-loop-holds Inv-loop μ-loop
 loop-holds c =
-    let s = c .before .before .before in
+    let s = c .before .before .before .before .before .before .before in
     let a = s .args in
-    (omega arith, path-start (now (a .t)) (a .at) (a .n) (a .q) (a .t5) (long s) (s .pre .2 .few) (c .before .wanted .result))
+    (omega arith, path-start (now (a .t)) (a .at) (a .n) (a .q) (a .t5) (long s) (s .pre .2 .few) (c .before .before .before .before .before .wanted .result))
 
 mul-b : tie.Need-mul-b Inv-loop μ-loop
 mul-b c = omega arith
@@ -43,10 +64,16 @@ slice-aggregate-strike-node c = search needs
 
 strike-node-requires : tie.Need-strike-node-requires Inv-loop μ-loop
 strike-node-requires c κs =
-    let s = c .before .before .before .before .before .before .before in
+    let s = c .before .before .before .before .before .before .before .before .before .before .before in
+    let a = s .args in
     let l = c .before .before .before .loop in
-    let valid = s .pre .2 .valid (getD (s .args .t5 .blocks) (l .i) 0) (path-at (s .args .t5) (long s) (s .pre .2 .few) (l .i) (omega arith)) in
-    (omega arith, (omega arith, omega arith, s .pre .0, s .pre .1, s .pre .3), valid, omega (arith, s .pre .0, l .inv .1 .sized, c .before .before .before .before .before .wanted .ensures .sized))
+    let valid = s .pre .2 .valid (getD (a .t5 .blocks) (l .i) 0) (path-at (a .t5) (long s) (s .pre .2 .few) (l .i) (omega arith)) in
+    let blank = wanted-blank (now (a .t)) (a .at) (a .n) (a .q) (omega arith) (s .pre .3) (c .before .before .before .before .before .before .before .read-key .ensures) (c .before .before .before .before .before .read-key2 .ensures) (c .before .before .before .before .before .before .later .ensures) (c .before .before .before .before .earlier .ensures) (c .before .before .before .before .before .before .before .before .before .wanted .ensures) in (
+      (omega arith, omega arith, s .pre .0, s .pre .1, s .pre .3),
+      valid,
+      omega (arith, s .pre .0, l .inv .1 .sized, c .before .before .before .before .before .before .before .before .before .wanted .ensures .sized),
+      blank-struck (c .before .before .before .before .before .before .later .result) (c .before .before .before .before .earlier .result) (l .inv .1) blank,
+    )
 
 add-i : tie.Need-add-i Inv-loop μ-loop
 add-i c = omega arith
@@ -56,17 +83,17 @@ loop-less c = omega arith
 
 loop-again : tie.Need-loop-again Inv-loop μ-loop
 loop-again c =
-    let s = c .before .before .before .before .before .before .before .before .before in
+    let s = c .before .before .before .before .before .before .before .before .before .before .before .before .before in
     let a = s .args in
     let l = c .before .before .before .before .before .loop in
     (omega arith, path-more (now (a .t)) (a .at) (a .n) (a .q) (a .t5) (long s) (s .pre .2 .few) (l .i) (omega arith) (l .inv .1) (c .before .strike-node .ensures))
 
 returns-2 : tie.Need-returns-2 Inv-loop μ-loop
 returns-2 c =
-    let s = c .before .before .before .before .before in
+    let s = c .before .before .before .before .before .before .before .before .before in
     let a = s .args in
     let l = c .before .loop in
-    marks-all (now (a .t)) (a .at) (a .n) (a .q) (a .t5) (long s) (s .pre .2 .few) (l .i) (omega arith) (c .before .before .before .wanted .ensures) (l .inv .1)
+    marks-all (now (a .t)) (a .at) (a .n) (a .q) (a .t5) (long s) (s .pre .2 .few) (l .i) (omega arith) (c .before .before .before .before .before .before .before .wanted .ensures) (l .inv .1)
 
 pub marks-spec : {M : Type 1} → statement M
 marks-spec =
@@ -76,6 +103,13 @@ marks-spec =
     μ-loop
     wanted-requires
     returns
+    read-key-requires
+    later-requires
+    sub-read-key
+    mul-read-key
+    add-read-key
+    read-key-requires-2
+    earlier-requires
     loop-holds
     mul-b
     element-copy-out-b

@@ -1,12 +1,12 @@
--- `visit::strike` meets its contract: keys before the first spot and behind the last strike none.
+-- `visit::strike` meets its contract: keys below lo and above hi strike none.
 -- Assumes nothing.
-use native.Mathlib.Omega.{arith}
 use Prim.Native.Nat.{_+_, _-_, _*_, _≤_}
 use lib.ListN.{length}
 use denote.Ref.{now}
 use Rattle.visit.proofs.Marking.{strike-start, strike-next, strike-stop, strike-end}
 use Rattle.visit.proofs.Search.{key-room}
 use Rattle.visit.specs.Visit.{keysFrom, Struck}
+use native.Mathlib.Omega.{arith}
 use Rattle.visit.proofs.strike.Statement.{statement}
 use Rattle.visit.proofs.strike.Tie as tie
 
@@ -16,59 +16,43 @@ Inv-loop t at n m₀ a w c lo hi j₀ m j = (j ≤ c) × Struck t at n (keysFrom
 abbrev μ-loop : tie.MeasureT-loop
 μ-loop t at n m₀ a w c lo hi j₀ m j = c - j
 
-read-key-requires : tie.Need-read-key-requires Inv-loop μ-loop
-read-key-requires c κs = omega arith
-
-sub-read-key : tie.Need-sub-read-key Inv-loop μ-loop
-sub-read-key c = omega arith
-
-mul-read-key : tie.Need-mul-read-key Inv-loop μ-loop
-mul-read-key c = omega arith
-
-add-read-key : tie.Need-add-read-key Inv-loop μ-loop
-add-read-key c = omega arith
-
-read-key-requires-2 : tie.Need-read-key-requires-2 Inv-loop μ-loop
-read-key-requires-2 c κs = omega arith
-
 below-requires : tie.Need-below-requires Inv-loop μ-loop
-below-requires c κs = c .before .before .before .before .pre .2
+below-requires c κs = c .before .before .pre .1
 
 loop-holds : tie.Need-loop-holds Inv-loop μ-loop
 loop-holds c =
-    let s = c .before .before .before .before .before .args in
-    let p = c .before .before .before .before .before .pre in
-    (omega arith, strike-start (now (s .t)) (s .at) (s .n) (s .a) (s .w) (s .c) (p .0) (p .1 .4) (p .2 .4) (now (s .m)) (c .before .before .read-key .ensures) (c .below .ensures .0) (c .below .ensures .1))
+    let s = c .before .before .before .args in
+    let p = c .before .before .before .pre in
+    (omega arith, strike-start (now (s .t)) (s .at) (s .n) (s .a) (s .w) (s .c) (s .lo) (s .hi) (p .1 .4) (now (s .m)) (p .3) (c .below .ensures .0) (c .below .ensures .1))
 
 -- the key stands within the slice
-room : (c : tie.In-loop Inv-loop μ-loop) → let s = c .before .before .before .before .before .before .before .args in
-    s .a + s .w * c .before .loop .j + 8 ≤ length (now (s .t))
+room : (c : tie.In-loop Inv-loop μ-loop) → let s = c .before .before .before .before .before .args in s .a + s .w * c .before .loop .j + 8 ≤ length (now (s .t))
 room c =
-    let s = c .before .before .before .before .before .before .before .args in
-    let p = c .before .before .before .before .before .before .before .pre .2 in
+    let s = c .before .before .before .before .before .args in
+    let p = c .before .before .before .before .before .pre .1 in
     key-room (s .w) (s .a) (length (now (s .t))) {i = c .before .loop .j} {n = s .c} (omega arith) (p .0) (p .3)
 
-mul-read-key-2 : tie.Need-mul-read-key-2 Inv-loop μ-loop
-mul-read-key-2 c = omega (arith, room c)
+mul-read-key : tie.Need-mul-read-key Inv-loop μ-loop
+mul-read-key c = omega (arith, room c)
 
-add-read-key-2 : tie.Need-add-read-key-2 Inv-loop μ-loop
-add-read-key-2 c = omega (arith, room c)
+add-read-key : tie.Need-add-read-key Inv-loop μ-loop
+add-read-key c = omega (arith, room c)
 
-read-key-requires-3 : tie.Need-read-key-requires-3 Inv-loop μ-loop
-read-key-requires-3 c κs = room c
+read-key-requires : tie.Need-read-key-requires Inv-loop μ-loop
+read-key-requires c κs = room c
 
 same-length : tie.Need-same-length Inv-loop μ-loop
 same-length c = c .before .before .before .loop .inv .1 .sized
 
 returns : tie.Need-returns Inv-loop μ-loop
 returns c =
-    let s = c .before .before .before .before .before .before .before .before .before .args in
-    let p = c .before .before .before .before .before .before .before .before .before .pre in
+    let s = c .before .before .before .before .before .before .before .args in
+    let p = c .before .before .before .before .before .before .before .pre in
     let l = c .before .before .before .loop in
-    strike-stop (now (s .t)) (s .at) (s .n) (s .a) (s .w) (s .c) (p .0) (p .1 .4) (p .2 .4) (l .j) (omega arith) (c .before .before .before .before .before .read-key2 .ensures) (c .before .read-key3 .ensures) (c .if1 .taken) (l .inv .1)
+    strike-stop (now (s .t)) (s .at) (s .n) (s .a) (s .w) (s .c) (s .lo) (s .hi) (p .1 .4) (l .j) (p .3) (omega arith) (c .before .read-key .ensures) (c .if1 .taken) (l .inv .1)
 
 strike-key-requires : tie.Need-strike-key-requires Inv-loop μ-loop
-strike-key-requires c κs = (c .before .before .before .before .before .before .before .before .before .before .pre .1, omega (arith, c .before .before .before .before .before .before .before .before .before .before .pre .3, c .before .before .before .before .loop .inv .1 .sized))
+strike-key-requires c κs = (c .before .before .before .before .before .before .before .before .pre .0, omega (arith, c .before .before .before .before .before .before .before .before .pre .2, c .before .before .before .before .loop .inv .1 .sized))
 
 add-j : tie.Need-add-j Inv-loop μ-loop
 add-j c = omega arith
@@ -78,20 +62,19 @@ loop-less c = omega arith
 
 loop-again : tie.Need-loop-again Inv-loop μ-loop
 loop-again c =
-    let s = c .before .before .before .before .before .before .before .before .before .before .before .before .before .args in
-    let p = c .before .before .before .before .before .before .before .before .before .before .before .before .before .pre in
+    let s = c .before .before .before .before .before .before .before .before .before .before .before .args in
+    let p = c .before .before .before .before .before .before .before .before .before .before .before .pre in
     let l = c .before .before .before .before .before .before .before .loop in
-    (omega arith, strike-next (now (s .t)) (s .at) (s .n) (s .a) (s .w) (s .c) (p .0) (p .1 .4) (p .2 .4) (l .j) (c .before .before .before .before .before .read-key3 .ensures) (l .inv .1) (c .before .before .strike-key .ensures))
+    (omega arith, strike-next (now (s .t)) (s .at) (s .n) (s .a) (s .w) (s .c) (s .lo) (s .hi) (p .1 .4) (l .j) (c .before .before .before .before .before .read-key .ensures) (l .inv .1) (c .before .before .strike-key .ensures))
 
 same-length-2 : tie.Need-same-length-2 Inv-loop μ-loop
 same-length-2 c = c .before .loop .inv .1 .sized
 
 returns-2 : tie.Need-returns-2 Inv-loop μ-loop
 returns-2 c =
-    let s = c .before .before .before .before .before .before .before .args in
-    let p = c .before .before .before .before .before .before .before .pre in
-    let l = c .before .loop in
-    strike-end (now (s .t)) (s .at) (s .n) (s .a) (s .w) (s .c) (p .0) (p .1 .4) (p .2 .4) (l .j) (omega arith) (l .inv .1)
+    let s = c .before .before .before .before .before .args in
+    let p = c .before .before .before .before .before .pre in
+    strike-end (now (s .t)) (s .at) (s .n) (s .a) (s .w) (s .c) (s .lo) (s .hi) (p .1 .4) (c .before .loop .j) (omega arith) (c .before .loop .inv .1)
 
 pub strike-spec : {M : Type 1} → statement M
 strike-spec =
@@ -99,16 +82,11 @@ strike-spec =
     (tie.spec
     Inv-loop
     μ-loop
-    read-key-requires
-    sub-read-key
-    mul-read-key
-    add-read-key
-    read-key-requires-2
     below-requires
     loop-holds
-    mul-read-key-2
-    add-read-key-2
-    read-key-requires-3
+    mul-read-key
+    add-read-key
+    read-key-requires
     same-length
     returns
     strike-key-requires

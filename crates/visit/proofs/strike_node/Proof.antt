@@ -6,7 +6,7 @@ use mathlib.Core.List.{List}
 use mathlib.Core.Path.{ap, subst, _∙_}
 use Prim.Native.Nat.{ℕ}
 use denote.Ref.{now}
-use Rattle.visit.proofs.Marking.{struck-then}
+use Rattle.visit.proofs.Marking.{struck-then, blank-struck}
 use Rattle.visit.proofs.Runs.{Runs, runs-of, inserts-ready, deletes-ready, waiting-is}
 use Rattle.visit.specs.Visit.{Struck}
 use Rattle.block.proofs.Frames.{part-is}
@@ -37,7 +37,7 @@ runs : (c : tie.After-front-of) → Runs (now (c .before .before .before .before
 runs c =
     let s = c .before .before .before .before in
     let a = s .args in
-    runs-of (now (a .t)) (a .b) (s .pre .2) (c .front-of .ensures .0 ∙ ap frontOf (part-is (now (a .t)) (a .b)))
+    runs-of (now (a .t)) (a .b) (s .pre .1) (c .front-of .ensures .0 ∙ ap frontOf (part-is (now (a .t)) (a .b)))
 
 inserts-from-requires : tie.Need-inserts-from-requires
 inserts-from-requires c κs = omega (arith, runs c .used)
@@ -56,14 +56,14 @@ strike-requires c κs =
     let f = c .before .before .before in
     let a = c .before .before .before .before .before .before .before .args in
     let p = c .before .before .before .before .before .before .before .pre in
-    (p .0, p .1, inserts-ready (now (a .t)) (a .b) (f .front-of .result) (runs f) (p .2 .inside) (c .before .before .inserts-from .ensures), p .3)
+    (p .0, inserts-ready (now (a .t)) (a .b) (f .front-of .result) (runs f) (p .1 .inside) (c .before .before .inserts-from .ensures), p .2, p .3)
 
 strike-requires-2 : tie.Need-strike-requires-2
 strike-requires-2 c κs =
     let f = c .before .before .before .before .before .before .before in
     let a = c .before .before .before .before .before .before .before .before .before .before .before .args in
     let p = c .before .before .before .before .before .before .before .before .before .before .before .pre in
-    (p .0, p .1, deletes-ready (now (a .t)) (a .b) (f .front-of .result) (runs f) (p .2 .inside) (c .before .before .before .before .before .deletes-from .ensures), omega (arith, p .3, c .before .before .before .strike .ensures .sized))
+    (p .0, deletes-ready (now (a .t)) (a .b) (f .front-of .result) (runs f) (p .1 .inside) (c .before .before .before .before .before .deletes-from .ensures), omega (arith, p .2, c .before .before .before .strike .ensures .sized), blank-struck (a .lo) (a .hi) (c .before .before .before .strike .ensures) (p .3))
 
 same-length : tie.Need-same-length
 same-length c = c .before .before .strike2 .ensures .sized ∙ c .before .before .before .before .before .before .strike .ensures .sized
@@ -73,7 +73,7 @@ returns c =
     let f = c .before .before .before .before .before .before .before .before .before .before in
     let a = c .before .before .before .before .before .before .before .before .before .before .before .before .before .before .args in
     subst (λ (ks : List ℕ). Struck (now (a .t)) (a .at) (a .n) ks (now (a .m)) (c .before .before .strike2 .last .1 .1 .1 .0))
-    (waiting-is (now (a .t)) (a .b) (f .front-of .result) (runs f) (c .before .before .before .before .before .before .before .before .before .before .before .before .before .before .pre .2 .inside) (c .before .before .before .before .before .before .before .before .before .inserts-from .ensures) (c .before .before .before .before .before .before .before .before .deletes-from .ensures))
+    (waiting-is (now (a .t)) (a .b) (f .front-of .result) (runs f) (c .before .before .before .before .before .before .before .before .before .before .before .before .before .before .pre .1 .inside) (c .before .before .before .before .before .before .before .before .before .inserts-from .ensures) (c .before .before .before .before .before .before .before .before .deletes-from .ensures))
     (struck-then (c .before .before .before .before .before .before .strike .ensures) (c .before .before .strike2 .ensures))
 
 pub strike-node-spec : {M : Type 1} → statement M

@@ -1,0 +1,15 @@
+-- `visit::earlier` meets its contract: the smaller is one of the two.
+-- Assumes nothing.
+use mathlib.Core.Path.{refl}
+use mathlib.Core.Logic.{inl, inr}
+use Rattle.visit.proofs.earlier.Statement.{statement}
+use Rattle.visit.proofs.earlier.Tie as tie
+
+returns : tie.Need-returns
+returns c = inl refl
+
+returns-2 : tie.Need-returns-2
+returns-2 c = inr refl
+
+pub earlier-spec : {M : Type 1} → statement M
+earlier-spec = tie.close (tie.spec returns returns-2)
