@@ -7,7 +7,7 @@ use mathlib.Core.List.{List, List·Memᴰ}
 use Prim.Native.Nat.{ℕ, _+_, _-_, _*_, _≤_, _<_}
 use native.Mathlib.Omega.{arith}
 use lib.Dec.{leb, ltb}
-use borrow.Author.Tests.{ltb-true, ltb-false, lt-ltb, leb-true, le-leb, not-true}
+use borrow.Author.Tests.{ltb-true, lt-ltb, leb-true, le-leb, lt-leb, not-true}
 use Rattle.octets.specs.Lists.{has, keep}
 use Rattle.octets.proofs.Order.{same-or-not, less-or-not}
 use Rattle.octets.proofs.Tests.{and-left, and-right, and-both, all-at, all-cons, all-nil, keep-mem, keep-there}
@@ -25,8 +25,8 @@ use Rattle.visit.specs.declared.Span.{Span}
 use Rattle.frontier.specs.declared.Pick.{Pick}
 use Rattle.frontier.specs.declared.KidPick.{KidPick}
 use Rattle.frontier.specs.Frontier.{kidKey}
-use Rattle.frontier.specs.Picks.{Best, spotsOf, spotsAt, spotBy, Picked, RunBest, KidBest}
-use Rattle.frontier.proofs.Spots.{Sizes, key-by, spot-in, spot-by-index, spots-small}
+use Rattle.frontier.specs.Picks.{Best, spotsOf, spotsAt, spotBy, Picked, Bare, taken, RunBest, KidBest}
+use Rattle.frontier.proofs.Spots.{Sizes, key-by, spot-in, spot-by-index, points-above, spots-small}
 
 -- ---- the best child of the first n
 
@@ -76,58 +76,87 @@ module _ (t : List ℕ) (b : ℕ) (s : Span) (q : Query) (most : ℕ) where
 
 -- ---- the best spot of a run
 
--- a spot is taken if it is wanted, under the limit, and better
-abbrev pub better : Query → ℕ → ℕ → ℕ → Pick → Bool
-better q k rank most b = (wantsKey q k && leb rank most) && (not (b .there) || ltb (b .rank) rank)
+and-no : (x : Bool) → x && false ≡ false
+and-no true = refl
+and-no false = refl
 
-beats : (x : Bool) (u v : ℕ) → not x || ltb u v ≡ true → x ≡ true → u < v
-beats true u v h e = ltb-true u v h
-beats false u v h e = absurd (false≢true e)
+module _ (q : Query) (k most : ℕ) (b : Pick) where
+  -- turned away by one of the three questions
+  pub kept-lower : rankKey k < b .rank → taken q k most b ≡ false
+  kept-lower l = ap (λ (x : Bool). x && (leb (rankKey k) most && wantsKey q k)) (lt-leb (b .rank) (rankKey k) l)
 
-holds : (x : Bool) (u v : ℕ) → not x || ltb u v ≡ false → (x ≡ true) × (v ≤ u)
-holds true u v h = (refl, ltb-false u v h)
-holds false u v h = absurd (true≢false h)
+  pub kept-over : most < rankKey k → taken q k most b ≡ false
+  kept-over l = ap (λ (x : Bool). leb (b .rank) (rankKey k) && (x && wantsKey q k)) (lt-leb (rankKey k) most l) ∙ and-no (leb (b .rank) (rankKey k))
+
+  pub kept-unwanted : wantsKey q k ≡ false → taken q k most b ≡ false
+  kept-unwanted e =
+      ap (λ (x : Bool). leb (b .rank) (rankKey k) && (leb (rankKey k) most && x)) e
+      ∙ ap (λ (x : Bool). leb (b .rank) (rankKey k) && x) (and-no (leb (rankKey k) most))
+      ∙ and-no (leb (b .rank) (rankKey k))
+
+  pub taken-all : b .rank ≤ rankKey k → rankKey k ≤ most → wantsKey q k ≡ true → taken q k most b ≡ true
+  taken-all l m e =
+      and-both (leb (b .rank) (rankKey k)) (leb (rankKey k) most && wantsKey q k) (le-leb (b .rank) (rankKey k) l)
+      (and-both (leb (rankKey k) most) (wantsKey q k) (le-leb (rankKey k) most m) e)
 
 module _ (t : List ℕ) (at base : ℕ) (q : Query) (most : ℕ) (f : Pick) where
-  pub run-none : RunBest t at 0 base q most f f
-  run-none =
+  pub run-none : Bare f → RunBest t at 0 base q most f f
+  run-none o =
       record {
         from = λ h. inl refl;
         over = λ i l. let z : ⊥ = omega arith in absurd z;
         keeps = λ h. (h, omega arith);
+        bare = o;
       }
 
-  module _ (i : ℕ) {k rank : ℕ} {b : Pick} (h : RunBest t at i base q most f b) (e : k ≡ keyAt t (at + 12 * i)) (g : rank ≡ rankKey k) where
-    pub run-take : better q k rank most b ≡ true → RunBest t at (i + 1) base q most f (record { there = true; rank = rank; at = base + i })
+  module _ (i : ℕ) {k : ℕ} {b : Pick} (h : RunBest t at i base q most f b) (e : k ≡ keyAt t (at + 12 * i)) where
+    run-take : taken q k most b ≡ true → RunBest t at (i + 1) base q most f (record { there = true; rank = rankKey k; at = base + i })
     run-take y =
-        let first = and-left (wantsKey q k && leb rank most) (not (b .there) || ltb (b .rank) rank) y in
-        let wanted : wantsKey q k ≡ true = and-left (wantsKey q k) (leb rank most) first in
-        let low : rank ≤ most = leb-true rank most (and-right (wantsKey q k) (leb rank most) first) in
-        let up : b .there ≡ true → b .rank < rank = beats (b .there) (b .rank) rank (and-right (wantsKey q k && leb rank most) (not (b .there) || ltb (b .rank) rank) y) in
+        let up : b .rank ≤ rankKey k = leb-true (b .rank) (rankKey k) (and-left (leb (b .rank) (rankKey k)) (leb (rankKey k) most && wantsKey q k) y) in
+        let rest = and-right (leb (b .rank) (rankKey k)) (leb (rankKey k) most && wantsKey q k) y in
+        let low : rankKey k ≤ most = leb-true (rankKey k) most (and-left (leb (rankKey k) most) (wantsKey q k) rest) in
+        let wanted : wantsKey q k ≡ true = and-right (leb (rankKey k) most) (wantsKey q k) rest in
         record {
-          from = λ z. inr (i, omega arith, refl, g ∙ ap rankKey e, ap (wantsKey q) (sym e) ∙ wanted, low);
+          from = λ z. inr (i, omega arith, refl, ap rankKey e, ap (wantsKey q) (sym e) ∙ wanted, low);
           over = λ j l w m.
-              ⊎-elim (λ (z : j ≡ i). (refl, omega (arith, ap (λ (x : ℕ). rankKey (keyAt t (at + 12 * x))) z, g, ap rankKey e)))
-              (λ (d : j ≡ i → ⊥). let o = h .over j (omega (arith, d)) w m in (refl, omega (arith, o .1, up (o .0))))
+              ⊎-elim (λ (z : j ≡ i). (refl, omega (arith, ap (λ (x : ℕ). rankKey (keyAt t (at + 12 * x))) z, ap rankKey e)))
+              (λ (d : j ≡ i → ⊥). let o = h .over j (omega (arith, d)) w m in (refl, omega (arith, o .1, up)))
               (same-or-not j i);
-          keeps = λ z. let o = h .keeps z in (refl, omega (arith, o .1, up (o .0)));
+          keeps = λ z. let o = h .keeps z in (refl, omega (arith, o .1, up));
+          bare = λ z. absurd (true≢false z);
         }
 
-    pub run-skip : better q k rank most b ≡ false → RunBest t at (i + 1) base q most f b
+    run-skip : taken q k most b ≡ false → RunBest t at (i + 1) base q most f b
     run-skip y =
         record {
           from = λ z. ⊎-elim (λ (s : b ≡ f). inl s) (λ w. inr (w .0, omega (arith, w .1), w .2, w .3, w .4, w .5)) (h .from z);
           over = λ j l w m. ⊎-elim (λ (z : j ≡ i). held j z w m) (λ (d : j ≡ i → ⊥). h .over j (omega (arith, d)) w m) (same-or-not j i);
           keeps = h .keeps;
+          bare = h .bare;
         }
       where
+        -- a wanted spot under the limit that is not taken is not better; and where there is none yet, every one is taken
         held : (j : ℕ) → j ≡ i → wantsKey q (keyAt t (at + 12 * j)) ≡ true → rankKey (keyAt t (at + 12 * j)) ≤ most → (b .there ≡ true) × (rankKey (keyAt t (at + 12 * j)) ≤ b .rank)
         held j z w m =
             let s : keyAt t (at + 12 * j) ≡ k = ap (λ (x : ℕ). keyAt t (at + 12 * x)) z ∙ sym e in
-            let low : rank ≤ most = omega (arith, ap rankKey s, g) in
-            let first : wantsKey q k && leb rank most ≡ true = and-both (wantsKey q k) (leb rank most) (ap (wantsKey q) (sym s) ∙ w) (le-leb rank most low) in
-            let o = holds (b .there) (b .rank) rank (ap (λ (x : Bool). x && (not (b .there) || ltb (b .rank) rank)) (sym first) ∙ y) in
-            (o .0, omega (arith, o .1, ap rankKey s, g))
+            let low : rankKey k ≤ most = omega (arith, ap rankKey s) in
+            let second : leb (rankKey k) most && wantsKey q k ≡ true = and-both (leb (rankKey k) most) (wantsKey q k) (le-leb (rankKey k) most low) (ap (wantsKey q) (sym s) ∙ w) in
+            let under : rankKey k < b .rank =
+            ⊎-elim (λ (x : b .rank ≤ rankKey k). absurd (true≢false (sym (and-both (leb (b .rank) (rankKey k)) (leb (rankKey k) most && wantsKey q k) (le-leb (b .rank) (rankKey k) x) second) ∙ y)))
+            (λ (x : rankKey k < b .rank). x)
+            (less-or-not (b .rank) (rankKey k)) in
+            (there (b .there) refl under, omega (arith, ap rankKey s, under))
+          where
+            there : (x : Bool) → b .there ≡ x → rankKey k < b .rank → b .there ≡ true
+            there true g l = g
+            there false g l = let u : ⊥ = omega (arith, h .bare g) in absurd u
+
+    pub run-step : {r : Pick} → r ≡ cond (taken q k most b) (record { there = true; rank = rankKey k; at = base + i }) b → RunBest t at (i + 1) base q most f r
+    run-step {r} g = go (taken q k most b) refl g
+      where
+        go : (x : Bool) → taken q k most b ≡ x → r ≡ cond x (record { there = true; rank = rankKey k; at = base + i }) b → RunBest t at (i + 1) base q most f r
+        go true y w = subst (λ (p : Pick). RunBest t at (i + 1) base q most f p) (sym w) (run-take y)
+        go false y w = subst (λ (p : Pick). RunBest t at (i + 1) base q most f p) (sym w) (run-skip y)
 
 -- ---- the best spot of a node
 
@@ -146,58 +175,84 @@ module _ (t : List ℕ) (b : ℕ) (h : Front) (z : Sizes t b h) (q : Query) (mos
       let s : keyAt t (at + 12 * w .0) ≡ spotBy t b (r .at) .key = ap (keyAt t) place ∙ sym (key-by t b (r .at)) in
       record { index = omega (arith, w .1, w .2); rank = w .3 ∙ ap rankKey s; wanted = ap (wantsKey q) (sym s) ∙ w .4; low = w .5 }
 
-  module _ {none high r : Pick} {ap1 ai : ℕ} (bare : none .there ≡ false) (at-points : ap1 ≡ spotsAt t b) (at-inserts : ai ≡ spotsAt t b + 12 * h .p)
-      (first : RunBest t ap1 (h .p) 0 q most none high) (second : RunBest t ai (h .i) (h .p) q most high r) where
+  module _ {none high : Pick} {ap1 ai : ℕ} (bare : none .there ≡ false) (at-points : ap1 ≡ spotsAt t b) (at-inserts : ai ≡ spotsAt t b + 12 * h .p)
+      (first : RunBest t ap1 (h .p) 0 q most none high) where
+    own : high .there ≡ true
+        → (i : ℕ) × (i < h .p) × (high .at ≡ 0 + i) × (high .rank ≡ rankKey (keyAt t (ap1 + 12 * i))) × (wantsKey q (keyAt t (ap1 + 12 * i)) ≡ true) × (high .rank ≤ most)
+    own there = ⊎-elim (λ (s : high ≡ none). absurd (true≢false (sym there ∙ ap (λ (x : Pick). x .there) s ∙ bare))) (λ w. w) (first .from there)
+
     from-first : high .there ≡ true → Sits high
-    from-first there =
-        ⊎-elim (λ (s : high ≡ none). absurd (true≢false (sym there ∙ ap (λ (x : Pick). x .there) s ∙ bare)))
-        (λ w. sits 0 (h .p) ap1 high (omega arith) (omega arith) w)
-        (first .from there)
+    from-first there = sits 0 (h .p) ap1 high (omega arith) (omega arith) (own there)
 
-    from-either : r .there ≡ true → Sits r
-    from-either there =
-        ⊎-elim (λ (s : r ≡ high). subst Sits (sym s) (from-first (ap (λ (x : Pick). x .there) (sym s) ∙ there)))
-        (λ w. sits (h .p) (h .i) ai r (omega arith) at-inserts w)
-        (second .from there)
-
-    -- every wanted spot under the limit is no better
-    over-all : (j : ℕ) → j < h .p + h .i → wantsKey q (spotBy t b j .key) ≡ true → rankKey (spotBy t b j .key) ≤ most → (r .there ≡ true) × (rankKey (spotBy t b j .key) ≤ r .rank)
-    over-all j l w m =
-        ⊎-elim
-        (λ (x : h .p ≤ j).
-        let place : ai + 12 * (j - h .p) ≡ spotsAt t b + 12 * j = omega arith in
-        let s : keyAt t (ai + 12 * (j - h .p)) ≡ spotBy t b j .key = ap (keyAt t) place ∙ sym (key-by t b j) in
-        let o = second .over (j - h .p) (omega arith) (ap (wantsKey q) s ∙ w) (omega (arith, ap rankKey s)) in
-        (o .0, omega (arith, o .1, ap rankKey s)))
-        (λ (x : j < h .p).
-        let s : keyAt t (ap1 + 12 * j) ≡ spotBy t b j .key = ap (λ (y : ℕ). keyAt t (y + 12 * j)) at-points ∙ sym (key-by t b j) in
-        let o = first .over j x (ap (wantsKey q) s ∙ w) (omega (arith, ap rankKey s)) in
-        let k = second .keeps (o .0) in
-        (k .0, omega (arith, o .1, k .1, ap rankKey s)))
-        (less-or-not (h .p) j)
-
-    over-spot : (s : Spot) → List·Memᴰ s (keep (wants q) (spotsOf (storeOf t b))) → rankKey (s .key) ≤ most → (r .there ≡ true) × (rankKey (s .key) ≤ r .rank)
-    over-spot s i m =
-        let k = keep-mem (wants q) (spotsOf (storeOf t b)) i in
-        let j = spot-by-index t b h z (k .0) in
-        let e : s .key ≡ spotBy t b (j .0) .key = ap (λ (x : Spot). x .key) (j .2) in
-        let o = over-all (j .0) (j .1) (ap (wantsKey q) (sym e) ∙ k .1) (omega (arith, ap rankKey e)) in
-        (o .0, omega (arith, o .1, ap rankKey e))
-
-    pub node-picked : Picked t b most (keep (wants q) (spotsOf (storeOf t b))) r
-    node-picked =
+    -- a point is better than every insert
+    pub points-first : ValidBlock t b → high .there ≡ true → RunBest t ai (h .i) (h .p) q most high high
+    points-first v there =
+        let w = own there in
         record {
-          index = λ y. omega (arith, from-either y .index, z .points, z .inserts);
-          rank = λ y. from-either y .rank;
-          best =
-              record {
-                held = λ y.
-                    let w = from-either y in
-                    (keep-there (wants q) (spotsOf (storeOf t b)) (spot-in t b h z (r .at) (w .index)) (w .wanted), omega (arith, w .low, w .rank));
-                some = λ s i m. over-spot s i m .0;
-                over = λ s i m. let o = over-spot s i m in omega (arith, o .1, from-either (o .0) .rank);
-              };
+          from = λ y. inl refl;
+          over = λ j l y m. (
+            there,
+            omega (arith, points-above t b h z v (w .0) j (w .1) l, w .3, ap (λ (x : ℕ). rankKey (keyAt t (x + 12 * w .0))) at-points, ap (λ (x : ℕ). rankKey (keyAt t (x + 12 * j))) at-inserts),
+          );
+          keeps = λ y. (y, omega arith);
+          bare = λ y. absurd (true≢false (sym there ∙ y));
         }
+
+    -- with no point, the inserts begin with nothing
+    pub inserts-then : {r : Pick} → high .there ≡ false → RunBest t ai (h .i) (h .p) q most none r → RunBest t ai (h .i) (h .p) q most high r
+    inserts-then gone second =
+        record {
+          from = λ y. ⊎-elim (λ e. absurd (true≢false (sym y ∙ ap (λ (x : Pick). x .there) e ∙ bare))) (λ w. inr w) (second .from y);
+          over = second .over;
+          keeps = λ y. absurd (true≢false (sym y ∙ gone));
+          bare = second .bare;
+        }
+
+    module _ {r : Pick} (second : RunBest t ai (h .i) (h .p) q most high r) where
+      from-either : r .there ≡ true → Sits r
+      from-either there =
+          ⊎-elim (λ (s : r ≡ high). subst Sits (sym s) (from-first (ap (λ (x : Pick). x .there) (sym s) ∙ there)))
+          (λ w. sits (h .p) (h .i) ai r (omega arith) at-inserts w)
+          (second .from there)
+
+      -- every wanted spot under the limit is no better
+      over-all : (j : ℕ) → j < h .p + h .i → wantsKey q (spotBy t b j .key) ≡ true → rankKey (spotBy t b j .key) ≤ most → (r .there ≡ true) × (rankKey (spotBy t b j .key) ≤ r .rank)
+      over-all j l w m =
+          ⊎-elim
+          (λ (x : h .p ≤ j).
+          let place : ai + 12 * (j - h .p) ≡ spotsAt t b + 12 * j = omega arith in
+          let s : keyAt t (ai + 12 * (j - h .p)) ≡ spotBy t b j .key = ap (keyAt t) place ∙ sym (key-by t b j) in
+          let o = second .over (j - h .p) (omega arith) (ap (wantsKey q) s ∙ w) (omega (arith, ap rankKey s)) in
+          (o .0, omega (arith, o .1, ap rankKey s)))
+          (λ (x : j < h .p).
+          let s : keyAt t (ap1 + 12 * j) ≡ spotBy t b j .key = ap (λ (y : ℕ). keyAt t (y + 12 * j)) at-points ∙ sym (key-by t b j) in
+          let o = first .over j x (ap (wantsKey q) s ∙ w) (omega (arith, ap rankKey s)) in
+          let k = second .keeps (o .0) in
+          (k .0, omega (arith, o .1, k .1, ap rankKey s)))
+          (less-or-not (h .p) j)
+
+      over-spot : (s : Spot) → List·Memᴰ s (keep (wants q) (spotsOf (storeOf t b))) → rankKey (s .key) ≤ most → (r .there ≡ true) × (rankKey (s .key) ≤ r .rank)
+      over-spot s i m =
+          let k = keep-mem (wants q) (spotsOf (storeOf t b)) i in
+          let j = spot-by-index t b h z (k .0) in
+          let e : s .key ≡ spotBy t b (j .0) .key = ap (λ (x : Spot). x .key) (j .2) in
+          let o = over-all (j .0) (j .1) (ap (wantsKey q) (sym e) ∙ k .1) (omega (arith, ap rankKey e)) in
+          (o .0, omega (arith, o .1, ap rankKey e))
+
+      pub node-picked : Picked t b most (keep (wants q) (spotsOf (storeOf t b))) r
+      node-picked =
+          record {
+            index = λ y. omega (arith, from-either y .index, z .points, z .inserts);
+            rank = λ y. from-either y .rank;
+            best =
+                record {
+                  held = λ y.
+                      let w = from-either y in
+                      (keep-there (wants q) (spotsOf (storeOf t b)) (spot-in t b h z (r .at) (w .index)) (w .wanted), omega (arith, w .low, w .rank));
+                  some = λ s i m. over-spot s i m .0;
+                  over = λ s i m. let o = over-spot s i m in omega (arith, o .1, from-either (o .0) .rank);
+                };
+          }
 
 -- ---- the best spot that no change above waits for
 

@@ -3,8 +3,9 @@
 use mathlib.Core.Path.{_≡_}
 use mathlib.Core.Logic.{_⊎_}
 use Prim.Native.Nat.{ℕ, _+_, _*_, _≤_, _<_}
-use mathlib.Core.Bool.{Bool, true}
+use mathlib.Core.Bool.{Bool, true, false, _&&_}
 use mathlib.Core.List.{List, _++_, List·Memᴰ}
+use lib.Dec.{leb}
 use Rattle.octets.specs.Bytes.{be}
 use Rattle.spot.specs.Keys.{rankKey}
 use Rattle.spot.specs.Spots.{keyAt, spotAt}
@@ -56,6 +57,14 @@ pub record Picked (t : List ℕ) (b most : ℕ) (ss : List Spot) (r : Pick) : Ty
   pub rank : r .there ≡ true → r .rank ≡ rankKey (spotBy t b (r .at) .key)
   pub best : Best most ss (nextOf t b r)
 
+-- a pick of nothing has the lowest rank key
+abbrev pub Bare : Pick → Type 0
+Bare b = b .there ≡ false → b .rank ≡ 0
+
+-- the spot with the key k is better than b, under the limit and wanted
+abbrev pub taken : Query → ℕ → ℕ → Pick → Bool
+taken q k most b = leb (b .rank) (rankKey k) && (leb (rankKey k) most && wantsKey q k)
+
 -- r is the better of b and of the n spots from `at` on that a query wants, whose indices begin at `base`
 pub record RunBest (t : List ℕ) (at n base : ℕ) (q : Query) (most : ℕ) (b r : Pick) : Type 0 where
   pub from : r .there ≡ true
@@ -64,6 +73,7 @@ pub record RunBest (t : List ℕ) (at n base : ℕ) (q : Query) (most : ℕ) (b 
   pub over : (i : ℕ) → i < n → wantsKey q (keyAt t (at + 12 * i)) ≡ true → rankKey (keyAt t (at + 12 * i)) ≤ most
       → (r .there ≡ true) × (rankKey (keyAt t (at + 12 * i)) ≤ r .rank)
   pub keeps : b .there ≡ true → (r .there ≡ true) × (b .rank ≤ r .rank)
+  pub bare : Bare r
 
 -- ---- children
 

@@ -5,6 +5,7 @@ ghost use lib.Dec.{eqb};
 ghost use Prim.Native.Nat.{_+_, _*_, _≤_, _<_};
 ghost use lib.ListN.{length};
 ghost use Rattle.octets.specs.Lists.{has, keep};
+ghost use Rattle.spot.specs.Keys.{rankKey};
 ghost use Rattle.spot.specs.Query.{wants};
 ghost use Rattle.block.specs.Header.{headOf};
 ghost use Rattle.block.specs.HeaderRules.{headerOk};
@@ -14,7 +15,7 @@ ghost use Rattle.block.specs.NodeRules.{ValidBlock};
 ghost use Rattle.tree.specs.Walk.{finds};
 ghost use Rattle.visit.specs.Visit.{waiting, waitingAbove};
 ghost use Rattle.frontier.specs.Frontier.{kidCount, kidKey, kidPlace, KidIs, rootSlot, placeOf, slotBy, Hangs};
-ghost use Rattle.frontier.specs.Picks.{spotCount, spotBy, Picked, spotsOf, RunBest, KidBest};
+ghost use Rattle.frontier.specs.Picks.{spotCount, spotBy, Picked, spotsOf, Bare, taken, RunBest, KidBest};
 
 // A node that was read: its block and level, and its range.
 pub struct Place {
@@ -181,6 +182,27 @@ fn waits_above(t: &[u8], rows: &[[u16; 2]], i: usize, k: u64) -> bool
     false
 }
 
+// The spot with the key k, if it is better than `best`, under the limit and wanted, else `best`. Most spots are turned away by the first two questions.
+fn better(q: spot::Query, k: u64, most: u64, at: usize, best: Pick) -> Pick
+    ensures { λ r. ⌜ r ≡ cond (taken q k most best) (record { there = true; rank = rankKey k; at = at }) best ⌝ }
+{
+    let rank = spot::rank_key(k);
+    if rank < best.rank {
+        return best;
+    }
+    if most < rank {
+        return best;
+    }
+    if !spot::wants(q, k) {
+        return best;
+    }
+    Pick {
+        there: true,
+        rank,
+        at,
+    }
+}
+
 // The better of `found` and of the n spots from `at` on that the query wants, of those whose rank key is at most `most`.
 fn run_best(
     t: &[u8],
@@ -191,27 +213,21 @@ fn run_best(
     most: u64,
     found: Pick,
 ) -> Pick
-    requires { ⌜ (n ≤ 64) × (base ≤ 64) × (at + 12 * n ≤ length (now t)) ⌝ }
+    requires { ⌜ (n ≤ 64) × (base ≤ 64) × (at + 12 * n ≤ length (now t)) × Bare found ⌝ }
     ensures { λ r. ⌜ RunBest (now (t .entry)) at n base q most found r ⌝ }
 {
     let mut best = found;
     let mut i = 0;
     while i < n {
         let k = spot::read_key(t, at + 12 * i);
-        let r = spot::rank_key(k);
-        if spot::wants(q, k) & (r <= most) & (!best.there | (best.rank < r)) {
-            best = Pick {
-                there: true,
-                rank: r,
-                at: base + i,
-            };
-        }
+        best = better(q, k, most, base + i, best);
         i += 1;
     }
     best
 }
 
-// The best spot that the query wants of the node at b, points and inserts together, of those whose rank key is at most `most`.
+// The best spot that the query wants of the node at b, of those whose rank key is at most `most`: P lies above I in rank order, so
+// the inserts are asked only where no point is.
 fn node_best(t: &[u8], b: usize, q: spot::Query, most: u64) -> Pick
     requires { ⌜ ValidBlock (now t) b ⌝ }
     ensures { λ r. ⌜ Picked (now (t .entry)) b most (keep (wants q) (spotsOf (storeOf (now (t .entry)) b))) r ⌝ }
@@ -227,7 +243,10 @@ fn node_best(t: &[u8], b: usize, q: spot::Query, most: u64) -> Pick
         at: 0,
     };
     let high = run_best(t, ap, h.p, 0, q, most, none);
-    run_best(t, ai, h.i, h.p, q, most, high)
+    if high.there {
+        return high;
+    }
+    run_best(t, ai, h.i, h.p, q, most, none)
 }
 
 // The best spot that the query finds in slot i: only the best one wanted is held against what waits above, and then the next under it.

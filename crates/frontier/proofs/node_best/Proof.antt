@@ -1,7 +1,9 @@
 -- `frontier::node_best` meets its contract: the points, then the inserts.
 -- Assumes nothing.
 use Rattle.frontier.proofs.Spots.{Sizes, part-sizes}
-use Rattle.frontier.proofs.Bests.{node-picked}
+use Rattle.frontier.proofs.Bests.{node-picked, points-first, inserts-then}
+use Rattle.frontier.specs.Picks.{spotsAt}
+use Prim.Native.Nat.{ℕ, _+_, _*_}
 use denote.Ref.{now}
 use mathlib.Core.Path.{refl}
 use borrow.Author.Needs.{needs}
@@ -49,15 +51,16 @@ run-best-requires c κs =
     let at-front = at-points .before in
     let v = at-front .before .before .before .pre in
     let r = known at-front .runs in
-    (omega (arith, r .p-most), omega arith, omega (arith, r .used, v .inside, at-points .points-from .ensures))
+    (omega (arith, r .p-most), omega arith, omega (arith, r .used, v .inside, at-points .points-from .ensures), λ e. refl)
 
 run-best-requires-2 : tie.Need-run-best-requires-2
 run-best-requires-2 c κs =
-    let at-inserts = c .before in
+    let at-high = c .before in
+    let at-inserts = at-high .before in
     let at-front = at-inserts .before .before in
     let v = at-front .before .before .before .pre in
     let r = known at-front .runs in
-    (omega (arith, r .i-most), omega (arith, r .p-most), omega (arith, r .used, v .inside, at-inserts .inserts-from .ensures))
+    (omega (arith, r .i-most), omega (arith, r .p-most), omega (arith, r .used, v .inside, at-inserts .inserts-from .ensures), λ e. refl)
 
 returns : tie.Need-returns
 returns c =
@@ -65,10 +68,26 @@ returns c =
     let at-inserts = at-high .before in
     let at-points = at-inserts .before in
     let at-front = at-points .before in
+    let start = at-front .before .before .before in
+    let a = start .args in
+    let z = known at-front in
+    let first = at-high .run-best .ensures in
+    let behind : ℕ = spotsAt (now (a .t)) (a .b) + 12 * at-front .front-of .result .p in
+    node-picked (now (a .t)) (a .b) (at-front .front-of .result) z (a .q) (a .most) {ai = behind} refl (omega (arith, z .children, at-points .points-from .ensures)) refl first
+    (points-first (now (a .t)) (a .b) (at-front .front-of .result) z (a .q) (a .most) {ai = behind} refl (omega (arith, z .children, at-points .points-from .ensures)) refl first (start .pre) (c .if1 .taken))
+
+returns-2 : tie.Need-returns-2
+returns-2 c =
+    let at-none = c .before in
+    let at-high = at-none .before in
+    let at-inserts = at-high .before in
+    let at-points = at-inserts .before in
+    let at-front = at-points .before in
     let a = at-front .before .before .before .args in
     let z = known at-front in
-    node-picked (now (a .t)) (a .b) (at-front .front-of .result) z (a .q) (a .most) refl (omega (arith, z .children, at-points .points-from .ensures))
-    (omega (arith, z .children, at-inserts .inserts-from .ensures)) (at-high .run-best .ensures) (c .run-best2 .ensures)
+    let first = at-high .run-best .ensures in
+    node-picked (now (a .t)) (a .b) (at-front .front-of .result) z (a .q) (a .most) refl (omega (arith, z .children, at-points .points-from .ensures)) (omega (arith, z .children, at-inserts .inserts-from .ensures)) first
+    (inserts-then (now (a .t)) (a .b) (at-front .front-of .result) z (a .q) (a .most) refl (omega (arith, z .children, at-points .points-from .ensures)) (omega (arith, z .children, at-inserts .inserts-from .ensures)) first (at-none .if1 .left) (c .run-best2 .ensures))
 
 pub node-best-spec : {M : Type 1} → statement M
 node-best-spec =
@@ -85,5 +104,6 @@ node-best-spec =
     inserts-from-requires
     add-ai
     run-best-requires
+    returns
     run-best-requires-2
-    returns)
+    returns-2)
