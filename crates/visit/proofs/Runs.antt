@@ -1,15 +1,18 @@
 -- The buffers of a node that keeps the rules, as runs of records in the table.
 -- Assumes nothing.
-use mathlib.Core.Path.{_≡_, sym, ap, ap₂, subst, _∙_}
-use mathlib.Core.Bool.{true}
-use mathlib.Core.List.{List, _++_}
+use mathlib.Core.Path.{_≡_, refl, sym, ap, ap₂, subst, _∙_}
+use mathlib.Core.Bool.{true, _&&_}
+use mathlib.Core.List.{List, [], _++_}
 use Prim.Native.Nat.{ℕ, _+_, _*_, _≤_}
 use native.Mathlib.Omega.{arith}
+use lib.Dec.{eqb}
 use lib.ListN.{length, take, drop}
+use borrow.Author.Tests.{eqb-true}
 use Rattle.octets.specs.Lists.{records, rising}
 use Rattle.octets.specs.Bytes.{be}
 use Rattle.octets.proofs.Order.{stride}
 use Rattle.octets.proofs.Records.{records-cong}
+use Rattle.octets.proofs.Tests.{and-left, and-right}
 use Rattle.spot.specs.Spots.{keyAt, spotAt, keys}
 use Rattle.spot.proofs.Buffers.{keys-records}
 use Rattle.spot.proofs.Card.{keyAt-part, spotAt-part}
@@ -108,3 +111,11 @@ module _ (t : List ℕ) (b : ℕ) (h : Front) (r : Runs t b h) (inside : b * 204
   pub waiting-is : {x y : ℕ} → x ≡ insertsFrom version1 (h .c) (h .p) → y ≡ deletesFrom version1 (h .c) (h .p) (h .i)
       → keysFrom t 12 (h .i) (b * 2048 + x) ++ keysFrom t 8 (h .d) (b * 2048 + y) ≡ waiting (storeOf t b)
   waiting-is e g = ap₂ (λ (u v : List ℕ). u ++ v) (inserts-keys e) (deletes-keys g)
+
+  -- where neither of the two has a key, none waits
+  pub waiting-none : eqb (h .i) 0 && eqb (h .d) 0 ≡ true → waiting (storeOf t b) ≡ []
+  waiting-none q =
+      sym (waiting-is refl refl)
+      ∙ ap₂ (λ (i d : ℕ). keysFrom t 12 i (b * 2048 + insertsFrom version1 (h .c) (h .p)) ++ keysFrom t 8 d (b * 2048 + deletesFrom version1 (h .c) (h .p) (h .i)))
+      (eqb-true (h .i) 0 (and-left (eqb (h .i) 0) (eqb (h .d) 0) q))
+      (eqb-true (h .d) 0 (and-right (eqb (h .i) 0) (eqb (h .d) 0) q))

@@ -208,6 +208,9 @@ fn strike_node(t: &[u8], at: usize, n: usize, m: &mut [bool], b: usize, lo: u64,
     let from = b * 2048;
     let to = from + 2048;
     let h = block::front_of(&t[from..to]);
+    if (h.i == 0) & (h.d == 0) {
+        return;
+    }
     let ai = from + block::inserts_from(h);
     let ad = from + block::deletes_from(h);
     strike(t, at, n, m, ai, 12, h.i, lo, hi);

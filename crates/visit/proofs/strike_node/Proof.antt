@@ -3,11 +3,11 @@
 use borrow.Author.Needs.{needs}
 use native.Mathlib.Omega.{arith}
 use mathlib.Core.List.{List}
-use mathlib.Core.Path.{ap, subst, _∙_}
+use mathlib.Core.Path.{refl, sym, ap, subst, _∙_}
 use Prim.Native.Nat.{ℕ}
 use denote.Ref.{now}
-use Rattle.visit.proofs.Marking.{struck-then, blank-struck}
-use Rattle.visit.proofs.Runs.{Runs, runs-of, inserts-ready, deletes-ready, waiting-is}
+use Rattle.visit.proofs.Marking.{struck-none, struck-then, blank-struck}
+use Rattle.visit.proofs.Runs.{Runs, runs-of, inserts-ready, deletes-ready, waiting-is, waiting-none}
 use Rattle.visit.specs.Visit.{Struck}
 use Rattle.block.proofs.Frames.{part-is}
 use Rattle.block.specs.Access.{frontOf}
@@ -39,41 +39,49 @@ runs c =
     let a = s .args in
     runs-of (now (a .t)) (a .b) (s .pre .1) (c .front-of .ensures .0 ∙ ap frontOf (part-is (now (a .t)) (a .b)))
 
+returns : tie.Need-returns
+returns c =
+    let f = c .before .before .before in
+    let a = c .before .before .before .before .before .before .before .args in
+    subst (λ (ks : List ℕ). Struck (now (a .t)) (a .at) (a .n) ks (now (a .m)) (now (a .m)))
+    (sym (waiting-none (now (a .t)) (a .b) (f .front-of .result) (runs f) (c .before .before .before .before .before .before .before .pre .1 .inside) (c .if1 .taken)))
+    (struck-none (now (a .m)) (λ i l. refl))
+
 inserts-from-requires : tie.Need-inserts-from-requires
-inserts-from-requires c κs = omega (arith, runs c .used)
+inserts-from-requires c κs = omega (arith, runs (c .before .before .before) .used)
 
 add-ai : tie.Need-add-ai
 add-ai c = search needs
 
 deletes-from-requires : tie.Need-deletes-from-requires
-deletes-from-requires c κs = omega (arith, runs (c .before) .used)
+deletes-from-requires c κs = omega (arith, runs (c .before .before .before .before) .used)
 
 add-ad : tie.Need-add-ad
 add-ad c = search needs
 
 strike-requires : tie.Need-strike-requires
 strike-requires c κs =
-    let f = c .before .before .before in
-    let a = c .before .before .before .before .before .before .before .args in
-    let p = c .before .before .before .before .before .before .before .pre in
+    let f = c .before .before .before .before .before .before in
+    let a = c .before .before .before .before .before .before .before .before .before .before .args in
+    let p = c .before .before .before .before .before .before .before .before .before .before .pre in
     (p .0, inserts-ready (now (a .t)) (a .b) (f .front-of .result) (runs f) (p .1 .inside) (c .before .before .inserts-from .ensures), p .2, p .3)
 
 strike-requires-2 : tie.Need-strike-requires-2
 strike-requires-2 c κs =
-    let f = c .before .before .before .before .before .before .before in
-    let a = c .before .before .before .before .before .before .before .before .before .before .before .args in
-    let p = c .before .before .before .before .before .before .before .before .before .before .before .pre in
+    let f = c .before .before .before .before .before .before .before .before .before .before in
+    let a = c .before .before .before .before .before .before .before .before .before .before .before .before .before .before .args in
+    let p = c .before .before .before .before .before .before .before .before .before .before .before .before .before .before .pre in
     (p .0, deletes-ready (now (a .t)) (a .b) (f .front-of .result) (runs f) (p .1 .inside) (c .before .before .before .before .before .deletes-from .ensures), omega (arith, p .2, c .before .before .before .strike .ensures .sized), blank-struck (a .lo) (a .hi) (c .before .before .before .strike .ensures) (p .3))
 
 same-length : tie.Need-same-length
 same-length c = c .before .before .strike2 .ensures .sized ∙ c .before .before .before .before .before .before .strike .ensures .sized
 
-returns : tie.Need-returns
-returns c =
-    let f = c .before .before .before .before .before .before .before .before .before .before in
-    let a = c .before .before .before .before .before .before .before .before .before .before .before .before .before .before .args in
+returns-2 : tie.Need-returns-2
+returns-2 c =
+    let f = c .before .before .before .before .before .before .before .before .before .before .before .before .before in
+    let a = c .before .before .before .before .before .before .before .before .before .before .before .before .before .before .before .before .before .args in
     subst (λ (ks : List ℕ). Struck (now (a .t)) (a .at) (a .n) ks (now (a .m)) (c .before .before .strike2 .last .1 .1 .1 .0))
-    (waiting-is (now (a .t)) (a .b) (f .front-of .result) (runs f) (c .before .before .before .before .before .before .before .before .before .before .before .before .before .before .pre .1 .inside) (c .before .before .before .before .before .before .before .before .before .inserts-from .ensures) (c .before .before .before .before .before .before .before .before .deletes-from .ensures))
+    (waiting-is (now (a .t)) (a .b) (f .front-of .result) (runs f) (c .before .before .before .before .before .before .before .before .before .before .before .before .before .before .before .before .before .pre .1 .inside) (c .before .before .before .before .before .before .before .before .before .inserts-from .ensures) (c .before .before .before .before .before .before .before .before .deletes-from .ensures))
     (struck-then (c .before .before .before .before .before .before .strike .ensures) (c .before .before .strike2 .ensures))
 
 pub strike-node-spec : {M : Type 1} → statement M
@@ -86,6 +94,7 @@ strike-node-spec =
     part-front-of-start
     part-front-of-end
     front-of-requires
+    returns
     inserts-from-requires
     add-ai
     deletes-from-requires
@@ -93,4 +102,4 @@ strike-node-spec =
     strike-requires
     strike-requires-2
     same-length
-    returns)
+    returns-2)
