@@ -1,44 +1,22 @@
--- What an update does to the number of live spots, and to the map of blocks in use.
+-- What an update does to the map of blocks in use.
 -- Assumes nothing.
 use mathlib.Core.Path.{_≡_, ap, sym, _∙_}
 use mathlib.Core.Logic.{_⊎_, inl, inr, ⊎-elim}
-use mathlib.Core.Bool.{Bool, true, cond, _||_}
+use mathlib.Core.Bool.{Bool, true, _||_}
 use mathlib.Core.List.{List, List·Memᴰ}
-use mathlib.Core.Option.{none, some}
-use Prim.Native.Nat.{ℕ, suc, _≤_, _<_}
+use Prim.Native.Nat.{ℕ, _<_}
 use native.Mathlib.Omega.{arith}
-use lib.ListN.{length}
 use lib.Dec.{eqb}
-use Rattle.octets.specs.Lists.{has, distinct, upTo, rising}
+use Rattle.octets.specs.Lists.{has, distinct, upTo}
 use Rattle.octets.specs.Bitmap.{bit}
 use Rattle.octets.proofs.Tests.{bool-ext}
 use Rattle.octets.proofs.Sets.{has-mem, mem-has, in-or-not}
 use Rattle.octets.proofs.UpTo.{upTo-in}
-use Rattle.spot.specs.declared.Spot.{Spot}
-use Rattle.spot.specs.Spots.{keys, find, put, without}
-use Rattle.spot.proofs.Canon.{canon, find-without, without-rises, length-put, length-without}
 use Rattle.block.specs.Table.{mapBlocks}
 use Rattle.tree.specs.Sound.{mapExact}
 use Rattle.tree.specs.ReadMap.{isRead}
 use Rattle.tree.proofs.Marks.{read-mem, exact-bit, exact-make}
-use Rattle.tree.proofs.Says.{find-replaced, replaced-rises}
 use Rattle.update.specs.Spare.{Taken}
-
--- an addition makes one more at the most
-pub count-add : (k a : ℕ) (xs ys : List Spot) → rising (keys xs) ≡ true → rising (keys ys) ≡ true → ((j : ℕ) → find j ys ≡ cond (eqb j k) (some a) (find j xs)) → length ys ≤ suc (length xs)
-count-add k a xs ys u v h =
-    let s : Spot = record { key = k; track = a } in
-    let e : ys ≡ put s (without k xs) = canon 0 ys (put s (without k xs)) v (replaced-rises s xs u) (λ j. h j ∙ sym (find-replaced j s xs)) in
-    let q : length ys ≡ suc (length (without k xs)) = ap length e ∙ length-put s (without k xs) in
-    omega (arith, length-without k xs)
-
--- a withdrawal makes none more
-pub count-drop : (k : ℕ) (xs ys : List Spot) → rising (keys xs) ≡ true → rising (keys ys) ≡ true → ((j : ℕ) → find j ys ≡ cond (eqb j k) none (find j xs)) → length ys ≤ length xs
-count-drop k xs ys u v h =
-    let e : ys ≡ without k xs = canon 0 ys (without k xs) v (without-rises 0 k xs u) (λ j. h j ∙ sym (find-without j k xs)) in
-    let z = length-without k xs in
-    let q : length ys ≡ length (without k xs) = ap length e in
-    omega arith
 
 -- the map is exact again, once the blocks taken are marked in it
 pub map-after : (map map′ bs cs s s′ : List ℕ) → mapExact map bs ≡ true → distinct cs ≡ true

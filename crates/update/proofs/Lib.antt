@@ -12,8 +12,6 @@ pub mod Spare
 pub mod Best
 pub mod Going
 pub mod Count
-pub mod TakeTop
 pub mod Taken
 pub mod Settle
-pub mod Again
 pub mod Rounds

@@ -1,6 +1,6 @@
 -- A node in memory over children in a store, and what holds once it is stored: in its own block, or as two nodes in its own and a new block.
 -- Assumes nothing.
-use mathlib.Core.Path.{_≡_, refl, ap, ap₂, sym, _∙_, subst, subst⁻¹}
+use mathlib.Core.Path.{_≡_, refl, ap, ap₂, sym, _∙_, subst}
 use mathlib.Core.Logic.{_⊎_, inl, inr, ⊎-elim}
 use mathlib.Core.Bool.{Bool, true, false, cond, _||_, or-false}
 use mathlib.Core.List.{List, [], _∷_, _++_, List·Memᴰ, List·Memᴰ·head, List·Memᴰ·tail, List·Memᴰ·cases-cons, Memᴰ·append-left, Memᴰ·append-right, List·Memᴰ·append-cases, Memᴰ·cast, append-nil}
@@ -57,16 +57,6 @@ opened l m p s =
       kids = record { each = all-at _ h 2; once = distinct-tail (p .block) (reaches l m (children p (m (p .block)))) d; led = led-parts (p .lo) (p .hi) (m (p .block) .entries) };
       off = distinct-head (p .block) (reaches l m (children p (m (p .block)))) d;
       own = one-led p (s .led);
-    }
-
--- and they make one
-pub closed : (l : ℕ) (m : Store) (p : Part) → Opened l m p → Sound (suc l) m (p ∷ [])
-unfolding soundAt
-closed l m p o =
-    record {
-      each = and-both (soundAt (suc l) m p) true (all-cons _ _ (o .ok) (all-cons _ _ (o .inside) (all-cons _ _ (o .kids .each) all-nil))) refl;
-      once = subst⁻¹ (λ (r : List ℕ). distinct r ≡ true) (append-nil (reach (suc l) m p) ∙ reach-step l m p) (distinct-cons (p .block) (reaches l m (children p (m (p .block)))) (o .off) (o .kids .once));
-      led = led-one p (o .own);
     }
 
 -- a node stored: w has it in p's block, and is y where its children reach

@@ -77,12 +77,6 @@ module _ (lo hi : ℕ) (full : hi ≤ allKeys) where
     pub P-not-below : (k : ℕ) → r ≤ rankKey k → below k ≡ none
     P-not-below k g = too-high r below (h .deep) k g
 
-    -- the lowest rank may be taken lower, if P and the others allow it
-    pub ready-at : (r′ : ℕ) → ((k : ℕ) → List·Memᴰ k (keys P) → r′ ≤ rankKey k) → ((k : ℕ) → List·Memᴰ k (keys I) → rankKey k < r′)
-        → ((k : ℕ) → List·Memᴰ k D → rankKey k < r′) → ((k a : ℕ) → below k ≡ some a → rankKey k < r′) → Ready lo hi r′ P I D below
-    ready-at r′ a b c d =
-        record { upP = h .upP; upI = h .upI; upD = h .upD; inP = h .inP; inI = h .inI; inD = h .inD; off = h .off; above = a; underI = b; underD = c; deep = d }
-
     -- 5. FILL, one round. t is the highest of I and of what is live below; `below′` is what is found below afterwards: t is no longer there.
     module _ (t : ℕ) (wt : within lo hi t ≡ true) (below′ : ℕ → Option ℕ) (gone : below′ t ≡ none)
         (stays : (k : ℕ) → (k ≡ t → ⊥) → below′ k ≡ below k)

@@ -3,7 +3,7 @@
 use mathlib.Core.Path.{_≡_, refl, ap, sym, _∙_, subst, subst⁻¹}
 use mathlib.Core.Logic.{_⊎_, inl, inr, ⊎-elim}
 use mathlib.Core.Bool.{true}
-use mathlib.Core.List.{List, [], _∷_, _++_, List·Memᴰ, Memᴰ·append-left, Memᴰ·append-right}
+use mathlib.Core.List.{List, [], _∷_, _++_, Memᴰ·append-left, Memᴰ·append-right}
 use mathlib.Core.Option.{Option}
 use Prim.Native.Nat.{ℕ, suc, _<_}
 use native.Mathlib.Omega.{arith}
@@ -25,10 +25,6 @@ use Rattle.tree.proofs.Gather.{gather-append}
 use Rattle.update.specs.Change.{reaches, leads, Sound, Changed}
 use Rattle.update.specs.Spare.{Taken, Within}
 use Rattle.update.proofs.Change.{changed-trans}
-
--- what was taken was not reached
-pub taken-fresh : (s s′ bs : List ℕ) → Apart s bs → (z : ℕ) → Taken s s′ z → List·Memᴰ z bs → ⊥
-taken-fresh s s′ bs a z t i = a z (t .0) i
 
 -- what is left isn't reached afterwards
 pub spare-left : (l : ℕ) (s s′ : List ℕ) (x : Store) (ps : List Part) (y : Store) (qs : List Part) (f : ℕ → Option ℕ) → Within s′ s → Apart s (reaches l x ps)

@@ -1,22 +1,20 @@
--- take_top for every level: the node is opened, its top taken out, filled, and stored.
+-- take_top's node: opened without its top, and stored once it is filled.
 -- Assumes nothing.
-use mathlib.Core.Path.{_≡_, refl, ap, sym, _∙_, subst, subst⁻¹}
+use mathlib.Core.Path.{_≡_, refl, ap, sym, _∙_, subst}
 use mathlib.Core.Logic.{inl, inr, ⊎-elim}
-use mathlib.Core.Bool.{Bool, true, false, cond, _&&_, _||_, false≢true}
+use mathlib.Core.Bool.{Bool, true, false, cond, _&&_, _||_}
 use mathlib.Core.List.{List, [], _∷_, List·Memᴰ, List·Memᴰ·not-nil}
 use mathlib.Core.Option.{Option, none, some}
-use Prim.Native.Nat.{ℕ, zero, suc, _≤_, _+_}
+use Prim.Native.Nat.{ℕ, suc, _≤_}
 use native.Mathlib.Omega.{arith}
 use lib.ListN.{length}
 use lib.Dec.{eqb, leb}
-use borrow.Author.Tests.{eq-eqb, ne-eqb}
 use Rattle.octets.specs.Lists.{all, every, isEmpty}
 use Rattle.octets.proofs.Tests.{all-at, all-cons, all-nil, and-left, or-left, empty-length}
 use Rattle.spot.specs.declared.Spot.{Spot}
 use Rattle.spot.specs.Spots.{keys, find}
 use Rattle.spot.specs.Keys.{rankKey, allKeys}
 use Rattle.spot.specs.Sorted.{only, but}
-use Rattle.spot.proofs.Buffers.{length-only}
 use Rattle.spot.proofs.Places.{within-to}
 use Rattle.spot.proofs.Halves.{rank-inj}
 use Rattle.block.specs.declared.Entry.{Entry}
@@ -27,8 +25,8 @@ use Rattle.block.specs.NodeRules.{nodeOk, lows, lowsRise, agrees, filled, lowes
 use Rattle.tree.specs.Part.{Part}
 use Rattle.tree.specs.Lookup.{lookup}
 use Rattle.tree.specs.Sound.{soundAt, inRange}
-use Rattle.tree.proofs.Below.{node-sound, sizes-filled, sizes-lowest, sizes-few}
-use Rattle.tree.proofs.Entries.{Highest, deepest, entry-for, agree-size, agree-top}
+use Rattle.tree.proofs.Below.{node-sound, sizes-filled, sizes-lowest}
+use Rattle.tree.proofs.Entries.{Highest, deepest, agree-size, agree-top}
 use Rattle.tree.proofs.Empty.{none-length, held-some, none-held, empty-keys}
 use Rattle.update.specs.Held.{Held}
 use Rattle.update.specs.Change.{part, Sound, Changed}
@@ -40,8 +38,7 @@ use Rattle.update.proofs.Open.{heldOf, open-node, open-lowest}
 use Rattle.update.proofs.Fill.{open-take}
 use Rattle.update.proofs.Close.{Shape}
 use Rattle.update.proofs.Node.{Top, top-of, point-live}
-use Rattle.update.proofs.Going.{going-start, going-done}
-use Rattle.update.proofs.TakeTop.{Took, TakeTop, Filled, fill}
+use Rattle.update.proofs.Going.{going-done}
 
 -- what hangs on the entries' blocks alone
 length-blocks : (es : List Entry) → length (childBlocks es) ≡ length es
@@ -161,62 +158,3 @@ module _ (l : ℕ) (x : Store) (c : Part) (e : Entry) (asks : c .asked ≡ Child
           (λ q. taken (rankKey (q .0)) (open-node l x c order s (q .0) (q .1 .0) (q .1 .1)))
           (deepest (x (c .block) .points))
       go false h = taken 0 (open-lowest l x c order s (or-left (filled (x (c .block))) (lowest (x (c .block))) (node-sound (suc l) x c sc .sizes) h))
-
--- what fill leaves is stored
-finish : (l : ℕ) (x : Store) (c : Part) (e : Entry) → c .asked ≡ Child e → c .block ≡ e .block → e .low ≤ c .lo → c .hi ≤ allKeys → Sound (suc l) x (c ∷ [])
-    → length (x (c .block) .inserts) ≤ 64 → length (x (c .block) .deletes) ≤ 16
-    → Filled (length (x (c .block) .inserts)) (length (x (c .block) .deletes)) l (c .lo) (c .hi) x (x (c .block) .entries) (λ k. cond (eqb k (e .top)) none (lookup (suc l) x k c))
-    → Took (suc l) x c e
-finish l x c e asks at-e low most s ni nd F =
-    record {
-      store = w;
-      entry = e′;
-      low = made .2;
-      block = made .1 ∙ at-e;
-      changed = subst⁻¹ (λ (b : ℕ). Changed (suc l) (Taken [] []) x (c ∷ []) w (part b (Child e′) (c .lo) (c .hi) ∷ []) f) (made .1)
-          (take-finish (length (x (c .block) .inserts)) (length (x (c .block) .deletes)) l x (F .store) w c e e′ asks (made .1) (made .2) low most s (omega arith) (omega arith) ni nd (F .rank) (F .entries) (F .held) f (F .loop) (F .full) (made .3)
-          (rw (eq-eqb (c .block) (c .block) refl)) (λ z h. rw (ne-eqb z (c .block) h)));
-    }
-  where
-    f : ℕ → Option ℕ
-    f k = cond (eqb k (e .top)) none (lookup (suc l) x k c)
-
-    w : Store
-    w z = cond (eqb z (c .block)) (after (x (c .block)) (F .entries) (F .held)) (F .store z)
-
-    made : (d : Entry) × (d .block ≡ c .block) × (d .low ≡ e .low) × (agrees (Child d) (after (x (c .block)) (F .entries) (F .held)) ≡ true)
-    made = entry-for (c .block) (e .low) (after (x (c .block)) (F .entries) (F .held))
-
-    e′ : Entry
-    e′ = made .0
-
--- TAKE TOP, at every level
-pub take-top : (l : ℕ) → TakeTop l
-unfolding soundAt nodeOk lowsRise
-take-top zero x c e asks at-e size low order full s = absurd (false≢true (and-left (soundAt 0 x c) true (s .each)))
-take-top (suc l) x c e asks at-e size low order full s = finish l x c e asks at-e low full s (few .1) (few .2) (go (take-top l) (take-open l x c e asks full s order size))
-  where
-    n : Node
-    n = x (c .block)
-
-    few : (length (n .points) ≤ 64) × (length (n .inserts) ≤ 64) × (length (n .deletes) ≤ 16)
-    few = sizes-few n (node-sound (suc l) x c (and-left (soundAt (suc l) x c) true (s .each)) .sizes)
-
-    f : ℕ → Option ℕ
-    f k = cond (eqb k (e .top)) none (lookup (suc l) x k c)
-
-    b : Held
-    b = record { points = only (but (e .top)) (x (c .block) .points); inserts = x (c .block) .inserts; deletes = x (c .block) .deletes }
-
-    go : TakeTop l → (r : ℕ) × Open l x (c .lo) (c .hi) r (n .entries) b f → Filled (length (n .inserts)) (length (n .deletes)) l (c .lo) (c .hi) x (n .entries) f
-    go below q =
-        fill (length (n .inserts)) (length (n .deletes)) l (c .lo) (c .hi) full x (n .entries) (all-at _ (all-at _ (opened l x c s .ok) 5) 0) f below (32 + length (n .deletes)) x (q .0) (n .entries) b
-        (record {
-          going = going-start l (c .lo) (c .hi) x [] (q .0) (n .entries) b f (q .1) (λ z i. absurd (List·Memᴰ·not-nil i));
-          sameLows = refl;
-          sameBlocks = refl;
-          fewP = let z = length-only (but (e .top)) (n .points) in omega (arith, z, few .0);
-          fewI = omega arith;
-          fewD = omega arith;
-        })
-        (omega arith)
