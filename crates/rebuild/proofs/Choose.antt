@@ -1,10 +1,10 @@
--- There is always a rank key from which on a node takes 32 to 64 spots, or all; and an even division of the spots among the children.
+-- One rank key less takes at most one spot more, so a search for one from which on a node takes 32 to 64 ends; and an even division of the spots among the children.
 -- Assumes nothing.
 use mathlib.Core.Path.{_≡_, refl, ap, sym, _∙_}
-use mathlib.Core.Logic.{_⊎_, inl, inr, ⊎-elim}
+use mathlib.Core.Logic.{⊎-elim}
 use mathlib.Core.Bool.{Bool, true, false, cond, not, _&&_, true≢false}
 use mathlib.Core.List.{List, [], _∷_}
-use Prim.Native.Nat.{ℕ, zero, suc, _+_, _-_, _*_, _/_, _%_, _≤_, _<_}
+use Prim.Native.Nat.{ℕ, suc, _+_, _-_, _*_, _/_, _%_, _≤_, _<_}
 use native.Mathlib.Omega.{arith}
 use native.Mathlib.Nat.{div-add-mod', mod-lt, le-div-iff-mul-le, mul-le-mul-right}
 use lib.ListN.{length}
@@ -89,25 +89,6 @@ band-none c t h (s ∷ ss) = rw (nothing (rankKey (s .key))) (band-none c t h ss
   where
     nothing : (r : ℕ) → within c t r ≡ false
     nothing r = ⊎-elim (λ (a : t ≤ r). within-high c t r a) (λ (a : r < t). within-low c t r (omega arith)) (less-or-not t r)
-
--- where to cut
-pub record Choice (t : ℕ) (ys : List Spot) : Type 0 where
-  pub c : ℕ
-  pub under : c ≤ t
-  pub most : length (band c t ys) ≤ 64
-  pub least : (32 ≤ length (band c t ys)) ⊎ (c ≡ 0)
-
-module _ (t : ℕ) (ys : List Spot) (up : rising (keys ys) ≡ true) (keyed : every (within 0 allKeys) (keys ys) ≡ true) where
-  choose-from : (c : ℕ) → c ≤ t → length (band c t ys) ≤ 64 → Choice t ys
-  choose-from zero u m = record { c = 0; under = u; most = m; least = inr refl }
-  choose-from (suc c) u m =
-      ⊎-elim (λ (h : 32 ≤ length (band (suc c) t ys)). record { c = suc c; under = u; most = m; least = inl h })
-      (λ (h : length (band (suc c) t ys) < 32). choose-from c (omega arith) (omega (arith, band-step c t 0 ys keyed up, h)))
-      (less-or-not 32 (length (band (suc c) t ys)))
-
-  -- such a cut exists
-  pub choose : Choice t ys
-  choose = choose-from t (omega arith) (let e = ap (λ (l : List Spot). length l) (band-none t t (omega arith) ys) in omega (arith, e))
 
 -- A search by halving ends: between a cut that takes too many and one that takes too few there is another.
 pub ends-apart : (t lo hi : ℕ) (ys : List Spot) → rising (keys ys) ≡ true → every (within 0 allKeys) (keys ys) ≡ true → lo < hi → 64 < length (band lo t ys)

@@ -5,4 +5,3 @@ pub mod Kept
 pub mod Steps
 pub mod Rebuilt
 pub mod Choose
-pub mod Made

@@ -1,10 +1,10 @@
 -- A table that is built whole: sound, live as the list, every node settled.
 -- Assumes nothing.
-use mathlib.Core.Path.{_≡_, refl, ap, sym, _∙_}
+use mathlib.Core.Path.{_≡_, refl, _∙_}
 use mathlib.Core.Logic.{inr, ⊎-elim}
-use mathlib.Core.Bool.{Bool, true, false, cond, _||_, true≢false}
+use mathlib.Core.Bool.{Bool, true, false, cond, _||_}
 use mathlib.Core.List.{List}
-use mathlib.Core.Option.{Option, none, some}
+use mathlib.Core.Option.{none}
 use Prim.Native.Nat.{ℕ, zero, suc, _-_, _≤_, _<_}
 use native.Mathlib.Omega.{arith}
 use lib.ListN.{length}
@@ -14,12 +14,11 @@ use Rattle.octets.specs.Lists.{every, has, upTo}
 use Rattle.octets.specs.Bitmap.{bit}
 use Rattle.octets.proofs.Order.{less-or-not}
 use Rattle.octets.proofs.UpTo.{upTo-distinct, has-upTo, has-upTo-not}
-use Rattle.octets.proofs.Sets.{every-by}
 use Rattle.spot.specs.declared.Spot.{Spot}
-use Rattle.spot.specs.Spots.{keys, find, put, without}
+use Rattle.spot.specs.Spots.{keys, find}
 use Rattle.spot.specs.Keys.{rankKey, allKeys, within}
 use Rattle.spot.proofs.Halves.{rank-small}
-use Rattle.spot.proofs.Canon.{cond-none, canon, find-without}
+use Rattle.spot.proofs.Canon.{cond-none, canon}
 use Rattle.spot.proofs.Places.{within-to}
 use Rattle.spot.proofs.Buffers.{find-fails}
 use Rattle.block.specs.Header.{headOf}
@@ -28,16 +27,14 @@ use Rattle.block.specs.Table.{mapBlocks, blocksOf}
 use Rattle.block.specs.declared.Asked.the-variants.{Root}
 use Rattle.block.specs.NodeRules.{agrees, fewest, standsIn}
 use Rattle.tree.specs.Part.{Part, whole}
-use Rattle.tree.specs.Lookup.{lookup, live, withKey, isLive}
+use Rattle.tree.specs.Lookup.{live}
 use Rattle.tree.specs.Reach.{reach, settled}
 use Rattle.tree.specs.Sound.{soundAt, mapExact, sound, Shaped}
 use Rattle.tree.specs.Walk.{liveSpots}
 use Rattle.tree.specs.ReadMap.{isRead}
-use Rattle.tree.proofs.Tables.{sound-from, tree-rises, tree-finds, sound-tree, live-finds}
-use Rattle.tree.proofs.Says.{has-keys, find-replaced}
+use Rattle.tree.proofs.Tables.{sound-from, tree-rises, tree-finds, live-finds}
 use Rattle.tree.proofs.Marks.{exact-make}
 use Rattle.tree.proofs.Sources.{header-few, header-least}
-use Rattle.tree.proofs.Live.{lookup-within}
 use Rattle.rebuild.specs.Build.{nodes, shape, Rebuilt}
 use Rattle.rebuild.proofs.Shape.{Fits, shape-fits}
 use Rattle.rebuild.proofs.Bands.{Good}
@@ -111,32 +108,8 @@ module _ (t : List ℕ) (ys : List Spot) (r : Rebuilt t ys) where
   pub rebuilt-sound : sound t ≡ true
   rebuilt-sound = sound-from t rebuilt-shaped (rw rebuilt-spots (omega (arith, r .bound)))
 
-unlive : (t : List ℕ) (k : ℕ) {a : ℕ} → live t k ≡ some a → lookup (headOf t .levels) (storeOf t) k (whole (headOf t)) ≡ some a
-unfolding live
-unlive t k h = h
-
 -- the live spots of a sound table are fit to be built from
 module _ (t : List ℕ) (s : sound t ≡ true) where
-  -- they are keys
-  pub live-keyed : every (within 0 allKeys) (keys (liveSpots t)) ≡ true
-  live-keyed = every-by (within 0 allKeys) (keys (liveSpots t)) (λ k h. go k (find k (liveSpots t)) refl (sym (has-keys k (liveSpots t)) ∙ h))
-    where
-      go : (k : ℕ) (o : Option ℕ) → find k (liveSpots t) ≡ o → isLive (find k (liveSpots t)) ≡ true → within 0 allKeys k ≡ true
-      go k none e h = absurd (true≢false (sym h ∙ ap isLive e))
-      go k (some a) e h =
-          lookup-within (headOf t .levels) (storeOf t) k (whole (headOf t)) (sound-tree t s) (omega arith) (unlive t k (sym (live-finds t s k) ∙ e))
-
   -- Rebuild
   pub rebuild-live : (u : List ℕ) → Rebuilt u (liveSpots t) → (k : ℕ) → live u k ≡ live t k
   rebuild-live u r k = rebuilt-live u (liveSpots t) r k ∙ live-finds t s k
-
-  -- Add, by the rebuild path
-  pub add-live : (u : List ℕ) (x : Spot) → Rebuilt u (put x (without (x .key) (liveSpots t))) → (k : ℕ) → live u k ≡ withKey (x .key) (some (x .track)) (live t) k
-  unfolding withKey
-  add-live u x r k =
-      rebuilt-live u (put x (without (x .key) (liveSpots t))) r k ∙ find-replaced k x (liveSpots t) ∙ rw (live-finds t s k)
-
-  -- Withdraw, by the rebuild path
-  pub withdraw-live : (u : List ℕ) (j : ℕ) → Rebuilt u (without j (liveSpots t)) → (k : ℕ) → live u k ≡ withKey j none (live t) k
-  unfolding withKey
-  withdraw-live u j r k = rebuilt-live u (without j (liveSpots t)) r k ∙ find-without k j (liveSpots t) ∙ rw (live-finds t s k)

@@ -2,15 +2,16 @@
 -- Assumes nothing.
 use mathlib.Core.Path.{_≡_, refl}
 use mathlib.Core.Logic.{⊎-elim}
-use mathlib.Core.Bool.{Bool, true}
+use mathlib.Core.Bool.{Bool, true, _&&_}
 use mathlib.Core.List.{List, [], _∷_}
 use Prim.Native.Nat.{ℕ, suc, _+_, _*_, _/_, _≤_, _<_, max}
 use native.Mathlib.Omega.{arith}
+use native.Mathlib.Nat.{one-le-mul}
 use lib.ListN.{length}
 use lib.Dec.{leb}
 use borrow.Author.Tests.{leb-true, le-leb, lt-leb}
 use Rattle.octets.specs.Lists.{all}
-use Rattle.octets.proofs.Tests.{all-at}
+use Rattle.octets.proofs.Tests.{all-at, and-left, and-right}
 use Rattle.octets.proofs.Order.{less-or-not}
 use Rattle.rebuild.specs.Build.{leaves, nodes, fansOk, shapes, firstFor, shape}
 
@@ -29,23 +30,6 @@ serve low (fs ∷ more) =
 shapes-serve : serve 0 shapes ≡ true
 unfolding serve all
 shapes-serve = refl
-
--- a few of them: a leaf alone, the first with children, the first of three levels, a full table of 4,096 blocks
-shape-32 : shape 32 ≡ []
-unfolding shape
-shape-32 = refl
-
-shape-33 : shape 33 ≡ 2 ∷ []
-unfolding shape
-shape-33 = refl
-
-shape-257 : shape 257 ≡ 2 ∷ 5 ∷ []
-unfolding shape
-shape-257 = refl
-
-shape-full : shape 65520 ≡ 2 ∷ 5 ∷ 6 ∷ 6 ∷ 6 ∷ []
-unfolding shape
-shape-full = refl
 
 -- a shape for n spots in B blocks
 pub record Fits (n B : ℕ) (fs : List ℕ) : Type 0 where
@@ -77,3 +61,10 @@ module _ (n B : ℕ) (few : n ≤ 16 * B) (small : 8 ≤ B) (large : B ≤ 4095)
   pub shape-fits : Fits n B (shape n)
   unfolding shape
   shape-fits = first-fits 0 shapes shapes-serve (omega arith)
+
+-- a shape has a leaf
+pub leaves-some : (fs : List ℕ) (least : ℕ) → 1 ≤ least → fansOk least fs ≡ true → 1 ≤ leaves fs
+leaves-some [] least h g = omega arith
+leaves-some (f ∷ fs) least h g =
+    let a = leb-true least f (and-left (leb least f) (leb f 8 && fansOk 4 fs) g) in
+    one-le-mul {a = f} {b = leaves fs} (omega arith) (leaves-some fs 4 (omega arith) (and-right (leb f 8) (fansOk 4 fs) (and-right (leb least f) (leb f 8 && fansOk 4 fs) g)))

@@ -9,7 +9,6 @@ use borrow.Fn.PlainCycle.{Measures, is, falls, and}
 use lib.ListN.{length}
 use Rattle.block.specs.Table.{blocksOf}
 use Rattle.rebuild.specs.Build.{shapeOf}
-use Rattle.build.specs.Building.{limitOf}
 use Rattle.build.proofs.Segments.{Under}
 use Rattle.build.proofs.Children.{Children, children-none, share-small, child-room, child-ready, child-added}
 use Rattle.build.proofs.Grown.{leaf-ready, leaf-post, ready, inner-ready, inner-post}
