@@ -34,9 +34,6 @@ lt-unsigned n h = le-leb n 4294967295 (omega arith)
 -- ---- the words of a line of three words, and of more
 
 module _ (a b c : List ℕ) (ws : List (List ℕ)) (ha : has 32 a ≡ false) (hb : has 32 b ≡ false) (hc : has 32 c ≡ false) where
-  pub word-one : front (joined (a ∷ b ∷ c ∷ ws)) ≡ a
-  word-one = joined-front a (b ∷ c ∷ ws) ha
-
   pub word-two : front (behind (joined (a ∷ b ∷ c ∷ ws))) ≡ b
   word-two = ap front (joined-behind a b (c ∷ ws) ha) ∙ joined-front b (c ∷ ws) hb
 

@@ -3,8 +3,6 @@ pub mod Written
 pub mod Words
 pub mod Numbers
 pub mod Inverse
-pub mod Lines
 pub mod Scans
 pub mod Made
 pub mod Printed
-pub mod Examples
