@@ -1,16 +1,16 @@
 -- Reading best first, as code keeps it: the invariant `Progress`, and the laws that lead from each step to the definition of Top. Code may leave out a spot found,
 -- or a part known of, that k others come before.
 -- Assumes nothing.
-use mathlib.Core.Path.{_≡_, refl, ap, sym, subst}
-use mathlib.Core.Logic.{_⊎_, inl, inr, ⊎-elim}
-use mathlib.Core.Bool.{Bool, true, false}
-use mathlib.Core.List.{List, [], _∷_, _++_, append-assoc, List·Memᴰ, List·Memᴰ·not-nil, List·Memᴰ·cases-cons, List·Memᴰ·append-cases, Memᴰ·append-left}
-use Prim.Native.Nat.{ℕ, suc, _+_, _-_, _*_, _≤_, _<_}
+use mathlib.Core.Path.{_≡_, ap, sym, subst}
+use mathlib.Core.Logic.{⊎-elim}
+use mathlib.Core.Bool.{true, false}
+use mathlib.Core.List.{List, [], _∷_, _++_, append-assoc, List·Memᴰ, List·Memᴰ·not-nil, List·Memᴰ·append-cases}
+use Prim.Native.Nat.{ℕ, suc, _+_, _-_, _≤_, _<_}
 use native.Mathlib.Omega.{arith}
 use lib.Dec.{leb, ltb}
 use lib.IntN.{ℤ}
 use lib.ListN.{length, length-append}
-use borrow.Author.Tests.{leb-true, ltb-true, le-leb, lt-ltb}
+use borrow.Author.Tests.{leb-true, ltb-true}
 use Rattle.octets.specs.Lists.{has, distinct, upTo}
 use Rattle.octets.specs.Bitmap.{digit}
 use Rattle.octets.proofs.Lists.{no-member, mem-less}
@@ -30,13 +30,11 @@ use Rattle.block.specs.NodeRules.{nodeOk}
 use Rattle.tree.specs.Walk.{broken}
 use Rattle.tree.specs.Top.{topWalk}
 use Rattle.tree.specs.BestFirst.{Pending, promised, opened, shown, NonePromises, NoneAbove}
-use Rattle.tree.proofs.Sources.{Source, InTable}
-use Rattle.tree.proofs.BestFirstSums.{sum, Reordered, count, count-all, count-some, count-le, sum-append, sum-middle, reordered-none, reordered-join, reordered-out}
+use Rattle.tree.proofs.Sources.{InTable}
+use Rattle.tree.proofs.BestFirstSums.{sum, Reordered, count, count-some, sum-append, sum-middle, reordered-none, reordered-join}
 use Rattle.tree.proofs.BestFirstTree.{rootOf}
-use Rattle.tree.proofs.BestFirstParts.{Fit}
 use Rattle.tree.proofs.BestFirstSteps.{NoneRanks, Course, begin, open-part, give-spot, reorder-course}
-use Rattle.tree.proofs.BestFirstEnd.{source}
-use Rattle.tree.proofs.BestFirstTop.{breaks-level, breaks-node, breaks-twice, Done, ends-full, ends-empty}
+use Rattle.tree.proofs.BestFirstTop.{breaks-node, breaks-twice, Done, ends-full, ends-empty}
 
 -- how many of these are not under the rank key r, and how many have a rank above r
 abbrev pub notUnder : ℕ → List Spot → ℕ
@@ -112,10 +110,6 @@ module _ (t : List ℕ) (x1 x2 : ℤ) (k : ℕ) (us : List Pending) (p : Pending
         later = λ u i. omega (arith, g .later u i, sum-append (λ (s : Spot). digit (ltb (promised u) (rankOf (s .key)))) ss found);
       }
 
-  -- the walk of Top breaks where no level is left, where the node breaks a rule, and where the block was read before
-  pub broken-level : p .levels ≡ 0 → topWalk t x1 x2 k ≡ broken
-  broken-level = breaks-level t x1 x2 k us p (vs ++ g .skipped) (found ++ g .dropped) given blocks here here-most here-low room
-
   -- .. since the walk at the rank reached reads this node as well
   pub broken-node : (l : ℕ) → p .levels ≡ suc l → nodeOk l (p .part .asked) (storeOf t (p .part .block)) ≡ false → topWalk t x1 x2 k ≡ broken
   broken-node = breaks-node t x1 x2 k us p (vs ++ g .skipped) (found ++ g .dropped) given blocks here here-most here-low room
@@ -163,61 +157,6 @@ module _ (t : List ℕ) (x1 x2 : ℤ) (k : ℕ) (unread : List Pending) (us : Li
         later = λ u i. one-fewer (λ x. digit (ltb (promised u) (rankOf (x .key)))) (digit-small (ltb (promised u) (rankOf (s .key)))) (g .later u i);
       }
 
--- ---- what k others come before is left out
-
-module _ (t : List ℕ) (x1 x2 : ℤ) (k : ℕ) (unread : List Pending) (us : List Spot) (s : Spot) (vs : List Spot) (given : List Spot) (blocks : List ℕ) (g : Progress t x1 x2 k unread (us ++ (s ∷ vs)) given blocks) where
-  -- k still are counted without s, where those that s stands under are
-  without-s : (f : Spot → Bool) → k ≤ length given + notUnder (rk s) (us ++ vs) → ((x : Spot) → f s ≡ true → rk s ≤ rk x → f x ≡ true)
-      → k ≤ length given + count f (us ++ (s ∷ vs))
-      → k ≤ length given + count f (us ++ vs)
-  without-s f h up old = go (f s) refl
-    where
-      go : (b : Bool) → f s ≡ b → k ≤ length given + count f (us ++ vs)
-      go true e = omega (arith, count-le (λ x. leb (rk s) (rk x)) f (us ++ vs) (λ x i l. up x e (leb-true (rk s) (rk x) l)))
-      go false e = omega (arith, sum-middle (λ x. digit (f x)) us s vs, ap digit e)
-
-  -- a spot that k others come before is never given: each that it came before is still counted without it
-  pub drop-spot : k ≤ length given + notUnder (rk s) (us ++ vs) → Progress t x1 x2 k unread (us ++ vs) given blocks
-  drop-spot h =
-      record {
-        skipped = g .skipped;
-        dropped = s ∷ g .dropped;
-        course =
-            reorder-course t x1 x2 k (unread ++ g .skipped) (unread ++ g .skipped) ((us ++ (s ∷ vs)) ++ g .dropped) ((us ++ vs) ++ (s ∷ g .dropped)) given blocks (g .course)
-            (reordered-none (unread ++ g .skipped))
-            (reordered-out us s vs (g .dropped));
-        spare =
-            λ d i.
-            ⊎-elim (λ (e : d ≡ s). rw e h)
-            (λ j.
-            without-s (λ x. leb (rk d) (rk x)) h (λ x a l. le-leb (rk d) (rk x) (let z = leb-true (rk d) (rk s) a in omega arith)) (g .spare d j))
-            (List·Memᴰ·cases-cons i);
-        later =
-            λ u i.
-            without-s (λ x. ltb (promised u) (rankOf (x .key))) h
-            (λ x a l. lt-ltb (promised u) (rankOf (x .key)) (let z = ltb-true (promised u) (rankOf (s .key)) a in omega arith))
-            (g .later u i);
-      }
-
-  -- the lowest of more than are still to be given
-  pub drop-lowest : ((x : Spot) → List·Memᴰ x (us ++ vs) → rk s ≤ rk x) → k ≤ length given + length (us ++ vs) → Progress t x1 x2 k unread (us ++ vs) given blocks
-  drop-lowest low h = drop-spot (omega (arith, count-all (λ x. leb (rk s) (rk x)) (us ++ vs) (λ x i. le-leb (rk s) (rk x) (low x i))))
-
-module _ (t : List ℕ) (x1 x2 : ℤ) (k : ℕ) (us : List Pending) (p : Pending) (vs : List Pending) (found given : List Spot) (blocks : List ℕ) (g : Progress t x1 x2 k (us ++ (p ∷ vs)) found given blocks) where
-  -- nor is a part read whose promise k spots are above
-  pub skip-part : k ≤ length given + beyond (promised p) found → Progress t x1 x2 k (us ++ vs) found given blocks
-  skip-part h =
-      record {
-        skipped = p ∷ g .skipped;
-        dropped = g .dropped;
-        course =
-            reorder-course t x1 x2 k ((us ++ (p ∷ vs)) ++ g .skipped) ((us ++ vs) ++ (p ∷ g .skipped)) (found ++ g .dropped) (found ++ g .dropped) given blocks (g .course)
-            (reordered-out us p vs (g .skipped))
-            (reordered-none (found ++ g .dropped));
-        spare = g .spare;
-        later = λ u i. ⊎-elim (λ (e : u ≡ p). rw e h) (λ j. g .later u j) (List·Memᴰ·cases-cons i);
-      }
-
 -- ---- in another order
 
 module _ (t : List ℕ) (x1 x2 : ℤ) (k : ℕ) (unread after : List Pending) (found left : List Spot) (given : List Spot) (blocks : List ℕ) (g : Progress t x1 x2 k unread found given blocks) (a : Reordered unread after) (b : Reordered found left) where
@@ -255,16 +194,6 @@ module _ (t : List ℕ) (x1 x2 : ℤ) (k : ℕ) (unread : List Pending) (found g
       gone : (s : Spot) → List·Memᴰ s found → ⊥
       gone s i = List·Memᴰ·not-nil (subst (λ (ss : List Spot). List·Memᴰ s ss) e i)
 
-  -- an unread part has a level left, and stands in the table
-  pub unread-fit : (u : Pending) → List·Memᴰ u unread → Fit t (topQuery x1 x2 0) u
-  unread-fit u i = g .course .fit u (Memᴰ·append-left (g .skipped) i)
-
-  -- a spot found or given is wanted, and stands in a block read
-  pub spot-source : (s : Spot) → List·Memᴰ s found ⊎ List·Memᴰ s given → Source (storeOf t) (topQuery x1 x2 0) blocks s
-  spot-source s i =
-      source t x1 x2 k (unread ++ g .skipped) (found ++ g .dropped) given blocks (g .course) s
-      (⊎-elim (λ j. inl (Memᴰ·append-left (g .dropped) j)) (λ j. inr j) i)
-
   -- the blocks read are of the table, and none is read twice
   pub blocks-once : distinct blocks ≡ true
   blocks-once = g .course .once
@@ -279,14 +208,6 @@ module _ (t : List ℕ) (x1 x2 : ℤ) (k : ℕ) (unread : List Pending) (found g
       let n = blocksOf (length t) - 1 in
       let h = fewer blocks (upTo 1 n) (once-distinct blocks blocks-once) (λ b i. let r = blocks-in b i in upTo-in 1 n b (r .some) (omega (arith, r .low))) in
       omega (arith, h, upTo-length 1 n)
-
-  -- how long the lists can be
-  pub unread-few : length unread ≤ 1 + 7 * length blocks
-  unread-few = omega (arith, g .course .wide, length-append unread (g .skipped))
-
-  -- a node shows at most 128 spots
-  pub found-few : length found + length given ≤ 128 * length blocks
-  found-few = omega (arith, g .course .shows, length-append found (g .dropped))
 
   -- no more than k are given
   pub given-few : length given ≤ k

@@ -11,10 +11,9 @@ use lib.Dec.{eqb}
 use borrow.Author.Tests.{eqb-true, eq-eqb}
 use Rattle.octets.specs.Lists.{keep, distinct}
 use Rattle.octets.specs.Bitmap.{digit}
-use Rattle.octets.proofs.Lists.{mem-more, mem-less}
+use Rattle.octets.proofs.Lists.{mem-more}
 use Rattle.octets.proofs.Sets.{distinct-head, distinct-tail, distinct-cons}
 use Rattle.octets.proofs.Order.{less-or-not}
-use Rattle.octets.proofs.Tests.{every-make, keep-all}
 
 module _ {A : Type 0} where
   abbrev pub sum : (A → ℕ) → List A → ℕ
@@ -87,19 +86,6 @@ module _ {A : Type 0} where
       go true e = omega arith
       go false e = omega arith
 
-  -- those that pass are those kept
-  pub count-length : (t : A → Bool) (xs : List A) → count t xs ≡ length (keep t xs)
-  count-length t [] = refl
-  count-length t (x ∷ xs) = go (t x) (count-length t xs)
-    where
-      go : (b : Bool) → count t xs ≡ length (keep t xs) → digit b + count t xs ≡ length (cond b (x ∷ keep t xs) (keep t xs))
-      go true e = omega arith
-      go false e = omega arith
-
-  -- where all pass, all are counted
-  pub count-all : (t : A → Bool) (xs : List A) → ((x : A) → List·Memᴰ x xs → t x ≡ true) → count t xs ≡ length xs
-  count-all t xs h = count-length t xs ∙ ap length (keep-all t xs (every-make t xs h))
-
   -- one that passes, where some do
   pub count-some : (t : A → Bool) (xs : List A) → 0 < count t xs → (x : A) × List·Memᴰ x xs × (t x ≡ true)
   count-some t xs h = let r = sum-some (λ x. digit (t x)) xs h in (r .0, r .1, go (t (r .0)) (r .2))
@@ -107,14 +93,6 @@ module _ {A : Type 0} where
       go : (b : Bool) → 0 < digit b → b ≡ true
       go true l = refl
       go false l = let z : ⊥ = omega arith in absurd z
-
-  -- a weaker test counts no fewer
-  pub count-le : (t u : A → Bool) (xs : List A) → ((x : A) → List·Memᴰ x xs → t x ≡ true → u x ≡ true) → count t xs ≤ count u xs
-  count-le t u xs h = sum-le (λ x. digit (t x)) (λ x. digit (u x)) xs (λ x i. go (t x) (u x) (h x i))
-    where
-      go : (a b : Bool) → (a ≡ true → b ≡ true) → digit a ≤ digit b
-      go true b f = let e = ap digit (f refl) in omega arith
-      go false b f = omega arith
 
   -- the three that follow: by the test's two answers
   pub counted-yes : (t : A → Bool) (f : A → ℕ) (x : A) → t x ≡ true → counted t f x ≡ f x
@@ -176,28 +154,6 @@ module _ {A : Type 0} where
       record {
         sums = λ f. sum-middle f us x vs;
         from = λ y i. ⊎-elim (λ e. Memᴰ·append-right us (List·Memᴰ·head e)) (λ j. mem-more us x vs j) (List·Memᴰ·cases-cons i);
-      }
-
-  -- .. and put back
-  pub reordered-back : (us : List A) (x : A) (vs : List A) → Reordered (x ∷ (us ++ vs)) (us ++ (x ∷ vs))
-  reordered-back us x vs =
-      record {
-        sums = λ f. sym (sum-middle f us x vs);
-        from = λ y i. ⊎-elim (λ e. List·Memᴰ·head e) (λ j. List·Memᴰ·tail j) (mem-less us x vs i);
-      }
-
-  -- an element taken out of one list and put in front of another
-  pub reordered-out : (us : List A) (x : A) (vs ws : List A) → Reordered ((us ++ (x ∷ vs)) ++ ws) ((us ++ vs) ++ (x ∷ ws))
-  reordered-out us x vs ws =
-      record {
-        sums = λ f. omega (arith, sum-append f (us ++ (x ∷ vs)) ws, sum-middle f us x vs, sum-append f (us ++ vs) (x ∷ ws));
-        from =
-            λ y i.
-            ⊎-elim (λ j. Memᴰ·append-left ws (mem-more us x vs j))
-            (λ j.
-            ⊎-elim (λ (e : y ≡ x). Memᴰ·append-left ws (Memᴰ·append-right us (List·Memᴰ·head e))) (λ h. Memᴰ·append-right (us ++ (x ∷ vs)) h)
-            (List·Memᴰ·cases-cons j))
-            (List·Memᴰ·append-cases (us ++ vs) i);
       }
 
 -- ---- numbers

@@ -73,10 +73,6 @@ module _ (t : List ℕ) (x1 x2 : ℤ) (k : ℕ) (us : List Pending) (p : Pending
   breaks-faulty : 0 < fault (storeOf t) p → topWalk t x1 x2 k ≡ broken
   breaks-faulty f = breaks (λ y l h. walk-faulty t (topQuery x1 x2 y) (omega (arith, adds y l h (fault (storeOf t)))))
 
-  -- no levels are left
-  pub breaks-level : p .levels ≡ 0 → topWalk t x1 x2 k ≡ broken
-  breaks-level e = let z = ap (λ (n : ℕ). faultAt n (storeOf t) (p .part)) e in breaks-faulty (omega arith)
-
   -- the node breaks a rule
   pub breaks-node : (l : ℕ) → p .levels ≡ suc l → nodeOk l (p .part .asked) (storeOf t (p .part .block)) ≡ false → topWalk t x1 x2 k ≡ broken
   breaks-node l e h =
@@ -116,11 +112,6 @@ pub broken-head : (t : List ℕ) (x1 x2 : ℤ) (k : ℕ) → headerOk (length t)
 unfolding topWalk walkTable
 broken-head t x1 x2 zero h = rw h
 broken-head t x1 x2 (suc k) h = rw h
-
--- none is asked for
-pub top-none : (t : List ℕ) (x1 x2 : ℤ) → headerOk (length t) (headOf t) ≡ true → topTable t x1 x2 0 ≡ walked [] []
-unfolding topTable topWalk
-top-none t x1 x2 h = rw h
 
 -- ---- the end
 

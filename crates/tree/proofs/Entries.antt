@@ -1,10 +1,10 @@
--- The highest and the lowest of some spots in rank order, and entries: one made of a node agrees with it, and one that agrees
--- says what is in P.
+-- The highest and the lowest of some spots in rank order, and entries: what makes one agree with a node, and what one that
+-- agrees says of P.
 -- Assumes nothing.
 use mathlib.Core.Path.{_≡_, refl, _∙_}
 use mathlib.Core.Logic.{_⊎_, inl, inr}
 use mathlib.Core.Bool.{true, false, or-true}
-use mathlib.Core.List.{List, [], _∷_, map, List·Memᴰ, List·Memᴰ·not-nil, Memᴰ·map, Memᴰ·of-map}
+use mathlib.Core.List.{List, [], _∷_, map, List·Memᴰ, Memᴰ·map, Memᴰ·of-map}
 use Prim.Native.Nat.{ℕ, suc, _≤_}
 use native.Mathlib.Omega.{arith}
 use lib.ListN.{length}
@@ -12,7 +12,7 @@ use borrow.Author.Tests.{eq-eqb, eqb-true, le-leb, leb-true}
 use Rattle.octets.specs.Lists.{isEmpty, maximum}
 use Rattle.octets.proofs.Tests.{all-at, all-cons, all-nil, every-mem, every-make, or-left}
 use Rattle.octets.proofs.Sets.{has-mem, mem-has}
-use Rattle.octets.proofs.Extremes.{maximum-ge, maximum-mem, minimum-le, minimum-mem}
+use Rattle.octets.proofs.Extremes.{maximum-ge, minimum-le, minimum-mem}
 use Rattle.spot.specs.declared.Spot.{Spot}
 use Rattle.spot.specs.Keys.{rankKey, within}
 use Rattle.spot.specs.Spots.{keys}
@@ -32,14 +32,6 @@ Highest ss t = List·Memᴰ t (keys ss) × ((k : ℕ) → List·Memᴰ k (keys s
 -- and the lowest
 abbrev pub Lowest : List Spot → ℕ → Type 0
 Lowest ss t = List·Memᴰ t (keys ss) × ((k : ℕ) → List·Memᴰ k (keys ss) → rankKey t ≤ rankKey k)
-
--- a list that is not empty has a highest
-pub highest : (ss : List Spot) → (ss ≡ []) ⊎ ((t : ℕ) × Highest ss t)
-highest [] = inl refl
-highest (s ∷ ss) =
-    let ranks = map rankKey (keys (s ∷ ss)) in
-    let r = Memᴰ·of-map rankKey (keys (s ∷ ss)) (maximum-mem (rankKey (s .key)) (map rankKey (keys ss))) in
-    inr (r .0, (r .1, λ k i. let z = maximum-ge ranks (Memᴰ·map rankKey i) in omega (arith, z, r .2)))
 
 -- and a lowest
 pub deepest : (ss : List Spot) → (ss ≡ []) ⊎ ((t : ℕ) × Lowest ss t)
@@ -63,18 +55,6 @@ agree-make e n size t b =
 pub agree-empty : (e : Entry) (n : Node) → e .size ≡ 0 → n .points ≡ [] → agrees (Child e) n ≡ true
 unfolding agrees
 agree-empty e n size bare = rw bare (all-cons _ _ (eq-eqb (e .size) 0 size) (all-cons _ _ refl (all-cons _ _ refl all-nil)))
-
--- there is one for every node: in block b, with the low given
-pub entry-for : (b low : ℕ) (n : Node) → (e : Entry) × (e .block ≡ b) × (e .low ≡ low) × (agrees (Child e) n ≡ true)
-entry-for b low n = go (highest (n .points)) (deepest (n .points))
-  where
-    go : (n .points ≡ []) ⊎ ((t : ℕ) × Highest (n .points) t) → (n .points ≡ []) ⊎ ((t : ℕ) × Lowest (n .points) t)
-        → (e : Entry) × (e .block ≡ b) × (e .low ≡ low) × (agrees (Child e) n ≡ true)
-    go (inl z) d = let e : Entry = record { block = b; size = 0; low = low; top = 0; bottom = 0 } in (e, refl, refl, agree-empty e n refl z)
-    go (inr h) (inl z) = absurd (List·Memᴰ·not-nil (rw z at (h .1 .0)))
-    go (inr h) (inr d) =
-        let e : Entry = record { block = b; size = length (n .points); low = low; top = h .0; bottom = d .0 } in
-        (e, refl, refl, agree-make e n refl (h .1) (d .1))
 
 -- ---- what an entry that agrees says of the node's P
 

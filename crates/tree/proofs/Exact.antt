@@ -1,12 +1,10 @@
--- The marks of a Report on a sound table are exactly those of 01's words, and the number of ones is the number of blocks read.
+-- The marks of a Report on a sound table are exactly those of 01's words.
 -- Assumes nothing.
 use mathlib.Core.Path.{_≡_, refl, ap, sym, _∙_, subst}
 use mathlib.Core.Logic.{_⊎_, inl, inr, ⊎-elim, _↔_}
 use mathlib.Core.Bool.{true, false≢true}
 use mathlib.Core.List.{List, List·Memᴰ, List·Memᴰ·head, List·Memᴰ·tail, List·Memᴰ·not-nil, List·Memᴰ·cases-cons, Memᴰ·cast}
-use Prim.Native.Nat.{ℕ, zero, suc, _+_, _<_}
-use native.Mathlib.Omega.{arith}
-use lib.ListN.{length}
+use Prim.Native.Nat.{ℕ, zero, suc, _<_}
 use Rattle.octets.specs.Lists.{keep}
 use Rattle.octets.specs.Bitmap.{bit}
 use Rattle.octets.proofs.Tests.{all-at, all-cons, all-nil, every-mem, keep-passes, keep-in, keep-there}
@@ -20,7 +18,7 @@ use Rattle.block.specs.NodeRules.{agrees}
 use Rattle.tree.specs.Part.{Part, whole, children}
 use Rattle.tree.specs.Sound.{soundAt, sound}
 use Rattle.tree.specs.Walk.{blocksRead, topped, admits, walkTable}
-use Rattle.tree.specs.ReadMap.{isRead, readMap, ones}
+use Rattle.tree.specs.ReadMap.{isRead, readMap}
 use Rattle.tree.specs.Trace.{admitted, visits}
 use Rattle.tree.proofs.ReadKeys.{KeyShows, KeyRead, first, next, KeyReadBlock}
 use Rattle.tree.proofs.Nodes.{Inside, inside-all, inside-child}
@@ -28,11 +26,10 @@ use Rattle.tree.proofs.Entries.{agree-held}
 use Rattle.tree.proofs.Live.{topped-size, topped-rank, topped-made}
 use Rattle.tree.proofs.Below.{node-sound, entry-top}
 use Rattle.tree.proofs.Ranges.{parts-mem}
-use Rattle.tree.proofs.Marks.{map-bit, read-header, read-mem, read-in, ones-count}
+use Rattle.tree.proofs.Marks.{map-bit, read-header, read-mem, read-in}
 use Rattle.tree.proofs.Tables.{sound-tree}
 use Rattle.tree.proofs.Onto.{mem-onto, onto-mem}
 use Rattle.tree.proofs.Gather.{gather-mem, gather-in}
-use Rattle.tree.proofs.Sources.{read-in-table, read-few, read-once}
 use Rattle.tree.proofs.Bound.{table-reads}
 
 -- a next of a sound node is admitted exactly where it shows what 01 asks
@@ -119,9 +116,3 @@ module _ (t : List ℕ) (s : sound t ≡ true) (q : Query) where
     λ h. ⊎-elim (λ e. inl e) (λ k. inr (blocks-exact b .0 k)) (List·Memᴰ·cases-cons (read-in bs b (sym (map-bit bs b l) ∙ h))),
     λ o. map-bit bs b l ∙ ⊎-elim (λ e. ap (isRead bs) e ∙ read-header bs) (λ r. read-mem bs b (blocks-exact b .1 r)) o,
   )
-
--- 01: "The number read is the count of ones": block 0, and each block read once
-pub ones-exact : (t : List ℕ) (s : sound t ≡ true) (q : Query) → ones (readMap (blocksRead (walkTable t q))) ≡ 1 + length (blocksRead (walkTable t q))
-ones-exact t s q =
-    let off : List·Memᴰ 0 (blocksRead (walkTable t q)) → ⊥ = λ k. let z = read-in-table t q 0 k .some in omega arith in
-    ones-count (blocksRead (walkTable t q)) (off, read-once t q) (read-few t q)

@@ -1,9 +1,8 @@
--- A fresh table: by computation at 9 blocks, and for every size.
+-- A fresh table of any size.
 -- Assumes nothing.
 use mathlib.Core.Path.{_≡_, refl, ap, sym, _∙_}
 use mathlib.Core.Bool.{true, not}
 use mathlib.Core.List.{List, [], _∷_}
-use mathlib.Core.Option.{none}
 use Prim.Native.Nat.{ℕ, _+_, _-_, _/_}
 use native.Mathlib.Omega.{arith}
 use lib.ListN.{length, replicate, length-replicate}
@@ -12,43 +11,20 @@ use Rattle.octets.specs.Lists.{all, every, upTo}
 use Rattle.octets.specs.Bitmap.{bit}
 use Rattle.octets.specs.Bytes.{be, bytesOf}
 use Rattle.octets.proofs.UpTo.{upTo-later}
-use Rattle.spot.specs.Keys.{within}
 use Rattle.spot.specs.declared.Query.{Query}
 use Rattle.spot.specs.Query.{everything}
 use Rattle.block.specs.Header.{Header, headOf, headerOf}
 use Rattle.block.specs.Node.{storeOf, nodeOf, nodeFrom, laidOut, firstBlank}
-use Rattle.block.specs.Table.{blockOk, sizedFor, tableSized, capacity}
+use Rattle.block.specs.Table.{blockOk, tableSized, capacity}
 use Rattle.block.specs.Fresh.{freshHeader, freshLeaf, formatted}
 use Rattle.block.specs.NodeRules.{nodeOk, childCountOk, buffersRise, namedOnce, names, lowsRise, pointsAbove, filled, lowest, leafBuffersEmpty, agrees, notBelow, childBlocksOk, lowsNotBelow, childrenApart, entriesCredible}
 use Rattle.block.specs.HeaderRules.{headerOk, mapShows}
 use Rattle.block.proofs.Making.{blocks-least, blocks-most}
-use Rattle.spot.specs.Spots.{find}
 use Rattle.spot.specs.declared.Spot.{Spot}
-use Rattle.tree.specs.Lookup.{live}
-use Rattle.tree.proofs.Tables.{live-finds}
 use Rattle.tree.specs.Part.{whole}
 use Rattle.tree.specs.Sound.{soundAt, inRange, mapExact, sound}
 use Rattle.tree.specs.Reach.{reach}
 use Rattle.tree.specs.Walk.{walked, walkTable, walkFrom, walk, once, enter, finds, liveCount, liveSpots}
-
--- M1: any walk of a fresh table of 9 blocks finds nothing, and reads the root
-pub fresh-walk-9 : (q : Query) → walkTable (formatted 18432) q ≡ walked [] (1 ∷ [])
-unfolding all within headOf headerOf storeOf nodeOf nodeFrom laidOut freshHeader freshLeaf formatted headerOk sizedFor mapShows blockOk bit nodeOk childCountOk buffersRise namedOnce names lowsRise pointsAbove filled lowest leafBuffersEmpty agrees notBelow childBlocksOk lowsNotBelow childrenApart entriesCredible firstBlank walkTable walkFrom walk enter finds be bytesOf once
-fresh-walk-9 q = refl
-
--- M1: a fresh table of 9 blocks is sound
-pub fresh-sound-9 : sound (formatted 18432) ≡ true
-unfolding all within headOf headerOf storeOf nodeOf nodeFrom laidOut freshHeader freshLeaf formatted headerOk sizedFor mapShows blockOk bit nodeOk childCountOk buffersRise namedOnce names lowsRise pointsAbove filled lowest leafBuffersEmpty agrees notBelow childBlocksOk lowsNotBelow childrenApart entriesCredible firstBlank walkTable walkFrom walk enter finds sound soundAt inRange reach mapExact liveCount liveSpots be bytesOf once
-fresh-sound-9 = refl
-
--- M1: one level, and capacity 128
-pub fresh-levels-9 : headOf (formatted 18432) .levels ≡ 1
-unfolding headOf headerOf formatted freshHeader be bytesOf
-fresh-levels-9 = refl
-
--- and the capacity
-pub fresh-capacity-9 : capacity 18432 ≡ 128
-fresh-capacity-9 = refl
 
 -- a fresh header's map: blocks 0 and 1
 abbrev fresh-map : List ℕ
@@ -126,7 +102,3 @@ module _ (n : ℕ) (z : tableSized n ≡ true) where
   pub fresh-figure : headOf (formatted n) .bound ≡ liveCount (formatted n)
   unfolding liveCount
   fresh-figure = ap (λ (h : Header). h .bound) fresh-head ∙ sym (ap (λ (ss : List Spot). length ss) fresh-empty)
-
-  -- no key is live
-  pub fresh-live : (k : ℕ) → live (formatted n) k ≡ none
-  fresh-live k = sym (live-finds (formatted n) fresh-sound k) ∙ ap (find k) fresh-empty

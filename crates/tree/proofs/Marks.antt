@@ -1,10 +1,10 @@
--- The map of blocks read: bit b is set exactly where b is 0 or a block read, and the number of ones is at most one more than that of the blocks; for blocks
--- below 4096 that are not 0 and stand once it is that. The map of blocks in use is exact where it is the same map of the blocks reached.
+-- The map of blocks read: bit b is set exactly where b is 0 or a block read, and the number of ones is at most one more than that of the blocks.
+-- The map of blocks in use is exact where it is the same map of the blocks reached.
 -- Assumes nothing.
-use mathlib.Core.Path.{_≡_, refl, ap, sym, _∙_}
+use mathlib.Core.Path.{_≡_, refl, sym, _∙_}
 use mathlib.Core.Logic.{⊎-elim}
 use mathlib.Core.Bool.{true, _||_, Bool·beq, or-true}
-use mathlib.Core.List.{List, _∷_, List·Memᴰ, List·Memᴰ·head, List·Memᴰ·tail, List·Memᴰ·cases-cons}
+use mathlib.Core.List.{List, _∷_, List·Memᴰ, List·Memᴰ·head, List·Memᴰ·tail}
 use Prim.Native.Nat.{ℕ, _+_, _≤_, _<_}
 use native.Mathlib.Omega.{arith}
 use lib.ListN.{length}
@@ -13,10 +13,10 @@ use borrow.Author.Tests.{ne-eqb}
 use Rattle.octets.specs.Lists.{keep, has, distinct, upTo}
 use Rattle.octets.specs.Bitmap.{bit, onesBelow}
 use Rattle.octets.proofs.Order.{same-or-not}
-use Rattle.octets.proofs.Tests.{all-at, all-cons, all-nil, beq-true, true-beq, keep-mem, keep-there}
+use Rattle.octets.proofs.Tests.{all-at, all-cons, all-nil, beq-true, true-beq, keep-mem}
 use Rattle.octets.proofs.Sets.{has-mem, mem-has}
-use Rattle.octets.proofs.Once.{Once, fewer, keep-once}
-use Rattle.octets.proofs.UpTo.{upTo-in, upTo-from, upTo-once, every-upTo, below-every}
+use Rattle.octets.proofs.Once.{fewer, keep-once}
+use Rattle.octets.proofs.UpTo.{upTo-from, upTo-once, every-upTo, below-every}
 use Rattle.octets.proofs.Marks.{marked-bit}
 use Rattle.block.specs.Table.{mapBytes, mapBlocks}
 use Rattle.tree.specs.Sound.{mapExact}
@@ -61,20 +61,6 @@ ones-up-to bs n l =
 pub ones-few : (bs : List ℕ) → ones (readMap bs) ≤ 1 + length bs
 unfolding onesBelow
 ones-few bs = ones-up-to bs mapBlocks (omega arith)
-
--- exactly that, for blocks of the map that stand once
-pub ones-count : (bs : List ℕ) → Once (0 ∷ bs) → ((b : ℕ) → List·Memᴰ b bs → b < 4096) → ones (readMap bs) ≡ 1 + length bs
-unfolding onesBelow
-ones-count bs a low = count mapBlocks refl
-  where
-    there : (n : ℕ) → n ≡ 4096 → (k : ℕ) → k < 4096 → isRead bs k ≡ true → List·Memᴰ k (keep (bit (readMap bs)) (upTo 0 n))
-    there n z k l r = keep-there (bit (readMap bs)) (upTo 0 n) (upTo-in 0 n k (omega arith) (omega arith)) (map-bit bs k l ∙ r)
-
-    count : (n : ℕ) → n ≡ 4096 → length (keep (bit (readMap bs)) (upTo 0 n)) ≡ 1 + length bs
-    count n z =
-        let h = fewer (0 ∷ bs) (keep (bit (readMap bs)) (upTo 0 n)) a
-        (λ k j. ⊎-elim (λ (e : k ≡ 0). there n z k (omega arith) (ap (isRead bs) e ∙ read-header bs)) (λ i. there n z k (low k i) (read-mem bs k i)) (List·Memᴰ·cases-cons j)) in
-        omega (arith, ones-up-to bs n (omega arith))
 
 -- ---- the map of blocks in use, which is made in the same way
 

@@ -1,11 +1,10 @@
 -- The nodes of a sound part: each keeps the rules, its range lies in the part's, and its blocks are among the part's.
 -- Assumes nothing.
 use mathlib.Core.Path.{_≡_, refl, sym, subst}
-use mathlib.Core.Logic.{_⊎_, ⊎-elim}
+use mathlib.Core.Logic.{⊎-elim}
 use mathlib.Core.Bool.{true, false≢true}
-use mathlib.Core.List.{List, [], List·Memᴰ, List·Memᴰ·head, List·Memᴰ·tail, List·Memᴰ·not-nil, List·Memᴰ·cases-cons}
-use Prim.Native.Nat.{ℕ, zero, suc, _≤_}
-use native.Mathlib.Omega.{arith}
+use mathlib.Core.List.{List, List·Memᴰ, List·Memᴰ·tail, List·Memᴰ·not-nil, List·Memᴰ·cases-cons}
+use Prim.Native.Nat.{ℕ, zero, suc}
 use Rattle.octets.specs.Lists.{every}
 use Rattle.octets.proofs.Tests.{all-at, every-mem}
 use Rattle.block.specs.Node.{Store}

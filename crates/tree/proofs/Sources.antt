@@ -12,7 +12,6 @@ use borrow.Author.Tests.{leb-true, ltb-true}
 use Rattle.octets.specs.Lists.{every, distinct}
 use Rattle.octets.specs.Bitmap.{bit}
 use Rattle.octets.proofs.Tests.{and-left, and-right, all-at, every-mem, keep-mem, keep-in}
-use Rattle.octets.proofs.Once.{Once, once-distinct}
 use Rattle.spot.specs.Spots.{putAll}
 use Rattle.spot.specs.Query.{wants}
 use Rattle.spot.specs.declared.Spot.{Spot}
@@ -34,7 +33,7 @@ use Rattle.tree.specs.Trace.{admitted, obeys, visits, pour, gains}
 use Rattle.tree.specs.ReadMap.{readMap}
 use Rattle.tree.proofs.Ranges.{parts-mem}
 use Rattle.tree.proofs.Marks.{map-bit, read-mem}
-use Rattle.tree.proofs.Onto.{onto, onto-mem, mem-onto, distinct-onto}
+use Rattle.tree.proofs.Onto.{onto, onto-mem, mem-onto}
 use Rattle.tree.proofs.Gather.{gather-mem, gather-in}
 use Rattle.tree.proofs.Traces.{wholeIf, table-trace}
 
@@ -152,17 +151,9 @@ module _ (r : ℕ) (m : Store) (room : (b : ℕ) → m b .room ≡ r) where
   pub visits-low : (l : ℕ) (q : Query) (p : Part) → obeys l m q p ≡ true → p .block < r → (b : ℕ) → List·Memᴰ b (visits l m q p) → b < r
   visits-low = visits-in r m room (λ b. b < r) (block-low r)
 
-  -- and none is block 0
-  pub visits-some : (l : ℕ) (q : Query) (p : Part) → obeys l m q p ≡ true → 1 ≤ p .block → (b : ℕ) → List·Memᴰ b (visits l m q p) → 1 ≤ b
-  visits-some = visits-in r m room (λ b. 1 ≤ b) (block-some r)
-
   -- so are blocks reached
   pub reach-low : (l : ℕ) (p : Part) → soundAt l m p ≡ true → p .block < r → (b : ℕ) → List·Memᴰ b (reach l m p) → b < r
   reach-low = reach-in r m room (λ b. b < r) (block-low r)
-
-  -- and none is block 0
-  pub reach-some : (l : ℕ) (p : Part) → soundAt l m p ≡ true → 1 ≤ p .block → (b : ℕ) → List·Memᴰ b (reach l m p) → 1 ≤ b
-  reach-some = reach-in r m room (λ b. 1 ≤ b) (block-some r)
 
 -- ---- blocks of a table
 
@@ -246,7 +237,3 @@ module _ (t : List ℕ) (q : Query) where
   -- and the bit is set
   pub read-marked : (b : ℕ) → List·Memᴰ b bs → bit (readMap bs) b ≡ true
   read-marked b k = map-bit bs b (read-few b k) ∙ read-mem bs b k
-
-  -- none is read twice
-  pub read-once : Once bs
-  read-once = by-trace Once tt (λ h o d. let v = visits (headOf t .levels) (storeOf t) q (whole (headOf t)) in once-distinct (onto v []) (distinct-onto v ∙ d))

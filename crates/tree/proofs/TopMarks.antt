@@ -13,11 +13,10 @@ use Rattle.octets.specs.Lists.{keep}
 use Rattle.octets.proofs.Order.{less-or-not}
 use Rattle.octets.proofs.UpTo.{largest-above}
 use Rattle.spot.specs.declared.Spot.{Spot}
-use Rattle.spot.specs.Keys.{rankKey, rankOf, word}
+use Rattle.spot.specs.Keys.{rankOf, word}
 use Rattle.spot.specs.Spots.{byRank}
 use Rattle.spot.specs.Query.{topQuery, wants}
 use Rattle.spot.proofs.Ranks.{rk, Falls, rank-falls, rank-keep, rank-length, byRank-from, ofRank}
-use Rattle.block.specs.Header.{headOf}
 use Rattle.tree.specs.Walk.{walkTable, blocksRead, spots, liveSpots}
 use Rattle.tree.specs.Top.{threshold, topWalk, topTable, enough}
 use Rattle.tree.specs.Sound.{sound}

@@ -111,12 +111,6 @@ pub walk-trace : (l : ℕ) (m : Store) (q : Query) (named : List ℕ) (p : Part)
     → walk l m q named p (walked found blocks) ≡ cond (obeys l m q p) (walked (gains l m q named p found) (onto (visits l m q p) blocks)) broken
 walk-trace l m q named p found blocks = walk-traced l m q named .goes p found blocks
 
--- the same through a list of parts
-pub walks-trace : (l : ℕ) (m : Store) (q : Query) (named : List ℕ) (ps : List Part) (found : List Spot) (blocks : List ℕ)
-    → through (walk l m q named) ps (walked found blocks)
-    ≡ cond (every (obeys l m q) ps) (walked (pour (gains l m q named) ps found) (onto (gather (visits l m q) ps) blocks)) broken
-walks-trace l m q named ps found blocks = through-trace _ _ _ _ (walk-traced l m q named) ps found blocks
-
 -- ---- the walk of a table
 
 once-trace : (ok : Bool) (found : List Spot) (xs : List ℕ) → once (wholeIf ok found (onto xs [])) ≡ wholeIf (ok && distinct xs) found (onto xs [])

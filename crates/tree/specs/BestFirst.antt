@@ -1,8 +1,7 @@
 -- Reading best first: what is known while Top reads always the unread child whose entry shows the highest rank, and gives a spot once no unread child can
 -- hold a higher one. Code keeps these lists in arrays; laws (proofs/BestFirst) lead from its steps to the definition of Top.
 -- Assumes nothing.
-use mathlib.Core.Path.{_≡_}
-use Prim.Native.Nat.{ℕ, zero, suc, _≤_, _<_}
+use Prim.Native.Nat.{ℕ, _≤_}
 use mathlib.Core.List.{List, [], _∷_, _++_, List·Memᴰ}
 use Rattle.octets.specs.Lists.{keep}
 use Rattle.spot.specs.Keys.{word, rankKey, rankOf}
@@ -10,7 +9,7 @@ use Rattle.spot.specs.declared.Spot.{Spot}
 use Rattle.spot.specs.declared.Query.{Query}
 use Rattle.block.specs.declared.Asked.{Asked}
 use Rattle.block.specs.declared.Asked.the-variants.{Root, Child}
-use Rattle.block.specs.Node.{Node, Store}
+use Rattle.block.specs.Node.{Store}
 use Rattle.block.specs.NodeRules.{names}
 use Rattle.tree.specs.Part.{Part, children}
 use Rattle.tree.specs.Walk.{admits, finds}

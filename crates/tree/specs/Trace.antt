@@ -2,7 +2,7 @@
 -- (proofs/Traces) puts them together to the walk.
 -- Assumes nothing.
 use Prim.Native.Nat.{ℕ, zero, suc, _+_}
-use mathlib.Core.Bool.{Bool, true, false, not, _&&_}
+use mathlib.Core.Bool.{Bool, false, not, _&&_}
 use mathlib.Core.List.{List, [], _∷_, _++_}
 use lib.ListN.{length}
 use Rattle.octets.specs.Lists.{every, keep, distinct}
@@ -10,7 +10,7 @@ use Rattle.octets.specs.Bitmap.{bit, setBit}
 use Rattle.spot.specs.Spots.{putAll}
 use Rattle.spot.specs.declared.Spot.{Spot}
 use Rattle.spot.specs.declared.Query.{Query}
-use Rattle.block.specs.Node.{Node, Store}
+use Rattle.block.specs.Node.{Store}
 use Rattle.block.specs.NodeRules.{names, nodeOk}
 use Rattle.tree.specs.Part.{Part, children}
 use Rattle.tree.specs.Reach.{gather}
