@@ -8,7 +8,7 @@ use Prim.Native.Nat.{ℕ, _+_, _-_, _*_, _≤_, _<_}
 use native.Mathlib.Omega.{arith}
 use lib.Dec.{leb, ltb, eqb, leb·suc-zero}
 use lib.ListN.{drop}
-use borrow.Author.Tests.{eqb-true, leb-true, lt-leb, ltb-true, le-ltb}
+use borrow.Author.Tests.{eqb-true, leb-true, le-ltb}
 use Rattle.octets.specs.Lists.{all, every, records, rising, risingFrom, distinct, minimum}
 use Rattle.octets.specs.Bytes.{be}
 use Rattle.spot.specs.Keys.{rankKey}
@@ -32,7 +32,7 @@ use Rattle.block.proofs.Apart.{apart-test, apart-fact}
 use Rattle.block.proofs.Above.{above, above-under, least-above, above-apart}
 use Rattle.block.proofs.Agree.{agrees-is}
 use Rattle.spot.proofs.Buffers.{keys-records}
-use Rattle.block.proofs.Views.{every-entry, every-top, tests-mono, tests-both}
+use Rattle.block.proofs.Views.{every-entry, every-top, tests-mono}
 use Rattle.block.proofs.Marks.{credibleAt, fine-make, fine-blank, fine-block, fine-other, fine-top, fine-credible}
 use Rattle.block.proofs.Rules.{rising-floor, floor-forward, floor-back, names-are, count-is, count-most, filled-is, lowest-is, leaf-is, lows-is, blocks-is}
 use Rattle.block.proofs.Children.{once-is, lows-above-is, apart-is, credible-is}

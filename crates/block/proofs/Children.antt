@@ -3,13 +3,13 @@
 use mathlib.Core.Path.{_≡_, refl, sym, ap, ap₂, subst, _∙_}
 use mathlib.Core.Logic.{⊎-elim}
 use mathlib.Core.Bool.{Bool, true, false, not, cond, _&&_, _||_, and-assoc, and-true}
-use mathlib.Core.List.{List, [], _∷_, _++_, List·Memᴰ, List·Memᴰ·head, List·Memᴰ·eq-of-singleton, Memᴰ·cast}
+use mathlib.Core.List.{List, [], _∷_, List·Memᴰ·head, List·Memᴰ·eq-of-singleton, Memᴰ·cast}
 use Prim.Native.Nat.{ℕ, zero, suc, _+_, _-_, _*_, _≤_, _<_}
 use native.Mathlib.Nat.{eq-or-lt-of-le}
 use native.Mathlib.Omega.{arith}
 use lib.Dec.{leb, ltb, eqb, leb·zero}
 use borrow.Author.Tests.{leb-true, le-leb, lt-leb, ne-eqb, not-true}
-use Rattle.octets.specs.Lists.{all, every, records, has, distinct, rest}
+use Rattle.octets.specs.Lists.{all, every, records, has, distinct}
 use Rattle.octets.specs.Bytes.{be}
 use Rattle.octets.proofs.Order.{less-or-not}
 use Rattle.octets.proofs.Tests.{and-left, and-right, and-both, or-left, bool-ext}
@@ -21,7 +21,7 @@ use Rattle.block.specs.declared.Entry.{Entry}
 use Rattle.block.specs.declared.Asked.{Asked}
 use Rattle.block.specs.Table.{version1}
 use Rattle.block.specs.Node.{Node, nodeFrom, entryAt, firstOpen}
-use Rattle.block.specs.NodeRules.{floorOf, standsIn, lows, childBlocks, lowsNotBelow, childrenApart, beforeNext, inChild, entryCredible, allCredible, entriesCredible}
+use Rattle.block.specs.NodeRules.{floorOf, standsIn, childBlocks, lowsNotBelow, childrenApart, beforeNext, inChild, entryCredible, allCredible, entriesCredible}
 use Rattle.block.specs.Checks.{keysAt, otherBlock, inFine, credibleFine, fromAt, freshFine, placeFine, blocksFine}
 use Rattle.block.proofs.Shut.{in-left, in-right, cond-or, all3, all4}
 use Rattle.block.proofs.Views.{rest-lows}

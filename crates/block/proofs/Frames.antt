@@ -8,14 +8,11 @@ use native.Mathlib.Nat.{add-sub-cancel-left}
 use native.Mathlib.Omega.{arith}
 use lib.ListN.{length, take, drop, length-drop}
 use lib.Seq.{length-take-le, drop-drop, take-at, drop-at}
-use borrow.Rule.Slice.PartMut.{putMid, same-len-mid, put-same, take-put, drop-put}
+use borrow.Rule.Slice.PartMut.{putMid, same-len-mid, take-put, drop-put}
 use Rattle.octets.proofs.Order.{less-or-not}
-use Rattle.block.specs.declared.Asked.{Asked}
 use Rattle.block.specs.Table.{block, putBlockIn, putBlock, blocksOf}
 use Rattle.block.specs.Header.{headOf, headerOf}
-use Rattle.block.specs.HeaderRules.{headerOk}
 use Rattle.block.specs.Node.{nodeOf, storeOf}
-use Rattle.block.specs.NodeRules.{nodeOk}
 use Rattle.block.proofs.Heads.{part-part}
 
 -- ---- two tables of one length
@@ -29,12 +26,6 @@ module _ (t u : List ℕ) (same : length u ≡ length t) where
   unfolding headOf
   head-same e = ap headerOf e
 
-  pub node-ok-same : (level : ℕ) (a : Asked) (b : ℕ) → block u b ≡ block t b → nodeOk level a (storeOf u b) ≡ nodeOk level a (storeOf t b)
-  node-ok-same level a b e = ap (nodeOk level a) (store-same b e)
-
-  pub header-ok-same : block u 0 ≡ block t 0 → headerOk (length u) (headOf u) ≡ headerOk (length t) (headOf t)
-  header-ok-same e = ap₂ headerOk same (head-same e)
-
 pub block-length : (t : List ℕ) (b : ℕ) → b * 2048 + 2048 ≤ length t → length (block t b) ≡ 2048
 block-length t b h = length-take-le 2048 (drop (b * 2048) t) (rw length-drop (omega arith))
 
@@ -47,11 +38,6 @@ put-part-is t b s = ap (λ (k : ℕ). putMid (b * 2048) k t s) (add-sub-cancel-l
 
 pub part-is : (t : List ℕ) (b : ℕ) → take (b * 2048 + 2048 - b * 2048) (drop (b * 2048) t) ≡ block t b
 part-is t b = ap (λ (k : ℕ). take k (drop (b * 2048) t)) (add-sub-cancel-left (b * 2048) 2048)
-
--- put in as it was
-pub put-block : (t : List ℕ) (b : ℕ) → putBlock t b (block t b) ≡ t
-unfolding putBlockIn
-put-block t b = put-same (b * 2048) 2048 t
 
 module _ (t : List ℕ) (b : ℕ) (s : List ℕ) (fits : b * 2048 + 2048 ≤ length t) (whole : length s ≡ 2048) where
   pub put-length : length (putBlock t b s) ≡ length t
@@ -93,16 +79,3 @@ module _ (t : List ℕ) (b : ℕ) (s : List ℕ) (fits : b * 2048 + 2048 ≤ len
   pub store-put-same : storeOf (putBlock t b s) b ≡ nodeOf (blocksOf (length t)) s
   unfolding storeOf
   store-put-same = ap₂ (λ (n : ℕ) (l : List ℕ). nodeOf (blocksOf n) l) put-length block-put-same
-
-  pub store-put-other : (z : ℕ) → (z ≡ b → ⊥) → storeOf (putBlock t b s) z ≡ storeOf t z
-  store-put-other z d = store-same t (putBlock t b s) put-length z (block-put-other z d)
-
-  pub head-put-other : 0 < b → headOf (putBlock t b s) ≡ headOf t
-  head-put-other l = head-same t (putBlock t b s) put-length (block-put-other 0 (λ e. omega arith))
-
-  -- put in twice
-  pub put-put : (r : List ℕ) → putBlock (putBlock t b s) b r ≡ putBlock t b r
-  unfolding putBlockIn
-  put-put r =
-      ap₂ (λ (x y : List ℕ). x ++ (r ++ y)) (take-put (b * 2048) 2048 t s (omega arith))
-      (drop-drop 2048 (b * 2048) (putBlock t b s) ∙ tail-same ∙ sym (drop-drop 2048 (b * 2048) t))

@@ -1,4 +1,4 @@
--- What the readers of a block give is the node's view: its counts, and its points, inserts, deletes and entries by index.
+-- What the readers of a block give is the node's view: its counts, and its entries by index.
 -- Assumes nothing.
 use mathlib.Core.Path.{_≡_, refl, ap, _∙_}
 use mathlib.Core.Bool.{Bool, false, cond}
@@ -11,7 +11,6 @@ use Rattle.octets.specs.Lists.{records}
 use Rattle.octets.specs.Bytes.{be}
 use Rattle.octets.proofs.Records.{length-records, records-at}
 use Rattle.spot.specs.Spots.{keyAt, spotAt}
-use Rattle.spot.specs.declared.Spot.{Spot}
 use Rattle.block.specs.declared.Entry.{Entry}
 use Rattle.block.specs.Table.{version1}
 use Rattle.block.specs.Node.{nodeOf, nodeFrom, entryAt, firstOpen, pointsFrom, insertsFrom, deletesFrom}
@@ -42,10 +41,6 @@ entry-nth s (suc n) (suc i) d h =
     later b q = rw q
 
 module _ (blocks : ℕ) (s : List ℕ) where
-  pub level-is : nodeOf blocks s .level ≡ frontOf s .level
-  unfolding nodeOf nodeFrom frontOf
-  level-is = refl
-
   pub entries-count : length (nodeOf blocks s .entries) ≡ frontOf s .c
   unfolding nodeOf nodeFrom frontOf
   entries-count = length-open (records (entryAt s) 28 (be 1 s 7) 8) ∙ length-records (entryAt s) 28 (be 1 s 7) 8
@@ -65,17 +60,3 @@ module _ (blocks : ℕ) (s : List ℕ) where
   pub entry-is : (i : ℕ) (d : Entry) → i < frontOf s .c → getD (nodeOf blocks s .entries) i d ≡ entryOf s i
   unfolding nodeOf nodeFrom frontOf
   entry-is i d h = entry-nth s (be 1 s 7) i d h
-
-  pub point-is : (j : ℕ) (d : Spot) → j < frontOf s .p → getD (nodeOf blocks s .points) j d ≡ spotAt s (pointsFrom version1 (frontOf s .c) + 12 * j)
-  unfolding nodeOf nodeFrom frontOf
-  point-is j d h = records-at (spotAt s) 12 (be 1 s 4) (pointsFrom version1 (be 1 s 7)) j d h
-
-  pub insert-is : (j : ℕ) (d : Spot) → j < frontOf s .i
-      → getD (nodeOf blocks s .inserts) j d ≡ spotAt s (insertsFrom version1 (frontOf s .c) (frontOf s .p) + 12 * j)
-  unfolding nodeOf nodeFrom frontOf
-  insert-is j d h = records-at (spotAt s) 12 (be 1 s 5) (insertsFrom version1 (be 1 s 7) (be 1 s 4)) j d h
-
-  pub delete-is : (j d : ℕ) → j < frontOf s .d
-      → getD (nodeOf blocks s .deletes) j d ≡ keyAt s (deletesFrom version1 (frontOf s .c) (frontOf s .p) (frontOf s .i) + 8 * j)
-  unfolding nodeOf nodeFrom frontOf
-  delete-is j d h = records-at (keyAt s) 8 (be 1 s 6) (deletesFrom version1 (be 1 s 7) (be 1 s 4) (be 1 s 5)) j d h

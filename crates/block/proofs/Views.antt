@@ -14,7 +14,6 @@ use Rattle.block.specs.declared.Entry.{Entry}
 use Rattle.block.specs.Node.{entryAt, openBelow, firstOpen}
 use Rattle.block.specs.NodeRules.{lows, zeroFirst, tops}
 use Rattle.block.specs.Checks.{keysAt}
-use Rattle.octets.proofs.Tests.{and-both}
 use Rattle.octets.proofs.Records.{every-records, tests-at, tests-make}
 
 -- ---- tests at every record
@@ -22,9 +21,6 @@ use Rattle.octets.proofs.Records.{every-records, tests-at, tests-make}
 module _ (f : ℕ → Bool) (w : ℕ) (g : ℕ → Bool) where
   pub tests-mono : ((a : ℕ) → f a ≡ true → g a ≡ true) → (n at : ℕ) → all (records f w n at) ≡ true → all (records g w n at) ≡ true
   tests-mono h n at p = tests-make g w n at (λ i l. h (at + w * i) (tests-at f w n at i p l))
-
-  pub tests-both : (n at : ℕ) → all (records f w n at) ≡ true → all (records g w n at) ≡ true → all (records (λ a. f a && g a) w n at) ≡ true
-  tests-both n at p q = tests-make (λ a. f a && g a) w n at (λ i l. and-both _ _ (tests-at f w n at i p l) (tests-at g w n at i q l))
 
 -- ---- entries
 

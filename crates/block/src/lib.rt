@@ -1,13 +1,11 @@
 // The one place that knows the layout of a card's blocks.
 ghost use mathlib.Core.Path.{_≡_};
-ghost use mathlib.Core.Bool.{true, cond, not, _&&_};
+ghost use mathlib.Core.Bool.{true, cond, not};
 ghost use Prim.Native.Nat.{_+_, _-_, _*_, _≤_, _<_, min, max};
-ghost use lib.Dec.{eqb};
-ghost use lib.ListN.{length, getD, drop};
-ghost use Rattle.octets.specs.Lists.{every, risingFrom, rising, records, all, upTo};
-ghost use Rattle.octets.specs.Bytes.{be};
+ghost use lib.ListN.{length, drop};
+ghost use Rattle.octets.specs.Lists.{every, risingFrom, rising, upTo};
 ghost use Rattle.octets.specs.Bitmap.{bit};
-ghost use Rattle.spot.specs.Spots.{keyAt, spotAt};
+ghost use Rattle.spot.specs.Spots.{keyAt};
 ghost use Rattle.block.specs.Table.{version1, tableSized, capacity};
 ghost use Rattle.block.specs.Header.{headOf, headerOf};
 ghost use Rattle.block.specs.Node.{nodeOf, storeOf, pointsFrom, insertsFrom, deletesFrom};
@@ -79,14 +77,6 @@ pub fn capacity_of(bytes: usize) -> usize
 
 // ---- reading block 0, of a table
 
-// The table's length, as block 0 has it.
-pub fn bytes_of(t: &[u8]) -> u64
-    requires { ⌜ 2048 ≤ length (now t) ⌝ }
-    ensures { λ r. ⌜ (r ≡ headOf (now (t .entry)) .bytes) × (r < 4294967296) ⌝ }
-{
-    octets::read32(t, 0)
-}
-
 // The number of levels.
 pub fn levels_of(t: &[u8]) -> usize
     requires { ⌜ 2048 ≤ length (now t) ⌝ }
@@ -109,14 +99,6 @@ pub fn bound_of(t: &[u8]) -> u64
     ensures { λ r. ⌜ (r ≡ headOf (now (t .entry)) .bound) × (r < 4294967296) ⌝ }
 {
     octets::read32(t, 8)
-}
-
-// Block b is marked as in use.
-pub fn in_use(t: &[u8], b: usize) -> bool
-    requires { ⌜ (2048 ≤ length (now t)) × (b < 4096) ⌝ }
-    ensures { λ r. ⌜ r ≡ bit (headOf (now (t .entry)) .inUse) b ⌝ }
-{
-    octets::test_bit(&t[12..524], b)
 }
 
 // ---- reading a node, in the bytes of its block
@@ -157,28 +139,6 @@ pub fn deletes_from(h: Front) -> usize
     ensures { λ r. ⌜ r ≡ deletesFrom version1 (h .c) (h .p) (h .i) ⌝ }
 {
     8 + 28 * h.c + 12 * (h.p + h.i)
-}
-
-// The point, the insert and the delete with index j.
-pub fn point_at(s: &[u8], h: Front, j: usize) -> spot::Spot
-    requires { ⌜ (usedOf h ≤ length (now s)) × (length (now s) ≤ 2048) × (j < h .p) ⌝ }
-    ensures { λ r. ⌜ r ≡ spotAt (now (s .entry)) (pointsFrom version1 (h .c) + 12 * j) ⌝ }
-{
-    spot::read_spot(s, points_from(h) + 12 * j)
-}
-
-pub fn insert_at(s: &[u8], h: Front, j: usize) -> spot::Spot
-    requires { ⌜ (usedOf h ≤ length (now s)) × (length (now s) ≤ 2048) × (j < h .i) ⌝ }
-    ensures { λ r. ⌜ r ≡ spotAt (now (s .entry)) (insertsFrom version1 (h .c) (h .p) + 12 * j) ⌝ }
-{
-    spot::read_spot(s, inserts_from(h) + 12 * j)
-}
-
-pub fn delete_at(s: &[u8], h: Front, j: usize) -> u64
-    requires { ⌜ (usedOf h ≤ length (now s)) × (length (now s) ≤ 2048) × (j < h .d) ⌝ }
-    ensures { λ r. ⌜ r ≡ keyAt (now (s .entry)) (deletesFrom version1 (h .c) (h .p) (h .i) + 8 * j) ⌝ }
-{
-    spot::read_key(s, deletes_from(h) + 8 * j)
 }
 
 // The key at a place that is in use, else 0.

@@ -1,7 +1,7 @@
 -- `block::sized` meets its contract: it computes as `tableSized` does.
 -- Assumes nothing.
 use mathlib.Core.Path.{sym}
-use Rattle.block.specs.Table.{sizedFor, tableSized}
+use Rattle.block.specs.Table.{sizedFor}
 use Rattle.block.proofs.Shut.{all3}
 use Rattle.block.proofs.sized.Statement.{statement}
 use Rattle.block.proofs.sized.Tie as tie
