@@ -115,19 +115,6 @@ find-member a (x ∷ xs) {s} h i =
 pub find-fails : (g : ℕ → Bool) (k : ℕ) (ss : List Spot) → every g (keys ss) ≡ true → g k ≡ false → find k ss ≡ none
 find-fails g k ss h e = find-none k ss (λ i. true≢false (sym (every-mem g (keys ss) h i) ∙ e))
 
--- in two lists one after the other
-pub find-first : (k : ℕ) (xs ys : List Spot) → List·Memᴰ k (keys xs) → find k (xs ++ ys) ≡ find k xs
-find-first k [] ys i = absurd (List·Memᴰ·not-nil i)
-find-first k (x ∷ xs) ys i =
-    ⊎-elim (λ (e : k ≡ x .key). find-here k x (xs ++ ys) e ∙ sym (find-here k x xs e))
-    (λ (n : k ≡ x .key → ⊥).
-    find-past k x (xs ++ ys) n ∙ find-first k xs ys (⊎-elim (λ e. absurd (n e)) (λ j. j) (List·Memᴰ·cases-cons i)) ∙ sym (find-past k x xs n))
-    (same-or-not k (x .key))
-
-pub find-second : (k : ℕ) (xs ys : List Spot) → (List·Memᴰ k (keys xs) → ⊥) → find k (xs ++ ys) ≡ find k ys
-find-second k [] ys n = refl
-find-second k (x ∷ xs) ys n = find-past k x (xs ++ ys) (λ e. n (List·Memᴰ·head e)) ∙ find-second k xs ys (λ i. n (List·Memᴰ·tail i))
-
 -- ---- the spots whose keys pass a test
 
 pub keys-only : (g : ℕ → Bool) (ss : List Spot) → keys (only g ss) ≡ keep g (keys ss)

@@ -6,19 +6,15 @@ use mathlib.Core.List.{List, _++_, append-assoc}
 use Prim.Native.Nat.{ℕ, _+_, _*_, _/_, _%_, _≤_, _<_}
 use native.Mathlib.Nat.{div-add-mod'}
 use native.Mathlib.Omega.{arith}
-use lib.IntN.{ℤ}
 use lib.ListN.{length, getD, take, drop, length-append, List·getD-append}
 use lib.Seq.{getD-take, getD-drop, getD-append-add, length-take-le, take-at, drop-append-add, drop-drop}
-use mir.Syntax.{w32}
-use mir.Val.{toZ, ofZ}
 use Rattle.octets.specs.Bytes.{be, bytesOf, putBe}
-use Rattle.octets.proofs.Bytes.{be-cong, be-lt, be-left, be-right, be-bytesOf, length-bytesOf, put-length, put-other, drop-put-be, put-eq, be-put-same, be-put-other}
+use Rattle.octets.proofs.Bytes.{be-cong, be-left, be-right, be-bytesOf, length-bytesOf, put-length, put-other, drop-put-be, put-eq, be-put-same, be-put-other}
 use Rattle.spot.specs.declared.Spot.{Spot}
-use Rattle.spot.specs.Keys.{word, allKeys, turned, biased, key}
+use Rattle.spot.specs.Keys.{word, allKeys, turned, key}
 use Rattle.spot.specs.Spots.{keyAt, spotAt, keyBytes, spotBytes, putKey, putSpot}
-use Rattle.spot.proofs.Signed.{Fits, turned-lt, turned-turned, toZ-turned, ofZ-turned, biased-unbiased}
+use Rattle.spot.proofs.Signed.{turned-lt, turned-turned}
 use Rattle.spot.proofs.Halves.{pair-small, high, low}
-use Rattle.spot.proofs.Orders.{key-place, key-rank}
 
 abbrev pub spot : ℕ → ℕ → Spot
 spot k t = record { key = k; track = t }
@@ -76,14 +72,6 @@ keyAt-right a b i = key-cong (a ++ b) b (length a + i) i (λ k l. right-byte a b
 pub spotAt-right : (a b : List ℕ) (i : ℕ) → spotAt (a ++ b) (length a + i) ≡ spotAt b i
 spotAt-right a b i = spot-cong (a ++ b) b (length a + i) i (λ k l. right-byte a b i k)
 
--- the key of the two signed numbers that stand there
-pub keyAt-signed : (s : List ℕ) (i : ℕ) → ((k : ℕ) → getD s k 0 < 256) → keyAt s i ≡ key (toZ w32 (be 4 s i)) (toZ w32 (be 4 s (i + 4)))
-unfolding keyAt
-keyAt-signed s i b = ap₂ (λ (x y : ℕ). x * word + y) (one i) (one (i + 4))
-  where
-    one : (j : ℕ) → turned (be 4 s j) ≡ biased (toZ w32 (be 4 s j))
-    one j = sym (ap biased (toZ-turned (be 4 s j) (be-lt 4 s j b)) ∙ biased-unbiased (turned (be 4 s j)))
-
 -- ---- a key written
 
 pub putKey-length : (s : List ℕ) (i k : ℕ) → length (putKey s i k) ≡ length s
@@ -98,14 +86,6 @@ putKey-other s i k j h =
     put-other 4 (putBe 4 s i (turned (k / word))) (i + 4) (turned (k % word)) j
     (⊎-elim (λ l. inl (omega arith)) (λ l. inr (omega arith)) h)
     ∙ put-other 4 s i (turned (k / word)) j (⊎-elim (λ l. inl l) (λ l. inr (omega arith)) h)
-
-pub be-putKey-other : (m : ℕ) (s : List ℕ) (i k j : ℕ) → (j + m ≤ i) ⊎ (i + 8 ≤ j) → be m (putKey s i k) j ≡ be m s j
-be-putKey-other m s i k j h =
-    be-cong m (putKey s i k) s j j (λ q l. putKey-other s i k (j + q) (⊎-elim (λ a. inl (omega arith)) (λ a. inr (omega arith)) h))
-
-pub keyAt-put-other : (s : List ℕ) (i k j : ℕ) → (j + 8 ≤ i) ⊎ (i + 8 ≤ j) → keyAt (putKey s i k) j ≡ keyAt s j
-keyAt-put-other s i k j h =
-    key-cong (putKey s i k) s j j (λ q l. putKey-other s i k (j + q) (⊎-elim (λ a. inl (omega arith)) (λ a. inr (omega arith)) h))
 
 -- the two halves turned twice are the key
 halves : (k : ℕ) → k < allKeys → turned (turned (k / word)) * word + turned (turned (k % word)) ≡ k
@@ -124,13 +104,6 @@ keyAt-put-same s i k h l =
     (be-put-other 4 4 t (i + 4) b i (inl (omega arith)) ∙ be-put-same 4 s i a (omega arith) (turned-lt (k / word)))
     (be-put-same 4 t (i + 4) b (omega arith) (turned-lt (k % word)))
     ∙ halves k l
-
--- writing a key is writing its two signed numbers
-pub put-key : (s : List ℕ) (i : ℕ) (p r : ℤ) → Fits p → Fits r → putKey s i (key p r) ≡ putBe 4 (putBe 4 s i (ofZ w32 p)) (i + 4) (ofZ w32 r)
-unfolding putKey
-put-key s i p r f g =
-    ap₂ (λ (x y : ℕ). putBe 4 (putBe 4 s i x) (i + 4) y) (ap turned (key-place p r g) ∙ sym (ofZ-turned p f))
-    (ap turned (key-rank p r g) ∙ sym (ofZ-turned r g))
 
 -- ---- as lists
 
@@ -201,10 +174,6 @@ drop-putSpot s i x k h =
     drop-put-be 4 (putBe 4 a (i + 4) (turned (x .key % word))) (i + 8) (x .track) k (omega arith)
     ∙ drop-put-be 4 a (i + 4) (turned (x .key % word)) k (omega arith)
     ∙ drop-put-be 4 s i (turned (x .key / word)) k (omega arith)
-
-pub be-putSpot-other : (m : ℕ) (s : List ℕ) (i : ℕ) (x : Spot) (j : ℕ) → (j + m ≤ i) ⊎ (i + 12 ≤ j) → be m (putSpot s i x) j ≡ be m s j
-be-putSpot-other m s i x j h =
-    be-cong m (putSpot s i x) s j j (λ q l. putSpot-other s i x (j + q) (⊎-elim (λ a. inl (omega arith)) (λ a. inr (omega arith)) h))
 
 pub spotAt-put-other : (s : List ℕ) (i : ℕ) (x : Spot) (j : ℕ) → (j + 12 ≤ i) ⊎ (i + 12 ≤ j) → spotAt (putSpot s i x) j ≡ spotAt s j
 spotAt-put-other s i x j h =

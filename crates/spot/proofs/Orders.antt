@@ -16,9 +16,9 @@ use borrow.Author.Tests.{le-leb}
 use Rattle.octets.specs.Lists.{all}
 use Rattle.octets.proofs.Order.{leb-same}
 use Rattle.spot.specs.Keys.{word, allKeys, biased, unbiased, key, placeOf, rankIn, rankKey, rankOf}
-use Rattle.spot.specs.Query.{query, topQuery, everything, wantsKey, placed, wanted}
+use Rattle.spot.specs.Query.{query, topQuery, wantsKey, placed, wanted}
 use Rattle.spot.proofs.Signed.{Fits, biased-lt, biased-inj, unbiased-biased, biased-unbiased, unbiased-fits, leZ-biased, ltZ-biased}
-use Rattle.spot.proofs.Halves.{pair-small, high, low, lex-to, lex-from, pair-lt, pair-eq, rank-is}
+use Rattle.spot.proofs.Halves.{high, low, lex-to, lex-from, pair-lt, pair-eq, rank-is}
 
 -- ---- keys and identities
 
@@ -34,9 +34,6 @@ module _ (p r : ℤ) (fr : Fits r) where
 
   pub rank-of : Fits p → rankOf (key p r) ≡ biased r
   rank-of fp = ap (λ (x : ℕ). x / word) rank-first ∙ digits-div (biased r) (biased-lt p fp)
-
-  pub key-small : Fits p → key p r < allKeys
-  key-small fp = pair-small (biased p) (biased r) (biased-lt p fp) (biased-lt r fr)
 
   pub place-of-key : Fits p → placeOf (key p r) ≡ p
   unfolding placeOf
@@ -64,10 +61,6 @@ key-lowest = refl
 
 pub key-highest : key (pos 2147483647) (pos 2147483647) ≡ 18446744073709551615
 key-highest = refl
-
-pub query-whole : query (negsuc 2147483647) (pos 2147483647) (negsuc 2147483647) ≡ everything
-unfolding query
-query-whole = refl
 
 -- ---- the two orders
 

@@ -1,13 +1,12 @@
 -- The places of a query: all that is known of `placed` and `meets`, which no other file opens. A query has two ends; a range that neither cuts lies
 -- wholly in the query's places or holds none of them.
 -- Assumes nothing.
-use mathlib.Core.Path.{_≡_, sym, ap, _∙_}
+use mathlib.Core.Path.{_≡_, ap, _∙_}
 use mathlib.Core.Logic.{⊎-elim}
 use mathlib.Core.Bool.{Bool, true, false, _&&_, _||_, and-true, and-false, or-false}
-use mathlib.Core.List.{[], _∷_}
 use Prim.Native.Nat.{ℕ, suc, _+_, _%_, _≤_, _<_, max}
 use native.Mathlib.Omega.{arith}
-use lib.Dec.{leb, ltb, leb·suc-suc}
+use lib.Dec.{leb, ltb}
 use borrow.Author.Tests.{leb-true, ltb-true, le-leb, lt-leb, lt-ltb, le-ltb}
 use Rattle.octets.specs.Lists.{all}
 use Rattle.octets.specs.Bitmap.{digit}
@@ -117,11 +116,6 @@ pub placed-to : (q : Query) (k : ℕ) → placed q k ≡ true → k ≤ q .last
 unfolding placed
 placed-to q k h = leb-true k (q .last) (all-at _ h 1)
 
--- the places of a query are a range of keys
-pub placed-within : (q : Query) (k : ℕ) → placed q k ≡ within (q .from) (suc (q .last)) k
-unfolding placed within
-placed-within q k = ap (λ (b : Bool). all (leb (q .from) k ∷ b ∷ [])) (sym (leb·suc-suc k (q .last)))
-
 pub meets-at : (q : Query) (lo hi k : ℕ) → within lo hi k ≡ true → placed q k ≡ true → meets q lo hi ≡ true
 unfolding meets
 meets-at q lo hi k w h =
@@ -157,10 +151,6 @@ uncut q lo hi z h k w =
 pub meets-same : (r q : Query) → r .from ≡ q .from → r .last ≡ q .last → (lo hi : ℕ) → meets r lo hi ≡ meets q lo hi
 unfolding meets
 meets-same r q a b lo hi = rw (a, b)
-
-pub placed-same : (r q : Query) → r .from ≡ q .from → r .last ≡ q .last → (k : ℕ) → placed r k ≡ placed q k
-unfolding placed
-placed-same r q a b k = rw (a, b)
 
 pub everything-placed : (k : ℕ) → within 0 allKeys k ≡ true → placed everything k ≡ true
 everything-placed k w = let b = within-to 0 allKeys k w in placed-yes everything k (omega arith) (omega arith)

@@ -80,10 +80,6 @@ toZ-turned u l =
     ⊎-elim (λ (h : half ≤ u). toZ-high u h ∙ sym (unbiased-low (turned u) (omega arith) ∙ ap negsuc (omega arith)))
     (λ (h : u < half). toZ-pos w32 u h ∙ sym (unbiased-high (turned u) (omega arith) ∙ ap pos (omega arith))) (less-or-not half u)
 
-pub ofZ-turned : (z : ℤ) → Fits z → ofZ w32 z ≡ turned (biased z)
-ofZ-turned (pos n) f = omega (arith, f .sfits)
-ofZ-turned (negsuc n) f = omega (arith, f .sfits)
-
 -- a signed argument comes back from its bits
 pub biased-back : (z : ℤ) {u : ℕ} → Fits z → u ≡ biased (toZ w32 (ofZ w32 z)) → u ≡ biased z
 biased-back z f p = p ∙ ap biased (toZ-ofZ w32 z f)

@@ -15,7 +15,7 @@ use Rattle.octets.proofs.Tests.{or-swap}
 use Rattle.octets.proofs.Sets.{has-mem, mem-has}
 use Rattle.octets.proofs.Rising.{rising-first, rising-rest, rising-make, rising-least}
 use Rattle.spot.specs.declared.Spot.{Spot}
-use Rattle.spot.specs.Spots.{keys, without}
+use Rattle.spot.specs.Spots.{keys}
 use Rattle.spot.specs.Sorted.{only, insertKey, but}
 
 -- ---- a key put in
@@ -43,14 +43,6 @@ insertKey-rises a k (x ∷ xs) l h n =
         rising-make a k (x ∷ xs) l
         (rising-make (suc k) x xs (⊎-elim (λ (e : k ≡ x). absurd (n (List·Memᴰ·head e))) (λ (e : k ≡ x → ⊥). omega arith) (same-or-not k x)) (rising-rest a x xs h))
 
-pub length-insertKey : (k : ℕ) (xs : List ℕ) → length (insertKey k xs) ≡ suc (length xs)
-length-insertKey k [] = refl
-length-insertKey k (x ∷ xs) = go (leb k x) (length-insertKey k xs)
-  where
-    go : (b : Bool) → length (insertKey k xs) ≡ suc (length xs) → length (cond b (k ∷ x ∷ xs) (x ∷ insertKey k xs)) ≡ suc (suc (length xs))
-    go true ih = refl
-    go false ih = ap suc ih
-
 -- ---- a key taken out
 
 pub but-not : (t k : ℕ) → but t k ≡ true → k ≡ t → ⊥
@@ -58,10 +50,6 @@ but-not t k h = eqb-false k t (not-true (eqb k t) h)
 
 pub but-yes : (t k : ℕ) → (k ≡ t → ⊥) → but t k ≡ true
 but-yes t k n = ap not (ne-eqb k t n)
-
-pub without-only : (k : ℕ) (ss : List Spot) → without k ss ≡ only (but k) ss
-unfolding without
-without-only k ss = refl
 
 -- a key taken out makes one less
 pub length-but : (a t : ℕ) (ss : List Spot) → risingFrom a (keys ss) ≡ true → List·Memᴰ t (keys ss) → suc (length (only (but t) ss)) ≡ length ss

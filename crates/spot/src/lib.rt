@@ -4,8 +4,8 @@ ghost use Prim.Native.Nat.{_+_, _≤_, _<_};
 ghost use lib.IntN.{_-ℤ_};
 ghost use lib.ListN.{length};
 ghost use mir.Syntax.{w32};
-ghost use mir.Val.{toZ, ofZ};
-ghost use Rattle.octets.specs.Bytes.{be, putBe};
+ghost use mir.Val.{toZ};
+ghost use Rattle.octets.specs.Bytes.{be};
 ghost use Rattle.spot.specs.Keys.{biased, unbiased, turned, key, placeOf, rankIn, rankKey};
 ghost use Rattle.spot.specs.Spots.{keyAt, spotAt, putKey, putSpot};
 ghost use Rattle.spot.specs.Query.{query, topQuery, placed, wantsKey, wanted};
@@ -51,13 +51,6 @@ pub fn read_i32(s: &[u8], at: usize) -> i32
     ensures { λ r. ⌜ r ≡ toZ w32 (be 4 (now (s .entry)) at) ⌝ }
 {
     unbias(turn(octets::read32(s, at)))
-}
-
-pub fn write_i32(s: &mut [u8], at: usize, v: i32)
-    requires { ⌜ at + 4 ≤ length (now s) ⌝ }
-    ensures { λ r. ⌜ now (s .exit) ≡ putBe 4 (now (s .entry)) at (ofZ w32 v) ⌝ }
-{
-    octets::write32(s, at, turn(bias(v)));
 }
 
 // The difference of two signed numbers, which 64 bits hold.
