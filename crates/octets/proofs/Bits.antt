@@ -1,26 +1,26 @@
--- Maps of blocks: a bit set or cleared, the lowest clear bit, and the count of ones.
+-- Maps of blocks: a bit set, the lowest clear bit, and the count of ones.
 -- Assumes nothing.
 use mathlib.Core.Path.{_≡_, refl, sym, ap, _∙_}
 use mathlib.Core.Logic.{_≢_, ⊎-elim}
-use mathlib.Core.Bool.{Bool, true, false, cond, true≢false}
+use mathlib.Core.Bool.{Bool, true, false, cond}
 use mathlib.Core.List.{List, [], _∷_}
 use Prim.Native.Nat.{ℕ, zero, suc, _+_, _*_, _-_, _/_, _%_, _^_, _≤_, _<_}
 use native.Mathlib.Nat.{add-zero, add-suc}
 use native.Mathlib.Decide.{ℕ-discrete, decLe}
 use native.Mathlib.Omega.{arith}
 use lib.ListN.{length, getD, set, replicate, length-set, length-append, List·getD-eq-default}
-use lib.Pow.{shl-exact, pow-lt}
+use lib.Pow.{shl-exact}
 use lib.Seq.{getD-set-same, getD-set-other}
 use lib.Dec.{eqb}
-use lib.Bits.{bitOr, bitAnd, or-zero-r, and-zero-r}
+use lib.Bits.{bitOr, or-zero-r}
 use lib.Count.{ones, trailingZeros}
 use borrow.Author.Tests.{eq-eqb, ne-eqb}
 use Rattle.octets.specs.Lists.{keep, upTo}
-use Rattle.octets.specs.Bitmap.{bit, setBit, clearBit, onesBelow, FirstClear, digit}
+use Rattle.octets.specs.Bitmap.{bit, setBit, onesBelow, FirstClear, digit}
 use Rattle.octets.proofs.Order.{same-or-not, less-or-not}
 use Rattle.octets.proofs.Tests.{keep-append, keep-length}
 use Rattle.octets.proofs.UpTo.{upTo-more, upTo-length}
-use Rattle.octets.proofs.Digits.{digitAt, digit-lt, digit-or, digit-and, digit-of-zero, digit-pow-same, digit-pow-other, complement, Lowest, lowest, sumTo, ones-sum}
+use Rattle.octets.proofs.Digits.{digitAt, digit-lt, digit-or, digit-of-zero, digit-pow-same, digit-pow-other, complement, Lowest, lowest, sumTo, ones-sum}
 
 -- ---- a bit and its byte
 
@@ -97,43 +97,6 @@ setBit-other m n k h ne =
     other-bits m n (bitOr x (2 ^ (n % 8))) h
     (λ j l q. digit-or x (2 ^ (n % 8)) j ∙ ap (bitOr (digitAt x j)) (digit-pow-other (n % 8) j q) ∙ or-zero-r (digitAt x j)) k ne
 
--- ---- a bit that is cleared
-
-and-one : (d : ℕ) → d < 2 → bitAnd d 1 ≡ d
-and-one zero h = refl
-and-one (suc zero) h = refl
-and-one (suc (suc d)) h = absurd (omega arith)
-
-pow-byte : (j : ℕ) → j < 8 → 2 ^ j < 256
-pow-byte j h = pow-lt h
-
--- the digits of 255 without one
-mask-same : (j : ℕ) → j < 8 → digitAt (255 - 2 ^ j) j ≡ 0
-mask-same j h = omega (arith, complement 8 (2 ^ j) j (pow-byte j h) h, digit-pow-same j)
-
-mask-other : (i j : ℕ) → i < 8 → j < 8 → j ≢ i → digitAt (255 - 2 ^ i) j ≡ 1
-mask-other i j h k ne = omega (arith, complement 8 (2 ^ i) j (pow-byte i h) k, digit-pow-other i j ne)
-
-pub clearBit-length : (m : List ℕ) (n : ℕ) → length (clearBit m n) ≡ length m
-unfolding clearBit
-clearBit-length m n = length-set m (n / 8) (bitAnd (getD m (n / 8) 0) (255 - 2 ^ (n % 8)))
-
-pub clearBit-same : (m : List ℕ) (n : ℕ) → n / 8 < length m → bit (clearBit m n) n ≡ false
-unfolding clearBit
-clearBit-same m n h =
-    let x : ℕ = getD m (n / 8) 0 in
-    let y : ℕ = bitAnd x (255 - 2 ^ (n % 8)) in
-    byte-clear (set m (n / 8) y) n (n / 8) (n % 8) refl refl
-    (ap (λ (b : ℕ). digitAt b (n % 8)) (getD-set-same m (n / 8) y 0 h)
-    ∙ digit-and x (255 - 2 ^ (n % 8)) (n % 8) ∙ ap (bitAnd (digitAt x (n % 8))) (mask-same (n % 8) (omega arith)) ∙ and-zero-r (digitAt x (n % 8)))
-
-pub clearBit-other : (m : List ℕ) (n k : ℕ) → n / 8 < length m → k ≢ n → bit (clearBit m n) k ≡ bit m k
-unfolding clearBit
-clearBit-other m n k h ne =
-    let x : ℕ = getD m (n / 8) 0 in
-    other-bits m n (bitAnd x (255 - 2 ^ (n % 8))) h
-    (λ j l q. digit-and x (255 - 2 ^ (n % 8)) j ∙ ap (bitAnd (digitAt x j)) (mask-other (n % 8) j (omega arith) l q) ∙ and-one (digitAt x j) (digit-lt x j)) k ne
-
 -- ---- the lowest bit that is clear
 
 -- all bits of a full byte are set
@@ -168,19 +131,8 @@ first-in m i f h = at (trailingZeros 8 (255 - getD m i 0)) (lowest 8 (255 - getD
 pub first-none : (m : List ℕ) → ((q : ℕ) → q < length m → getD m q 0 ≡ 255) → FirstClear m (length m * 8)
 first-none m f = record { below = λ k l. full m k (f (k / 8) (omega arith)); clear = λ l. absurd (omega arith) }
 
--- it is not past the end, and clear; no clear bit is below it; there is one such number
-pub first-le : (m : List ℕ) (r : ℕ) → FirstClear m r → r ≤ 8 * length m
-first-le m r f =
-    ⊎-elim (λ h. h) (λ (h : 8 * length m < r). absurd (true≢false (sym (f .below (8 * length m) h) ∙ bit-past m (8 * length m) (omega arith)))) (less-or-not r (8 * length m))
-
 pub first-is-clear : (m : List ℕ) (r : ℕ) → FirstClear m r → bit m r ≡ false
 first-is-clear m r f = ⊎-elim (λ (h : 8 * length m ≤ r). bit-past m r h) (λ (h : r < 8 * length m). f .clear h) (less-or-not (8 * length m) r)
-
-pub first-lowest : (m : List ℕ) (r n : ℕ) → FirstClear m r → bit m n ≡ false → r ≤ n
-first-lowest m r n f e = ⊎-elim (λ h. h) (λ (h : n < r). absurd (true≢false (sym (f .below n h) ∙ e))) (less-or-not r n)
-
-pub first-one : (m : List ℕ) (r t : ℕ) → FirstClear m r → FirstClear m t → r ≡ t
-first-one m r t f g = omega (arith, first-lowest m r t f (first-is-clear m t g), first-lowest m t r g (first-is-clear m r f))
 
 -- ---- the count of ones
 
@@ -228,9 +180,6 @@ ones-more a b i (suc n) l p q h =
 
 pub ones-setBit : (m : List ℕ) (i n : ℕ) → i < n → i / 8 < length m → bit m i ≡ false → onesBelow (setBit m i) n ≡ suc (onesBelow m n)
 ones-setBit m i n l h e = ones-more m (setBit m i) i n l e (setBit-same m i h) (λ k d. sym (setBit-other m i k h d))
-
-pub ones-clearBit : (m : List ℕ) (i n : ℕ) → i < n → i / 8 < length m → bit m i ≡ true → onesBelow m n ≡ suc (onesBelow (clearBit m i) n)
-ones-clearBit m i n l h e = ones-more (clearBit m i) m i n l (clearBit-same m i h) e (λ k d. clearBit-other m i k h d)
 
 digit-eqb : (d : ℕ) → d < 2 → digit (eqb d 1) ≡ d
 digit-eqb zero h = refl

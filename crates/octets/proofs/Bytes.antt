@@ -45,18 +45,6 @@ be-split m (suc n) s i =
     let p : be m s i * 256 ^ suc n ≡ be m s i * 256 ^ n * 256 = ap (λ (x : ℕ). be m s i * x) (pow-suc 256 n) ∙ sym (mul-assoc (be m s i) (256 ^ n) 256) in
     rw (add-suc m n, g) (omega arith)
 
--- a number is zero where both its parts are
-pub be-join : (m n : ℕ) (s : List ℕ) (i : ℕ) → be m s i ≡ 0 → be n s (i + m) ≡ 0 → be (m + n) s i ≡ 0
-be-join m n s i p q = be-split m n s i ∙ rw (p, q) (omega arith)
-
-pub be-front : (m n : ℕ) (s : List ℕ) (i : ℕ) → be (m + n) s i ≡ 0 → be m s i ≡ 0
-unfolding be
-be-front m zero s i p = rw add-zero at p
-be-front m (suc n) s i p = be-front m n s i (let q : be (suc (m + n)) s i ≡ 0 = rw add-suc at p in omega arith)
-
-pub be-back : (m n : ℕ) (s : List ℕ) (i : ℕ) → be (m + n) s i ≡ 0 → be n s (i + m) ≡ 0
-be-back m n s i p = let e = be-split m n s i in omega arith
-
 -- ---- writing
 
 pub put-length : (n : ℕ) (s : List ℕ) (i v : ℕ) → length (putBe n s i v) ≡ length s
@@ -144,9 +132,6 @@ be-part n a k s i l =
 
 pub be-take : (n k : ℕ) (s : List ℕ) (i : ℕ) → i + n ≤ k → be n (take k s) i ≡ be n s i
 be-take n k s i l = be-cong n (take k s) s i i (λ q m. getD-take k s (i + q) 0 (omega arith))
-
-pub be-drop : (n a : ℕ) (s : List ℕ) (i : ℕ) → be n (drop a s) i ≡ be n s (a + i)
-be-drop n a s i = be-cong n (drop a s) s i (a + i) (λ q m. getD-drop a s (i + q) 0 ∙ ap (λ (x : ℕ). getD s x 0) (omega arith))
 
 -- the number of a number's bytes
 pub be-bytesOf : (n v : ℕ) → v < 256 ^ n → be n (bytesOf n v) 0 ≡ v

@@ -7,7 +7,7 @@ use native.Mathlib.Nat.{pow-suc}
 use native.Mathlib.Numerals.{one-add}
 use native.Mathlib.Omega.{arith}
 use lib.Pow.{shr-shr}
-use lib.Bits.{bitOr, bitAnd, and-shr, and-mod, or-shr, or-mod}
+use lib.Bits.{bitOr, or-shr, or-mod}
 use lib.Count.{ones, ones-le, ones-step, trailingZeros, under}
 
 -- the digit of value 2 ^ j
@@ -33,10 +33,6 @@ digit-of-zero (suc j) = digit-suc 0 j ∙ digit-of-zero j
 pub digit-or : (x y j : ℕ) → digitAt (bitOr x y) j ≡ bitOr (digitAt x j) (digitAt y j)
 unfolding digitAt
 digit-or x y j = ap (λ (q : ℕ). q % 2) (or-shr x y j) ∙ or-mod (x / 2 ^ j) (y / 2 ^ j) 1
-
-pub digit-and : (x y j : ℕ) → digitAt (bitAnd x y) j ≡ bitAnd (digitAt x j) (digitAt y j)
-unfolding digitAt
-digit-and x y j = ap (λ (q : ℕ). q % 2) (and-shr x y j) ∙ and-mod (x / 2 ^ j) (y / 2 ^ j) 1
 
 half-pow : (i : ℕ) → 2 ^ suc i / 2 ≡ 2 ^ i
 half-pow i = rw pow-suc (omega arith)

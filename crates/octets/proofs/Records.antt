@@ -2,7 +2,7 @@
 -- Assumes nothing.
 use mathlib.Core.Path.{_≡_, refl, sym, ap, ap₂, subst, _∙_}
 use mathlib.Core.Bool.{Bool, true, _&&_}
-use mathlib.Core.List.{List, [], _∷_, _++_, map}
+use mathlib.Core.List.{List, [], _∷_, _++_}
 use Prim.Native.Nat.{ℕ, zero, suc, _+_, _-_, _*_, _<_, _≤_}
 use native.Mathlib.Nat.{mul-suc, mul-zero}
 use native.Mathlib.Omega.{arith}
@@ -58,10 +58,6 @@ records-cong {A} f g w (suc n) a b h = ap₂ (λ (x : A) (l : List A). x ∷ l) 
         let p : a + w + w * i ≡ a + w * suc i = omega (arith, mul-suc w i) in
         let q : b + w * suc i ≡ b + w + w * i = omega (arith, mul-suc w i) in
         ap f p ∙ h (suc i) (omega arith) ∙ ap g q
-
-pub map-records : {A B : Type 0} (h : A → B) (f : ℕ → A) (w n at : ℕ) → map h (records f w n at) ≡ records (λ i. h (f i)) w n at
-map-records h f w zero at = refl
-map-records {A} {B} h f w (suc n) at = ap (λ (l : List B). h (f at) ∷ l) (map-records h f w n (at + w))
 
 -- ---- the records from the i-th on
 

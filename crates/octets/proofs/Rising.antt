@@ -1,13 +1,13 @@
--- Lists of numbers that rise: cut in two, joined, filtered, and settled by the numbers they have.
+-- Lists of numbers that rise: cut in two, and filtered.
 -- Assumes nothing.
-use mathlib.Core.Path.{_≡_, refl, ap}
+use mathlib.Core.Path.{_≡_, refl}
 use mathlib.Core.Logic.{⊎-elim}
 use mathlib.Core.Bool.{Bool, true, false, cond}
-use mathlib.Core.List.{List, [], _∷_, _++_, List·Memᴰ, List·Memᴰ·head, List·Memᴰ·tail, List·Memᴰ·not-nil, List·Memᴰ·cases-cons}
+use mathlib.Core.List.{List, [], _∷_, _++_, List·Memᴰ, List·Memᴰ·not-nil, List·Memᴰ·cases-cons}
 use Prim.Native.Nat.{ℕ, suc, _≤_}
 use native.Mathlib.Omega.{arith}
 use lib.Dec.{leb, ltb}
-use borrow.Author.Tests.{leb-true, ltb-true, le-leb, lt-ltb}
+use borrow.Author.Tests.{leb-true, le-leb, lt-ltb}
 use Rattle.octets.specs.Lists.{every, keep, distinct, risingFrom}
 use Rattle.octets.proofs.Tests.{and-left, and-right, and-both}
 use Rattle.octets.proofs.Sets.{distinct-cons}
@@ -67,15 +67,6 @@ rising-before a z (x ∷ xs) zs h =
 pub rises-after : (a : ℕ) (xs : List ℕ) (y : ℕ) (zs : List ℕ) → risingFrom a (xs ++ (y ∷ zs)) ≡ true → risingFrom (suc y) zs ≡ true
 rises-after a xs y zs h = rising-rest a y zs (rising-right a xs (y ∷ zs) h)
 
--- two lists that rise, the first below m and the second from m on, rise together
-pub rising-join : (a m : ℕ) (xs zs : List ℕ) → a ≤ m → risingFrom a xs ≡ true → every (λ k. ltb k m) xs ≡ true → risingFrom m zs ≡ true
-    → risingFrom a (xs ++ zs) ≡ true
-rising-join a m [] zs l h b g = rising-lower a m zs l g
-rising-join a m (x ∷ xs) zs l h b g =
-    rising-make a x (xs ++ zs) (rising-first a x xs h)
-    (rising-join (suc x) m xs zs (ltb-true x m (and-left (ltb x m) (every (λ k. ltb k m) xs) b)) (rising-rest a x xs h)
-    (and-right (ltb x m) (every (λ k. ltb k m) xs) b) g)
-
 -- ---- what is kept of a list that rises
 
 pub keep-rises : (g : ℕ → Bool) (a : ℕ) (xs : List ℕ) → risingFrom a xs ≡ true → risingFrom a (keep g xs) ≡ true
@@ -85,34 +76,3 @@ keep-rises g a (x ∷ xs) h = go (g x) (keep-rises g (suc x) xs (rising-rest a x
     go : (b : Bool) → risingFrom (suc x) (keep g xs) ≡ true → risingFrom a (cond b (x ∷ keep g xs) (keep g xs)) ≡ true
     go true ih = rising-make a x (keep g xs) (rising-first a x xs h) ih
     go false ih = rising-lower a (suc x) (keep g xs) (omega (arith, rising-first a x xs h)) ih
-
--- ---- lists that rise and have the same numbers are one
-
-pub rising-ext : (a : ℕ) (xs ys : List ℕ) → risingFrom a xs ≡ true → risingFrom a ys ≡ true
-    → ((k : ℕ) → List·Memᴰ k xs → List·Memᴰ k ys) → ((k : ℕ) → List·Memᴰ k ys → List·Memᴰ k xs) → xs ≡ ys
-rising-ext a [] [] hx hy f g = refl
-rising-ext a [] (y ∷ ys) hx hy f g = absurd (List·Memᴰ·not-nil (g y (List·Memᴰ·head refl)))
-rising-ext a (x ∷ xs) [] hx hy f g = absurd (List·Memᴰ·not-nil (f x (List·Memᴰ·head refl)))
-rising-ext a (x ∷ xs) (y ∷ ys) hx hy f g =
-    rw same (ap (λ (l : List ℕ). y ∷ l) (rising-ext (suc y) xs ys rest-x rest-y (λ k i. on k (f k (List·Memᴰ·tail i)) i) (λ k i. back k (g k (List·Memᴰ·tail i)) i)))
-  where
-    below : (u v : ℕ) (us vs : List ℕ) → risingFrom a (u ∷ us) ≡ true → List·Memᴰ v (u ∷ us) → u ≤ v
-    below u v us vs h i =
-        ⊎-elim (λ (e : v ≡ u). omega arith) (λ j. omega (arith, rising-least (suc u) us (rising-rest a u us h) j)) (List·Memᴰ·cases-cons i)
-
-    same : x ≡ y
-    same = omega (arith, below x y xs ys hx (g y (List·Memᴰ·head refl)), below y x ys xs hy (f x (List·Memᴰ·head refl)))
-
-    rest-x : risingFrom (suc y) xs ≡ true
-    rest-x = rw (← same) (rising-rest a x xs hx)
-
-    rest-y : risingFrom (suc y) ys ≡ true
-    rest-y = rising-rest a y ys hy
-
-    on : (k : ℕ) → List·Memᴰ k (y ∷ ys) → List·Memᴰ k xs → List·Memᴰ k ys
-    on k i j =
-        ⊎-elim (λ (e : k ≡ y). let z : suc y ≤ k = rising-least (suc y) xs rest-x j in absurd (let q : ⊥ = omega arith in q)) (λ h. h) (List·Memᴰ·cases-cons i)
-
-    back : (k : ℕ) → List·Memᴰ k (x ∷ xs) → List·Memᴰ k ys → List·Memᴰ k xs
-    back k i j =
-        ⊎-elim (λ (e : k ≡ x). let z : suc y ≤ k = rising-least (suc y) ys rest-y j in absurd (let q : ⊥ = omega (arith, same) in q)) (λ h. h) (List·Memᴰ·cases-cons i)

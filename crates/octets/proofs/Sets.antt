@@ -10,7 +10,7 @@ use borrow.Author.Tests.{eq-eqb, ne-eqb, not-true}
 use Rattle.octets.specs.Lists.{every, keep, has, distinct}
 use Rattle.octets.specs.Sets.{Apart}
 use Rattle.octets.proofs.Order.{same-or-not}
-use Rattle.octets.proofs.Tests.{and-left, and-right, and-both, refuted, every-mem, every-make, keep-in}
+use Rattle.octets.proofs.Tests.{and-left, and-right, and-both, refuted, every-mem}
 
 -- ---- the test and the fact
 
@@ -57,9 +57,6 @@ has-keep g k (x ∷ xs) = go (g x) refl (has-keep g k xs)
 pub every-has : (f : ℕ → Bool) (k : ℕ) (xs : List ℕ) → every f xs ≡ true → has k xs ≡ true → f k ≡ true
 every-has f k xs h j = every-mem f xs h (has-mem k xs j)
 
-pub every-by : (f : ℕ → Bool) (xs : List ℕ) → ((k : ℕ) → has k xs ≡ true → f k ≡ true) → every f xs ≡ true
-every-by f xs h = every-make f xs (λ x i. h x (mem-has x xs i))
-
 -- ---- nothing twice
 
 pub not-has : (x : ℕ) (xs : List ℕ) → distinct (x ∷ xs) ≡ true → has x xs ≡ false
@@ -98,11 +95,3 @@ distinct-join [] ys a b o = b
 distinct-join (x ∷ xs) ys a b o =
     distinct-cons x (xs ++ ys) (λ i. ⊎-elim (λ j. distinct-head x xs a j) (λ j. o x (List·Memᴰ·head refl) j) (List·Memᴰ·append-cases xs i))
     (distinct-join xs ys (distinct-tail x xs a) b (λ z i j. o z (List·Memᴰ·tail i) j))
-
-pub distinct-keep : (f : ℕ → Bool) (xs : List ℕ) → distinct xs ≡ true → distinct (keep f xs) ≡ true
-distinct-keep f [] h = refl
-distinct-keep f (x ∷ xs) h = go (f x) (distinct-keep f xs (distinct-tail x xs h))
-  where
-    go : (b : Bool) → distinct (keep f xs) ≡ true → distinct (cond b (x ∷ keep f xs) (keep f xs)) ≡ true
-    go true ih = distinct-cons x (keep f xs) (λ i. distinct-head x xs h (keep-in f xs i)) ih
-    go false ih = ih

@@ -178,17 +178,6 @@ module _ {A : Type 0} (f : A → Bool) where
       go true h = omega arith
       go false h = omega arith
 
-  -- one fewer at least, where one fails
-  pub length-keep-less : (xs : List A) {x : A} → List·Memᴰ x xs → f x ≡ false → length (keep f xs) < length xs
-  length-keep-less [] i h = absurd (List·Memᴰ·not-nil i)
-  length-keep-less (y ∷ ys) {x} i h = go (f y) refl (List·Memᴰ·cases-cons i) (λ j. length-keep-less ys j h)
-    where
-      go : (b : Bool) → f y ≡ b → (x ≡ y) ⊎ List·Memᴰ x ys → (List·Memᴰ x ys → length (keep f ys) < length ys)
-          → length (cond b (y ∷ keep f ys) (keep f ys)) < suc (length ys)
-      go true e (inl s) ih = absurd (true≢false (sym e ∙ ap f (sym s) ∙ h))
-      go true e (inr j) ih = omega (arith, ih j)
-      go false e k ih = omega (arith, keep-length ys)
-
   pub keep-append : (xs ys : List A) → keep f (xs ++ ys) ≡ keep f xs ++ keep f ys
   keep-append [] ys = refl
   keep-append (x ∷ xs) ys = go (f x) (keep-append xs ys)
@@ -202,9 +191,6 @@ module _ {A : Type 0} (f : A → Bool) where
   pub keep-all : (xs : List A) → every f xs ≡ true → keep f xs ≡ xs
   keep-all [] h = refl
   keep-all (x ∷ xs) h = rw (and-left (f x) (every f xs) h) (ap (λ (l : List A). x ∷ l) (keep-all xs (and-right (f x) (every f xs) h)))
-
-  pub keep-every : (xs : List A) → every f (keep f xs) ≡ true
-  keep-every xs = every-make f (keep f xs) (λ x i. keep-passes xs i)
 
 module _ {A : Type 0} where
   -- no fewer pass a test that asks for less

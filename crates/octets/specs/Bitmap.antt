@@ -1,12 +1,12 @@
 -- Maps of blocks: one bit for each block, eight blocks to a byte.
 -- Assumes nothing.
-use Prim.Native.Nat.{ℕ, _+_, _-_, _*_, _/_, _%_, _^_, _<_}
+use Prim.Native.Nat.{ℕ, _+_, _*_, _/_, _%_, _^_, _<_}
 use mathlib.Core.Path.{_≡_}
 use mathlib.Core.Bool.{Bool, true, false}
 use mathlib.Core.List.{List}
 use lib.ListN.{length, getD, set}
 use lib.Dec.{eqb}
-use lib.Bits.{bitOr, bitAnd}
+use lib.Bits.{bitOr}
 use Rattle.octets.specs.Lists.{keep, upTo}
 
 -- "Block n is the bit of value 2^(n mod 8) in map byte n div 8"
@@ -16,10 +16,6 @@ bit map n = eqb (getD map (n / 8) 0 / 2 ^ (n % 8) % 2) 1
 -- the map with the bit n set
 unfoldable pub setBit : List ℕ → ℕ → List ℕ
 setBit map n = set map (n / 8) (bitOr (getD map (n / 8) 0) (2 ^ (n % 8)))
-
--- the map with the bit n clear
-unfoldable pub clearBit : List ℕ → ℕ → List ℕ
-clearBit map n = set map (n / 8) (bitAnd (getD map (n / 8) 0) (255 - 2 ^ (n % 8)))
 
 -- how many of the bits below n are set: "The number read is the count of ones"
 unfoldable pub onesBelow : List ℕ → ℕ → ℕ

@@ -4,7 +4,7 @@ ghost use mathlib.Core.List.{_++_};
 ghost use Prim.Native.Nat.{_+_, _*_, _/_, _≤_, _<_};
 ghost use lib.ListN.{length, getD, take, drop, replicate};
 ghost use Rattle.octets.specs.Bytes.{be, putBe};
-ghost use Rattle.octets.specs.Bitmap.{bit, setBit, clearBit, onesBelow, FirstClear};
+ghost use Rattle.octets.specs.Bitmap.{bit, setBit, onesBelow, FirstClear};
 
 fn wide(x: u8) -> u64
     ensures { λ r. ⌜ (r ≡ x) × (r < 256) ⌝ }
@@ -111,14 +111,6 @@ pub fn set_bit(map: &mut [u8], n: usize)
 {
     let i = n / 8;
     map[i] = map[i] | (1u8 << (n % 8));
-}
-
-pub fn clear_bit(map: &mut [u8], n: usize)
-    requires { ⌜ n / 8 < length (now map) ⌝ }
-    ensures { λ r. ⌜ now (map .exit) ≡ clearBit (now (map .entry)) n ⌝ }
-{
-    let i = n / 8;
-    map[i] = map[i] & (255 - (1u8 << (n % 8)));
 }
 
 // The number of bits that are set.
