@@ -1,6 +1,6 @@
 // The leaves and the validation of a block, exported for the benchmarks under measure/.
 ghost use mathlib.Core.Path.{_≡_};
-ghost use Prim.Native.Nat.{_+_, _*_, _≤_};
+ghost use Prim.Native.Nat.{_*_};
 ghost use lib.ListN.{length};
 
 // The sum, modulo 2^64, of the keys that stand 8 bytes apart in s.

@@ -17,7 +17,7 @@ use Rattle.block.specs.Table.{capacity}
 use Rattle.block.specs.Header.{headOf}
 use Rattle.block.specs.HeaderRules.{headerOk}
 use Rattle.block.proofs.Facts.{head-facts}
-use Rattle.tree.specs.Walk.{Walk, broken, walked, walkTable, isBroken, spots, liveSpots}
+use Rattle.tree.specs.Walk.{Walk, broken, walked, walkTable, isBroken, spots}
 use Rattle.tree.specs.Sound.{sound}
 use Rattle.tree.proofs.Tables.{sound-header, live-rises, live-walk, count-finds, counted}
 use Rattle.query.proofs.Gathered.{whole-header}
