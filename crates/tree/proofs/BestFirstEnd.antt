@@ -27,7 +27,7 @@ use Rattle.tree.proofs.BestFirstSums.{sum, counted, one, counted-yes, c
 use Rattle.tree.proofs.BestFirstSpots.{spotMark, spot-from, Descends}
 use Rattle.tree.proofs.BestFirstTree.{weighs, atNode, onBlock, onSpots, faultAt, fault, rootOf, Whole, walk-whole}
 use Rattle.tree.proofs.BestFirstParts.{due, finds-rank, held-small}
-use Rattle.tree.proofs.BestFirstSteps.{NoneRanks, numbers, Course}
+use Rattle.tree.proofs.BestFirstSteps.{NoneRanks, numbers, Progress}
 
 -- ---- the threshold
 
@@ -122,7 +122,7 @@ descends-last (y ∷ ys) s d x i =
 
 -- ---- the walks at least ranks that no unread part promises
 
-module _ (t : List ℕ) (x1 x2 : ℤ) (k : ℕ) (unread : List Pending) (found given : List Spot) (blocks : List ℕ) (g : Course t x1 x2 k unread found given blocks) where
+module _ (t : List ℕ) (x1 x2 : ℤ) (k : ℕ) (unread : List Pending) (found given : List Spot) (blocks : List ℕ) (g : Progress t x1 x2 k unread found given blocks) where
   abbrev pub Closed : ℕ → Type 0
   Closed y = (u : Pending) → List·Memᴰ u unread → promised u < y
 

@@ -9,11 +9,10 @@ use Prim.Native.Nat.{ℕ, zero, suc, _+_, _*_, _≤_, _<_}
 use native.Mathlib.Omega.{arith}
 use lib.Dec.{leb, ltb, eqb}
 use lib.IntN.{ℤ}
-use lib.ListN.{length, length-append}
 use borrow.Author.Tests.{ltb-true, le-leb, lt-ltb}
 use Rattle.octets.specs.Lists.{all, has, keep}
 use Rattle.octets.specs.Bytes.{be}
-use Rattle.octets.proofs.Tests.{all-at, every-mem, keep-mem, keep-in, keep-length, keep-keep}
+use Rattle.octets.proofs.Tests.{all-at, every-mem, keep-mem, keep-in, keep-keep}
 use Rattle.octets.proofs.Records.{tests-make}
 use Rattle.spot.specs.declared.Spot.{Spot}
 use Rattle.spot.specs.declared.Query.{Query}
@@ -38,7 +37,7 @@ use Rattle.tree.specs.Walk.{topped, admits, takes, takesKey, finds}
 use Rattle.tree.specs.Trace.{admitted}
 use Rattle.tree.specs.BestFirst.{Pending, promise, promised, known, opened, shown}
 use Rattle.tree.proofs.Live.{topped-size}
-use Rattle.tree.proofs.Ranges.{parts-mem, parts-length}
+use Rattle.tree.proofs.Ranges.{parts-mem}
 use Rattle.tree.proofs.Below.{tops-mem}
 use Rattle.tree.proofs.Entries.{Highest, agree-held, agree-top}
 use Rattle.tree.proofs.Sources.{InTable, room-is}
@@ -182,32 +181,6 @@ known-mem : (named : List ℕ) (l : ℕ) (cs : List Part) {u : Pending} → List
 known-mem named l [] i = absurd (List·Memᴰ·not-nil i)
 known-mem named l (c ∷ cs) i =
     ⊎-elim (λ e. (c, List·Memᴰ·head refl, e)) (λ j. let r = known-mem named l cs j in (r .0, List·Memᴰ·tail (r .1), r .2)) (List·Memᴰ·cases-cons i)
-
-known-length : (named : List ℕ) (l : ℕ) (cs : List Part) → length (known named l cs) ≡ length cs
-known-length named l [] = refl
-known-length named l (c ∷ cs) = ap suc (known-length named l cs)
-
-module _ (m : Store) (q : Query) (l : ℕ) (p : Pending) (ok : nodeOk l (p .part .asked) (m (p .part .block)) ≡ true) where
-  -- at most 8 parts become known
-  pub opened-few : length (opened m q l p) ≤ 8
-  opened-few =
-      let n = m (p .part .block) in
-      let cs = children (p .part) n in
-      omega (
-        arith,
-        known-length (names n ++ p .named) l (keep (admits q) cs),
-        keep-length (admits q) cs,
-        parts-length (p .part .lo) (p .part .hi) (n .entries),
-        node-facts l (p .part .asked) n ok .entries-most,
-      )
-
-  -- and at most 128 spots
-  pub shown-few : length (shown m q p) ≤ 128
-  unfolding finds
-  shown-few =
-      let n = m (p .part .block) in
-      let f = node-facts l (p .part .asked) n ok in
-      omega (arith, keep-length (takes q (p .named)) (n .points ++ n .inserts), length-append (n .points) (n .inserts), f .points-most, f .inserts-most)
 
 module _ (t : List ℕ) (q : Query) (l : ℕ) (p : Pending) (f : Fit t q p) (e : p .levels ≡ suc l) (ok : nodeOk l (p .part .asked) (storeOf t (p .part .block)) ≡ true) where
   child-fit : (c : Part) → List·Memᴰ c (admitted q (storeOf t) (p .part)) → (u : Pending) → u ≡ pending l (names (storeOf t (p .part .block)) ++ p .named) c

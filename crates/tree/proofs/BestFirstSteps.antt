@@ -4,7 +4,7 @@ use mathlib.Core.Path.{_≡_, refl, ap, _∙_}
 use mathlib.Core.Logic.{⊎-elim}
 use mathlib.Core.Bool.{Bool, true, false, not}
 use mathlib.Core.List.{List, [], _∷_, _++_, List·Memᴰ, List·Memᴰ·not-nil, List·Memᴰ·cases-cons, List·Memᴰ·append-cases}
-use Prim.Native.Nat.{ℕ, suc, _+_, _*_, _≤_, _<_}
+use Prim.Native.Nat.{ℕ, suc, _+_, _≤_, _<_}
 use native.Mathlib.Omega.{arith}
 use lib.IntN.{ℤ}
 use lib.ListN.{length, length-append}
@@ -26,10 +26,10 @@ use Rattle.block.proofs.Facts.{head-facts}
 use Rattle.tree.specs.Walk.{topped}
 use Rattle.tree.specs.BestFirst.{Pending, promised, opened, shown, NonePromises, NoneAbove}
 use Rattle.tree.proofs.Sources.{InTable, root-in}
-use Rattle.tree.proofs.BestFirstSums.{sum, counted, counted-yes, counted-no, sum-append, sum-middle, sum-none, sum-three, Reordered, same-length}
+use Rattle.tree.proofs.BestFirstSums.{sum, counted, counted-yes, counted-no, sum-append, sum-middle, sum-none, sum-three, Reordered}
 use Rattle.tree.proofs.BestFirstSpots.{Descends, descends-join}
 use Rattle.tree.proofs.BestFirstTree.{weighs, weigh-step, faultAt, fault, rootOf}
-use Rattle.tree.proofs.BestFirstParts.{due, admitted-rank, Fit, opened-few, shown-few, opened-fit, opened-under, shown-under}
+use Rattle.tree.proofs.BestFirstParts.{due, admitted-rank, Fit, opened-fit, opened-under, shown-under}
 
 -- no spot has a rank above r
 abbrev pub NoneRanks : ℕ → List Spot → Type 0
@@ -54,7 +54,7 @@ pub record Last (read unread : List Pending) (found given : List Spot) : Type 0 
 
 -- Top of k spots on its way: the parts that are unread, the spots found and not given yet, those given, and the blocks read, the last first. Of the walk at
 -- each least rank y, what it sums up is the sum over the parts read that promise y and over the walks of those unread that promise y.
-pub record Course (t : List ℕ) (x1 x2 : ℤ) (k : ℕ) (unread : List Pending) (found given : List Spot) (blocks : List ℕ) : Type 0 where
+pub record Progress (t : List ℕ) (x1 x2 : ℤ) (k : ℕ) (unread : List Pending) (found given : List Spot) (blocks : List ℕ) : Type 0 where
   pub read : List Pending
   pub head : headerOk (length t) (headOf t) ≡ true
   pub stand : blocks ≡ numbers read
@@ -73,16 +73,14 @@ pub record Course (t : List ℕ) (x1 x2 : ℤ) (k : ℕ) (unread : List Pending)
   pub ahead : (s : Spot) → List·Memᴰ s given → (u : Pending) → List·Memᴰ u unread → promised u < rankOf (s .key)
   pub few : length given ≤ k
   pub places : (b : ℕ) → List·Memᴰ b blocks → InTable t b
-  pub wide : length unread ≤ 1 + 7 * length blocks
-  pub shows : length found + length given ≤ 128 * length blocks
   pub last : k ≤ length given → Last read unread found given
 
 -- ---- the beginning
 
 -- the root alone is known of; every sum over a walk is the root's own
-pub begin : (t : List ℕ) (x1 x2 : ℤ) (k : ℕ) → headerOk (length t) (headOf t) ≡ true → Course t x1 x2 (suc k) (rootOf t ∷ []) [] [] []
+pub start : (t : List ℕ) (x1 x2 : ℤ) (k : ℕ) → headerOk (length t) (headOf t) ≡ true → Progress t x1 x2 (suc k) (rootOf t ∷ []) [] [] []
 unfolding topped
-begin t x1 x2 k h =
+start t x1 x2 k h =
     record {
       read = [];
       head = h;
@@ -107,14 +105,12 @@ begin t x1 x2 k h =
       ahead = λ s i. absurd (List·Memᴰ·not-nil i);
       few = omega arith;
       places = λ b i. absurd (List·Memᴰ·not-nil i);
-      wide = omega arith;
-      shows = omega arith;
       last = λ l. let z : ⊥ = omega arith in absurd z;
     }
 
 -- ---- a part is read
 
-module _ (t : List ℕ) (x1 x2 : ℤ) (k : ℕ) (us : List Pending) (p : Pending) (vs : List Pending) (found given : List Spot) (blocks : List ℕ) (g : Course t x1 x2 k (us ++ (p ∷ vs)) found given blocks) (most : NonePromises (promised p) (us ++ vs)) (low : NoneRanks (promised p) found) (room : length given < k) (l : ℕ) (e : p .levels ≡ suc l) (ok : nodeOk l (p .part .asked) (storeOf t (p .part .block)) ≡ true) (new : has (p .part .block) blocks ≡ false) where
+module _ (t : List ℕ) (x1 x2 : ℤ) (k : ℕ) (us : List Pending) (p : Pending) (vs : List Pending) (found given : List Spot) (blocks : List ℕ) (g : Progress t x1 x2 k (us ++ (p ∷ vs)) found given blocks) (most : NonePromises (promised p) (us ++ vs)) (low : NoneRanks (promised p) found) (room : length given < k) (l : ℕ) (e : p .levels ≡ suc l) (ok : nodeOk l (p .part .asked) (storeOf t (p .part .block)) ≡ true) (new : has (p .part .block) blocks ≡ false) where
   fitting : Fit t (topQuery x1 x2 0) p
   fitting = g .fit p (mem-here us p vs)
 
@@ -157,8 +153,8 @@ module _ (t : List ℕ) (x1 x2 : ℤ) (k : ℕ) (us : List Pending) (p : Pending
       ⊎-elim (λ (d : r ≡ p). omega (arith, ap promised d)) (λ j. g .behind r j p (mem-here us p vs)) (List·Memᴰ·cases-cons i)
 
   -- the part that promises most is read: in every sum its node and its children stand for it, and its spots are found
-  pub open-part : Course t x1 x2 k (us ++ (opened (storeOf t) (topQuery x1 x2 0) l p ++ vs)) (shown (storeOf t) (topQuery x1 x2 0) p ++ found) given (p .part .block ∷ blocks)
-  open-part =
+  pub read-part : Progress t x1 x2 k (us ++ (opened (storeOf t) (topQuery x1 x2 0) l p ++ vs)) (shown (storeOf t) (topQuery x1 x2 0) p ++ found) given (p .part .block ∷ blocks)
+  read-part =
       let m = storeOf t in
       let q = topQuery x1 x2 0 in
       let cs = opened m q l p in
@@ -198,25 +194,15 @@ module _ (t : List ℕ) (x1 x2 : ℤ) (k : ℕ) (us : List Pending) (p : Pending
             ⊎-elim (λ h. let y = under u h in omega arith) (λ h. g .ahead s i u (mem-more us p vs h)) (mem-three us cs vs j);
         few = g .few;
         places = λ b i. ⊎-elim (λ (d : b ≡ p .part .block). rw d (fitting .inside)) (λ j. g .places b j) (List·Memᴰ·cases-cons i);
-        wide =
-            omega (
-              arith,
-              g .wide,
-              opened-few m q l p ok,
-              length-append us (p ∷ vs),
-              length-append us (cs ++ vs),
-              length-append cs vs,
-            );
-        shows = omega (arith, g .shows, shown-few m q l p ok, length-append (shown m q p) found);
         last = λ h. let z : ⊥ = omega arith in absurd z;
       }
 
 -- ---- a spot is given
 
-module _ (t : List ℕ) (x1 x2 : ℤ) (k : ℕ) (unread : List Pending) (us : List Spot) (s : Spot) (vs : List Spot) (given : List Spot) (blocks : List ℕ) (g : Course t x1 x2 k unread (us ++ (s ∷ vs)) given blocks) (top : NoneAbove (rankKey (s .key)) (us ++ vs)) (under : (u : Pending) → List·Memᴰ u unread → promised u < rankOf (s .key)) (room : length given < k) where
+module _ (t : List ℕ) (x1 x2 : ℤ) (k : ℕ) (unread : List Pending) (us : List Spot) (s : Spot) (vs : List Spot) (given : List Spot) (blocks : List ℕ) (g : Progress t x1 x2 k unread (us ++ (s ∷ vs)) given blocks) (top : NoneAbove (rankKey (s .key)) (us ++ vs)) (under : (u : Pending) → List·Memᴰ u unread → promised u < rankOf (s .key)) (room : length given < k) where
   -- the highest of the spots found is given: it moves from one sum to the other, and none found or unread is above it
-  pub give-spot : Course t x1 x2 k unread (us ++ vs) (given ++ (s ∷ [])) blocks
-  give-spot =
+  pub give : Progress t x1 x2 k unread (us ++ vs) (given ++ (s ∷ [])) blocks
+  give =
       let here = mem-here us s vs in
       record {
         read = g .read;
@@ -248,8 +234,6 @@ module _ (t : List ℕ) (x1 x2 : ℤ) (k : ℕ) (unread : List Pending) (us : Li
             (List·Memᴰ·append-cases given i);
         few = omega (arith, length-append given (s ∷ []));
         places = g .places;
-        wide = g .wide;
-        shows = omega (arith, g .shows, length-append given (s ∷ []), length-append us (s ∷ vs), length-append us vs);
         last =
             λ h.
             record {
@@ -264,7 +248,7 @@ module _ (t : List ℕ) (x1 x2 : ℤ) (k : ℕ) (unread : List Pending) (us : Li
 
 -- ---- in another order
 
-module _ (t : List ℕ) (x1 x2 : ℤ) (k : ℕ) (unread after : List Pending) (found left : List Spot) (given : List Spot) (blocks : List ℕ) (g : Course t x1 x2 k unread found given blocks) (a : Reordered unread after) (b : Reordered found left) where
+module _ (t : List ℕ) (x1 x2 : ℤ) (k : ℕ) (unread after : List Pending) (found left : List Spot) (given : List Spot) (blocks : List ℕ) (g : Progress t x1 x2 k unread found given blocks) (a : Reordered unread after) (b : Reordered found left) where
   last-reordered : Last (g .read) unread found given → Last (g .read) after left given
   last-reordered r =
       record {
@@ -276,9 +260,9 @@ module _ (t : List ℕ) (x1 x2 : ℤ) (k : ℕ) (unread after : List Pending) (f
         over = r .over;
       }
 
-  -- sums and members are all that a course speaks of
-  pub reorder-course : Course t x1 x2 k after left given blocks
-  reorder-course =
+  -- sums and members are all that it speaks of
+  pub reorder : Progress t x1 x2 k after left given blocks
+  reorder =
       record {
         read = g .read;
         head = g .head;
@@ -296,7 +280,5 @@ module _ (t : List ℕ) (x1 x2 : ℤ) (k : ℕ) (unread after : List Pending) (f
         ahead = λ s i u j. g .ahead s i u (a .from u j);
         few = g .few;
         places = g .places;
-        wide = omega (arith, g .wide, same-length unread after (a .sums));
-        shows = omega (arith, g .shows, same-length found left (b .sums));
         last = λ h. last-reordered (g .last h);
       }

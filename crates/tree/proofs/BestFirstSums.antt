@@ -31,10 +31,6 @@ module _ {A : Type 0} where
   abbrev pub one : A → ℕ
   one x = 1
 
-  -- how many pass the test
-  abbrev pub count : (A → Bool) → List A → ℕ
-  count t xs = sum (λ x. digit (t x)) xs
-
   -- by the first list
   pub sum-append : (f : A → ℕ) (xs ys : List A) → sum f (xs ++ ys) ≡ sum f xs + sum f ys
   sum-append f [] ys = omega arith
@@ -85,14 +81,6 @@ module _ {A : Type 0} where
           → sum f (cond b (x ∷ keep t xs) (keep t xs)) ≡ cond b (f x) 0 + sum (counted t f) xs
       go true e = omega arith
       go false e = omega arith
-
-  -- one that passes, where some do
-  pub count-some : (t : A → Bool) (xs : List A) → 0 < count t xs → (x : A) × List·Memᴰ x xs × (t x ≡ true)
-  count-some t xs h = let r = sum-some (λ x. digit (t x)) xs h in (r .0, r .1, go (t (r .0)) (r .2))
-    where
-      go : (b : Bool) → 0 < digit b → b ≡ true
-      go true l = refl
-      go false l = let z : ⊥ = omega arith in absurd z
 
   -- the three that follow: by the test's two answers
   pub counted-yes : (t : A → Bool) (f : A → ℕ) (x : A) → t x ≡ true → counted t f x ≡ f x

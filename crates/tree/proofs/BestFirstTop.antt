@@ -37,12 +37,12 @@ use Rattle.tree.proofs.BestFirstSums.{sum, Same, counted, one, counted-
 use Rattle.tree.proofs.BestFirstSpots.{sum-byRank, same-spot, Descends, rank-descends, descends-join, Sharp, descends-same, rising-sharp}
 use Rattle.tree.proofs.BestFirstTree.{weighs, weigh-first, atNode, onBlock, faultAt, fault, rootOf, Whole, walk-faulty, walk-twice}
 use Rattle.tree.proofs.BestFirstParts.{due, rank-word}
-use Rattle.tree.proofs.BestFirstSteps.{NoneRanks, Last, Course}
+use Rattle.tree.proofs.BestFirstSteps.{NoneRanks, Last, Progress}
 use Rattle.tree.proofs.BestFirstEnd.{threshold-le, threshold-under, threshold-is, top-walk, numbers-mem, at-some, none-of, all-of, at-most, descends-last, some, source, small, sums, every-block, whole-at, spots-at, few-at, enough-at}
 
 -- ---- a walk that breaks
 
-module _ (t : List ℕ) (x1 x2 : ℤ) (k : ℕ) (us : List Pending) (p : Pending) (vs : List Pending) (found given : List Spot) (blocks : List ℕ) (g : Course t x1 x2 k (us ++ (p ∷ vs)) found given blocks) (most : NonePromises (promised p) (us ++ vs)) (low : NoneRanks (promised p) found) (room : length given < k) where
+module _ (t : List ℕ) (x1 x2 : ℤ) (k : ℕ) (us : List Pending) (p : Pending) (vs : List Pending) (found given : List Spot) (blocks : List ℕ) (g : Progress t x1 x2 k (us ++ (p ∷ vs)) found given blocks) (most : NonePromises (promised p) (us ++ vs)) (low : NoneRanks (promised p) found) (room : length given < k) where
   closed-above : (y : ℕ) → promised p < y → (u : Pending) → List·Memᴰ u (us ++ (p ∷ vs)) → promised u < y
   closed-above y h u i =
       ⊎-elim (λ (e : u ≡ p). omega (arith, ap promised e)) (λ j. let z = most u j in omega arith) (mem-less us p vs i)
@@ -74,14 +74,14 @@ module _ (t : List ℕ) (x1 x2 : ℤ) (k : ℕ) (us : List Pending) (p : Pending
   breaks-faulty f = breaks (λ y l h. walk-faulty t (topQuery x1 x2 y) (omega (arith, adds y l h (fault (storeOf t)))))
 
   -- the node breaks a rule
-  pub breaks-node : (l : ℕ) → p .levels ≡ suc l → nodeOk l (p .part .asked) (storeOf t (p .part .block)) ≡ false → topWalk t x1 x2 k ≡ broken
-  breaks-node l e h =
+  pub broken-node : (l : ℕ) → p .levels ≡ suc l → nodeOk l (p .part .asked) (storeOf t (p .part .block)) ≡ false → topWalk t x1 x2 k ≡ broken
+  broken-node l e h =
       let z = ap (λ (n : ℕ). faultAt n (storeOf t) (p .part)) e ∙ ap (λ (b : Bool). digit (not b)) h in
       breaks-faulty (omega arith)
 
   -- the block was read before
-  pub breaks-twice : has (p .part .block) blocks ≡ true → topWalk t x1 x2 k ≡ broken
-  breaks-twice h =
+  pub broken-twice : has (p .part .block) blocks ≡ true → topWalk t x1 x2 k ≡ broken
+  broken-twice h =
       let b = p .part .block in
       let r = numbers-mem (g .read) (subst (λ (bs : List ℕ). List·Memᴰ b bs) (g .stand) (has-mem b blocks h)) in
       breaks
@@ -137,7 +137,7 @@ map-same : (xs ys : List ℕ) → Same xs ys → readMap xs ≡ readMap ys
 unfolding readMap isRead
 map-same xs ys e = ap (λ (f : ℕ → Bool). records (markByte f) 8 mapBytes 0) (λ i b. eqb b 0 || has-same xs ys e b i)
 
-module _ (t : List ℕ) (x1 x2 : ℤ) (k : ℕ) (unread : List Pending) (found given : List Spot) (blocks : List ℕ) (g : Course t x1 x2 k unread found given blocks) where
+module _ (t : List ℕ) (x1 x2 : ℤ) (k : ℕ) (unread : List Pending) (found given : List Spot) (blocks : List ℕ) (g : Progress t x1 x2 k unread found given blocks) where
   -- the threshold is y, and all that is read promised y
   record At (y : ℕ) : Type 0 where
     inside : y ≤ word
@@ -278,8 +278,8 @@ module _ (t : List ℕ) (x1 x2 : ℤ) (k : ℕ) (unread : List Pending) (found g
           )
 
   -- with k given, the threshold is the rank of the last: above it fewer than k are found, from it on k are, and just the parts read promise it
-  pub ends-full : k ≤ length given → Done t x1 x2 k given blocks
-  ends-full h = done-at (rankOf (g .last h .spot .key)) (at-last h)
+  pub done-full : k ≤ length given → Done t x1 x2 k given blocks
+  done-full h = done-at (rankOf (g .last h .spot .key)) (at-last h)
 
   -- nothing is left
   at-empty : unread ≡ [] → found ≡ [] → length given < k → At 0
@@ -301,6 +301,6 @@ module _ (t : List ℕ) (x1 x2 : ℤ) (k : ℕ) (unread : List Pending) (found g
       }
 
   -- with nothing left and fewer than k given, the threshold is the lowest rank, and all that the walk finds is given
-  pub ends-empty : unread ≡ [] → found ≡ [] → Done t x1 x2 k given blocks
-  ends-empty n e =
-      ⊎-elim (λ (h : k ≤ length given). ends-full h) (λ (h : length given < k). done-at 0 (at-empty n e h)) (less-or-not k (length given))
+  pub done-empty : unread ≡ [] → found ≡ [] → Done t x1 x2 k given blocks
+  done-empty n e =
+      ⊎-elim (λ (h : k ≤ length given). done-full h) (λ (h : length given < k). done-at 0 (at-empty n e h)) (less-or-not k (length given))
