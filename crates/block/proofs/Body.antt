@@ -10,14 +10,14 @@ use Rattle.octets.specs.Lists.{every, risingFrom, rising}
 use Rattle.block.specs.declared.Points.{Points}
 use Rattle.block.specs.declared.Front.{Front}
 use Rattle.block.specs.declared.Asked.{Asked}
-use Rattle.block.specs.NodeRules.{floorOf, standsIn}
-use Rattle.block.specs.Checks.{_and_, keysP, keysI, keysD, lowOf, under, risesUnder, PointsAre, listsFine, restFine, apart, isZero, aboveTops, entriesFine, blocksFine, agreesFine}
+use Rattle.block.specs.NodeRules.{lowOf, standsIn}
+use Rattle.block.specs.Checks.{_and_, keysP, keysI, keysD, lowRank, under, risesUnder, PointsAre, listsFine, restFine, apart, isZero, aboveTops, entriesFine, blocksFine, agreesFine}
 use Rattle.octets.proofs.Tests.{and-left}
 use Rattle.octets.proofs.Rising.{rising-lower}
 use Rattle.block.proofs.Shut.{fst, snd}
 
 module _ (s : List ℕ) (blocks : ℕ) (a : Asked) (h : Front) where
-  pub lists-are : {floor : ℕ} {q : Points} {r r' : Bool} → floor ≡ floorOf a → PointsAre floor (keysP s h) q
+  pub lists-are : {floor : ℕ} {q : Points} {r r' : Bool} → floor ≡ lowOf a → PointsAre floor (keysP s h) q
       → r ≡ risesUnder floor (q .low) (keysI s h) → r' ≡ risesUnder floor (q .low) (keysD s h) → (q .ok && r) && r' ≡ listsFine s a h
   unfolding listsFine _and_
   lists-are {q = q} e p u v =
@@ -26,18 +26,18 @@ module _ (s : List ℕ) (blocks : ℕ) (a : Asked) (h : Front) where
       (u ∙ ap₂ (λ (f l : ℕ). risesUnder f l (keysI s h)) e (p .least)))
       (v ∙ ap₂ (λ (f l : ℕ). risesUnder f l (keysD s h)) e (p .least))
 
-  both-rise : (low : ℕ) (ks : List ℕ) → risesUnder (floorOf a) low ks ≡ true → rising ks ≡ true
-  both-rise low ks p = rising-lower 0 (floorOf a) ks (omega arith) (and-left (risingFrom (floorOf a) ks) (every (under low) ks) p)
+  both-rise : (low : ℕ) (ks : List ℕ) → risesUnder (lowOf a) low ks ≡ true → rising ks ≡ true
+  both-rise low ks p = rising-lower 0 (lowOf a) ks (omega arith) (and-left (risingFrom (lowOf a) ks) (every (under low) ks) p)
 
   pub inserts-rise : listsFine s a h ≡ true → rising (keysI s h) ≡ true
   unfolding listsFine
-  inserts-rise p = both-rise (lowOf s h) (keysI s h) (snd _ _ (fst _ _ p))
+  inserts-rise p = both-rise (lowRank s h) (keysI s h) (snd _ _ (fst _ _ p))
 
   pub deletes-rise : listsFine s a h ≡ true → rising (keysD s h) ≡ true
   unfolding listsFine
-  deletes-rise p = both-rise (lowOf s h) (keysD s h) (snd _ _ p)
+  deletes-rise p = both-rise (lowRank s h) (keysD s h) (snd _ _ p)
 
-  pub rest-is : {q : Points} {floor own low : ℕ} {r0 r1 r2 r3 r4 : Bool} → PointsAre floor (keysP s h) q → floor ≡ floorOf a → own ≡ standsIn a
+  pub rest-is : {q : Points} {floor own low : ℕ} {r0 r1 r2 r3 r4 : Bool} → PointsAre floor (keysP s h) q → floor ≡ lowOf a → own ≡ standsIn a
       → low ≡ aboveTops (h .p) (q .low)
       → r0 ≡ apart (keysI s h) (keysD s h) → r1 ≡ every isZero (drop (h .used) s)
       → r2 ≡ entriesFine s (h .c) blocks own low floor

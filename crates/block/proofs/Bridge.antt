@@ -20,7 +20,7 @@ use Rattle.block.specs.declared.Front.{Front}
 use Rattle.block.specs.declared.Asked.{Asked}
 use Rattle.block.specs.Table.{blockOk, version1}
 use Rattle.block.specs.Node.{Node, nodeOf, nodeFrom, laidOut, usedBytes, entryAt, entryBlank, firstBlank, firstOpen}
-use Rattle.block.specs.NodeRules.{floorOf, standsIn, nodeOk, fewest, buffersRise, namedOnce, pointsAbove, tops, filled, lowest}
+use Rattle.block.specs.NodeRules.{lowOf, standsIn, nodeOk, fewest, buffersRise, namedOnce, pointsAbove, tops, filled, lowest}
 use Rattle.block.specs.Access.{frontOf}
 use Rattle.block.specs.Checks.{_and_, keyed, isZero, under, apart, keysAt, lastKey, risesUnder, sizesFine, otherBlock, entryShows, firstFine, entriesFine, blocksFine, aboveTops, countFine, frontFine, listsFine, restFine, bodyFine}
 use Rattle.octets.proofs.Tests.{and-left, and-right, and-both, or-either, or-right, bool-ext, all-at, all-cons, all-nil, every-left, every-right, every-join}
@@ -112,7 +112,7 @@ module _ (s : List ℕ) (blocks level : ℕ) (a : Asked) (keys64 : keyed a ≡ t
   ls = keysAt s 28 (c - 1) 40
 
   abbrev shows : ℕ → Bool
-  shows e = entryShows blocks (standsIn a) over (floorOf a) (8 + 28 * c) s e
+  shows e = entryShows blocks (standsIn a) over (lowOf a) (8 + 28 * c) s e
 
   abbrev others : ℕ → Bool
   others e = otherBlock (standsIn a) s e
@@ -121,7 +121,7 @@ module _ (s : List ℕ) (blocks level : ℕ) (a : Asked) (keys64 : keyed a ≡ t
   covered e = empties e || under over (keyAt s (e + 12))
 
   abbrev agreeable : ℕ → Bool
-  agreeable e = credibleAt (floorOf a) (8 + 28 * c) s e
+  agreeable e = credibleAt (lowOf a) (8 + 28 * c) s e
 
   thin-i : thin ≡ true → is ≡ []
   thin-i h = none-left (keyAt s) 12 i (8 + 28 * c + 12 * p) (eqb-true i 0 (and-right (ltb p 32) (eqb i 0) (and-left (ltb p 32 && eqb i 0) (eqb d 0) h)))
@@ -181,7 +181,7 @@ module _ (s : List ℕ) (blocks level : ℕ) (a : Asked) (keys64 : keyed a ≡ t
         ⊎-elim (λ h. every-right (under low) is ds (every-left (under low) (is ++ ds) (tops es) (under-full h)))
         (λ h. ap (every (under low)) (thin-d (h .0))) kind
 
-    rise : (xs : List ℕ) → ((f : ℕ → Bool) → every f (ps ++ (is ++ ds)) ≡ true → every f xs ≡ true) → rising xs ≡ true → risingFrom (floorOf a) xs ≡ true
+    rise : (xs : List ℕ) → ((f : ℕ → Bool) → every f (ps ++ (is ++ ds)) ≡ true → every f xs ≡ true) → rising xs ≡ true → risingFrom (lowOf a) xs ≡ true
     unfolding nodeOk
     rise xs part h = floor-forward a node (ps ++ (is ++ ds)) xs (names-are blocks s c p i d) part (all-at _ ok 10) h
 
@@ -212,7 +212,7 @@ module _ (s : List ℕ) (blocks level : ℕ) (a : Asked) (keys64 : keyed a ≡ t
     unfolding nodeOk
     count = count-most blocks s c p i d (fewest a) (sym (count-is blocks s c p i d a) ∙ all-at _ ok 2)
 
-    lows-above : every (leb (floorOf a)) ls ≡ true
+    lows-above : every (leb (lowOf a)) ls ≡ true
     unfolding nodeOk
     lows-above = sym (lows-above-is blocks s c p i d a) ∙ all-at _ ok 12
 
@@ -244,15 +244,15 @@ module _ (s : List ℕ) (blocks level : ℕ) (a : Asked) (keys64 : keyed a ≡ t
     to-entries =
         tests-make shows 28 c 8
         (λ j l.
-        fine-make blocks (standsIn a) over (floorOf a) (8 + 28 * c) s (8 + 28 * j) (tests-at (entryBlank s) 28 c 8 j blank l) (tests-at (λ e. blockOk blocks (be 2 s e)) 28 c 8 j in-table l)
+        fine-make blocks (standsIn a) over (lowOf a) (8 + 28 * c) s (8 + 28 * j) (tests-at (entryBlank s) 28 c 8 j blank l) (tests-at (λ e. blockOk blocks (be 2 s e)) 28 c 8 j in-table l)
         (tests-at others 28 c 8 j (and-left (all (records others 28 c 8)) (distinct (records (be 2 s) 28 c 8)) children) l) (tests-at covered 28 c 8 j covers l)
         (tests-at agreeable 28 c 8 j agreeing l))
 
-    to-first : firstFine (floorOf a) s c ≡ true
+    to-first : firstFine (lowOf a) s c ≡ true
     unfolding firstFine laidOut firstBlank nodeOk
     to-first =
-        ⊎-elim (λ h. in-left (eqb (be 8 s 12) 0 && risingFrom (floorOf a) ls) h)
-        (λ h. in-right (eqb c 0) (and-both _ _ h (rising-floor (floorOf a) ls (sym (lows-is blocks s c p i d) ∙ all-at _ ok 5) lows-above)))
+        ⊎-elim (λ h. in-left (eqb (be 8 s 12) 0 && risingFrom (lowOf a) ls) h)
+        (λ h. in-right (eqb c 0) (and-both _ _ h (rising-floor (lowOf a) ls (sym (lows-is blocks s c p i d) ∙ all-at _ ok 5) lows-above)))
         (or-either (eqb c 0) (eqb (be 8 s 12) 0) (all-at _ laid 5))
 
     to-blocks : blocksFine s c ≡ true
@@ -276,34 +276,34 @@ module _ (s : List ℕ) (blocks level : ℕ) (a : Asked) (keys64 : keyed a ≡ t
     unfolding frontFine
     used-back = fst _ _ (fst _ _ (fst _ _ (fst _ _ (fst _ _ (fst _ _ hd)))))
 
-    rise-p : risingFrom (floorOf a) ps ≡ true
+    rise-p : risingFrom (lowOf a) ps ≡ true
     unfolding listsFine
     rise-p = fst _ _ (fst _ _ lists)
 
-    both-i : risesUnder (floorOf a) low is ≡ true
+    both-i : risesUnder (lowOf a) low is ≡ true
     unfolding listsFine
     both-i = snd _ _ (fst _ _ lists)
 
-    both-d : risesUnder (floorOf a) low ds ≡ true
+    both-d : risesUnder (lowOf a) low ds ≡ true
     unfolding listsFine
     both-d = snd _ _ lists
 
-    rise-i : risingFrom (floorOf a) is ≡ true
-    rise-i = and-left (risingFrom (floorOf a) is) (every (under low) is) both-i
+    rise-i : risingFrom (lowOf a) is ≡ true
+    rise-i = and-left (risingFrom (lowOf a) is) (every (under low) is) both-i
 
-    rise-d : risingFrom (floorOf a) ds ≡ true
-    rise-d = and-left (risingFrom (floorOf a) ds) (every (under low) ds) both-d
+    rise-d : risingFrom (lowOf a) ds ≡ true
+    rise-d = and-left (risingFrom (lowOf a) ds) (every (under low) ds) both-d
 
     under-id : every (under low) (is ++ ds) ≡ true
     under-id =
-        every-join (under low) is ds (and-right (risingFrom (floorOf a) is) (every (under low) is) both-i)
-        (and-right (risingFrom (floorOf a) ds) (every (under low) ds) both-d)
+        every-join (under low) is ds (and-right (risingFrom (lowOf a) is) (every (under low) is) both-i)
+        (and-right (risingFrom (lowOf a) ds) (every (under low) ds) both-d)
 
     entries : all (records shows 28 c 8) ≡ true
     unfolding restFine entriesFine
     entries = fst _ _ (snd _ _ (fst _ _ (fst _ _ more)))
 
-    first : firstFine (floorOf a) s c ≡ true
+    first : firstFine (lowOf a) s c ≡ true
     unfolding restFine entriesFine
     first = snd _ _ (snd _ _ (fst _ _ (fst _ _ more)))
 
@@ -322,42 +322,42 @@ module _ (s : List ℕ) (blocks level : ℕ) (a : Asked) (keys64 : keyed a ≡ t
         (all-cons _ _ (snd _ _ (fst _ _ (fst _ _ (fst _ _ (fst _ _ (fst _ _ hd))))))
         (all-cons _ _ (snd _ _ (fst _ _ (fst _ _ (fst _ _ (fst _ _ hd)))))
         (all-cons _ _ (ap (λ (k : ℕ). every isZero (drop k s)) (sym (eqb-true (be 2 s 0) (usedBytes version1 c p i d) used-back)) ∙ snd _ _ (fst _ _ (fst _ _ (fst _ _ more))))
-        (all-cons _ _ (tests-mono shows 28 (entryBlank s) (λ e q. fine-blank blocks (standsIn a) over (floorOf a) (8 + 28 * c) s e q) c 8 entries)
+        (all-cons _ _ (tests-mono shows 28 (entryBlank s) (λ e q. fine-blank blocks (standsIn a) over (lowOf a) (8 + 28 * c) s e q) c 8 entries)
         (all-cons _ _
         (⊎-elim (λ h. in-left (eqb (be 8 s 12) 0) h)
-        (λ h. in-right (eqb c 0) (and-left (eqb (be 8 s 12) 0) (risingFrom (floorOf a) ls) h))
-        (or-either (eqb c 0) (eqb (be 8 s 12) 0 && risingFrom (floorOf a) ls) first))
+        (λ h. in-right (eqb c 0) (and-left (eqb (be 8 s 12) 0) (risingFrom (lowOf a) ls) h))
+        (or-either (eqb c 0) (eqb (be 8 s 12) 0 && risingFrom (lowOf a) ls) first))
         all-nil)))))
 
     from-rise : buffersRise node ≡ true
     unfolding buffersRise nodeFrom
     from-rise =
-        all-cons _ _ (ap rising (keys-records s 12 p (8 + 28 * c)) ∙ rising-lower 0 (floorOf a) ps (omega arith) rise-p)
-        (all-cons _ _ (ap rising (keys-records s 12 i (8 + 28 * c + 12 * p)) ∙ rising-lower 0 (floorOf a) is (omega arith) rise-i)
-        (all-cons _ _ (rising-lower 0 (floorOf a) ds (omega arith) rise-d) all-nil))
+        all-cons _ _ (ap rising (keys-records s 12 p (8 + 28 * c)) ∙ rising-lower 0 (lowOf a) ps (omega arith) rise-p)
+        (all-cons _ _ (ap rising (keys-records s 12 i (8 + 28 * c + 12 * p)) ∙ rising-lower 0 (lowOf a) is (omega arith) rise-i)
+        (all-cons _ _ (rising-lower 0 (lowOf a) ds (omega arith) rise-d) all-nil))
 
     from-named : namedOnce node ≡ true
     unfolding namedOnce restFine
     from-named =
         ap distinct (names-are blocks s c p i d)
-        ∙ distinct-join ps (is ++ ds) (rising-distinct (floorOf a) ps rise-p)
-        (distinct-join is ds (rising-distinct (floorOf a) is rise-i) (rising-distinct (floorOf a) ds rise-d) (apart-fact is ds (fst _ _ (fst _ _ (fst _ _ (fst _ _ more))))))
+        ∙ distinct-join ps (is ++ ds) (rising-distinct (lowOf a) ps rise-p)
+        (distinct-join is ds (rising-distinct (lowOf a) is rise-i) (rising-distinct (lowOf a) ds rise-d) (apart-fact is ds (fst _ _ (fst _ _ (fst _ _ (fst _ _ more))))))
         (above-apart rankKey (is ++ ds) ps (least-above rankKey lastKey (is ++ ds) ps under-id))
 
-    from-lows : risingFrom (floorOf a) ls ≡ true
+    from-lows : risingFrom (lowOf a) ls ≡ true
     unfolding firstFine
     from-lows =
-        ⊎-elim (λ h. let e : c - 1 ≡ 0 = omega (arith, eqb-true c 0 h) in ap (λ (k : ℕ). risingFrom (floorOf a) (keysAt s 28 k 40)) e)
-        (λ h. and-right (eqb (be 8 s 12) 0) (risingFrom (floorOf a) ls) h)
-        (or-either (eqb c 0) (eqb (be 8 s 12) 0 && risingFrom (floorOf a) ls) first)
+        ⊎-elim (λ h. let e : c - 1 ≡ 0 = omega (arith, eqb-true c 0 h) in ap (λ (k : ℕ). risingFrom (lowOf a) (keysAt s 28 k 40)) e)
+        (λ h. and-right (eqb (be 8 s 12) 0) (risingFrom (lowOf a) ls) h)
+        (or-either (eqb c 0) (eqb (be 8 s 12) 0 && risingFrom (lowOf a) ls) first)
 
-    from-below : every (leb (floorOf a)) ls ≡ true
-    from-below = rising-from (floorOf a) ls from-lows
+    from-below : every (leb (lowOf a)) ls ≡ true
+    from-below = rising-from (lowOf a) ls from-lows
 
     -- an entry's top is below P's lowest, or there is none
     from-topped : all (records topped 28 c 8) ≡ true
     unfolding aboveTops
-    from-topped = tests-mono shows 28 topped (λ e q. pick (ltb p 32) (empties e) (rankKey (keyAt s (e + 12))) (fine-top blocks (standsIn a) over (floorOf a) (8 + 28 * c) s e q)) c 8 entries
+    from-topped = tests-mono shows 28 topped (λ e q. pick (ltb p 32) (empties e) (rankKey (keyAt s (e + 12))) (fine-top blocks (standsIn a) over (lowOf a) (8 + 28 * c) s e q)) c 8 entries
       where
         pick : (t b : Bool) (r : ℕ) → b || ltb r (cond t 0 low) ≡ true → b || ltb r low ≡ true
         pick true b r q = in-left (ltb r low) (or-right b (ltb r 0) q (leb·suc-zero r))
@@ -375,15 +375,15 @@ module _ (s : List ℕ) (blocks level : ℕ) (a : Asked) (keys64 : keyed a ≡ t
         (lowest-is blocks s c p i d
         ∙ and-both _ _ h
         (tests-mono shows 28 empties
-        (λ e q. or-right (empties e) (under 0 (keyAt s (e + 12))) (subst (λ (l : ℕ). empties e || under l (keyAt s (e + 12)) ≡ true) (thin-over h) (fine-top blocks (standsIn a) over (floorOf a) (8 + 28 * c) s e q)) (leb·suc-zero (rankKey (keyAt s (e + 12)))))
+        (λ e q. or-right (empties e) (under 0 (keyAt s (e + 12))) (subst (λ (l : ℕ). empties e || under l (keyAt s (e + 12)) ≡ true) (thin-over h) (fine-top blocks (standsIn a) over (lowOf a) (8 + 28 * c) s e q)) (leb·suc-zero (rankKey (keyAt s (e + 12)))))
         c 8 entries)))
         (or-either full thin sizes)
 
     from-others : all (records others 28 c 8) ≡ true
-    from-others = tests-mono shows 28 others (λ e q. fine-other blocks (standsIn a) over (floorOf a) (8 + 28 * c) s e q) c 8 entries
+    from-others = tests-mono shows 28 others (λ e q. fine-other blocks (standsIn a) over (lowOf a) (8 + 28 * c) s e q) c 8 entries
 
     from-credible : all (records agreeable 28 c 8) ≡ true
-    from-credible = tests-mono shows 28 agreeable (λ e q. fine-credible blocks (standsIn a) over (floorOf a) (8 + 28 * c) s e q) c 8 entries
+    from-credible = tests-mono shows 28 agreeable (λ e q. fine-credible blocks (standsIn a) over (lowOf a) (8 + 28 * c) s e q) c 8 entries
 
     from-all : nodeOk level a node ≡ true
     unfolding nodeOk frontFine restFine nodeFrom
@@ -393,13 +393,13 @@ module _ (s : List ℕ) (blocks level : ℕ) (a : Asked) (keys64 : keyed a ≡ t
         (all-cons _ _ (count-is blocks s c p i d a ∙ snd _ _ (fst _ _ (fst _ _ hd)))
         (all-cons _ _ from-rise
         (all-cons _ _ from-named
-        (all-cons _ _ (lows-is blocks s c p i d ∙ rising-lower 0 (floorOf a) ls (omega arith) from-lows)
+        (all-cons _ _ (lows-is blocks s c p i d ∙ rising-lower 0 (lowOf a) ls (omega arith) from-lows)
         (all-cons _ _ from-above
         (all-cons _ _ from-kind
         (all-cons _ _ (leaf-is blocks s c p i d ∙ snd _ _ hd)
         (all-cons _ _ (agrees-is blocks s c i d a keys64 p ∙ snd _ _ more)
         (all-cons _ _ (floor-back a node ps is ds (names-are blocks s c p i d) rise-p rise-i rise-d)
-        (all-cons _ _ (blocks-is blocks s c p i d ∙ tests-mono shows 28 (λ e. blockOk blocks (be 2 s e)) (λ e q. fine-block blocks (standsIn a) over (floorOf a) (8 + 28 * c) s e q) c 8 entries)
+        (all-cons _ _ (blocks-is blocks s c p i d ∙ tests-mono shows 28 (λ e. blockOk blocks (be 2 s e)) (λ e q. fine-block blocks (standsIn a) over (lowOf a) (8 + 28 * c) s e q) c 8 entries)
         (all-cons _ _ (lows-above-is blocks s c p i d a ∙ from-below)
         (all-cons _ _ (apart-is blocks s c p i d a ∙ and-both _ _ from-others (once-is s c (count-most blocks s c p i d (fewest a) counted) ∙ snd _ _ (fst _ _ more)))
         (all-cons _ _ (credible-is blocks s c p i d a from-below ∙ from-credible)

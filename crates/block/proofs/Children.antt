@@ -21,7 +21,7 @@ use Rattle.block.specs.declared.Entry.{Entry}
 use Rattle.block.specs.declared.Asked.{Asked}
 use Rattle.block.specs.Table.{version1}
 use Rattle.block.specs.Node.{Node, nodeFrom, entryAt, firstOpen}
-use Rattle.block.specs.NodeRules.{floorOf, standsIn, childBlocks, lowsNotBelow, childrenApart, beforeNext, inChild, entryCredible, allCredible, entriesCredible}
+use Rattle.block.specs.NodeRules.{lowOf, standsIn, childBlocks, lowsNotBelow, childrenApart, beforeNext, inChild, entryCredible, allCredible, entriesCredible}
 use Rattle.block.specs.Checks.{keysAt, otherBlock, inFine, credibleFine, fromAt, freshFine, placeFine, blocksFine}
 use Rattle.block.proofs.Shut.{in-left, in-right, cond-or, all3, all4}
 use Rattle.block.proofs.Views.{rest-lows}
@@ -165,9 +165,9 @@ module _ (blocks : ℕ) (s : List ℕ) (c p i d : ℕ) (a : Asked) where
   abbrev node : Node
   node = nodeFrom version1 blocks s c p i d
 
-  pub lows-above-is : lowsNotBelow a node ≡ every (leb (floorOf a)) (keysAt s 28 (c - 1) 40)
+  pub lows-above-is : lowsNotBelow a node ≡ every (leb (lowOf a)) (keysAt s 28 (c - 1) 40)
   unfolding lowsNotBelow nodeFrom
-  lows-above-is = ap (every (λ k. leb (floorOf a) k)) (rest-lows s c)
+  lows-above-is = ap (every (λ k. leb (lowOf a) k)) (rest-lows s c)
 
   pub apart-is : childrenApart a node ≡ all (records (otherBlock (standsIn a) s) 28 c 8) && distinct (records (be 2 s) 28 c 8)
   unfolding childrenApart nodeFrom
@@ -175,7 +175,7 @@ module _ (blocks : ℕ) (s : List ℕ) (c p i d : ℕ) (a : Asked) where
       ap (λ (l : List ℕ). distinct (standsIn a ∷ l)) (open-blocks (records (entryAt s) 28 c 8) ∙ blocks-records s c 8)
       ∙ ap (λ (b : Bool). b && distinct (records (be 2 s) 28 c 8)) (has-none (be 2 s) 28 8 (standsIn a) c 8)
 
-  pub credible-is : every (leb (floorOf a)) (keysAt s 28 (c - 1) 40) ≡ true
-      → entriesCredible a node ≡ all (records (credibleAt (floorOf a) (8 + 28 * c) s) 28 c 8)
+  pub credible-is : every (leb (lowOf a)) (keysAt s 28 (c - 1) 40) ≡ true
+      → entriesCredible a node ≡ all (records (credibleAt (lowOf a) (8 + 28 * c) s) 28 c 8)
   unfolding entriesCredible nodeFrom
-  credible-is q = credible-all s (floorOf a) c q
+  credible-is q = credible-all s (lowOf a) c q

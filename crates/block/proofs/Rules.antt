@@ -17,7 +17,7 @@ use Rattle.block.specs.declared.Asked.{Asked}
 use Rattle.block.specs.declared.Asked.the-variants.{Root, Child}
 use Rattle.block.specs.Table.{blockOk, version1}
 use Rattle.block.specs.Node.{Node, nodeFrom, entryAt, firstOpen}
-use Rattle.block.specs.NodeRules.{floorOf, names, fewest, childCountOk, filled, lowest, leafBuffersEmpty, notBelow, lows, zeroFirst, lowsRise, childBlocksOk}
+use Rattle.block.specs.NodeRules.{lowOf, names, fewest, childCountOk, filled, lowest, leafBuffersEmpty, notBelow, lows, zeroFirst, lowsRise, childBlocksOk}
 use Rattle.block.specs.Checks.{keysAt, countFine, leafFine}
 use Rattle.octets.proofs.Tests.{and-left, and-right, and-both, or-either, every-join}
 use Rattle.octets.proofs.Rising.{rising-rest, rising-from}
@@ -33,14 +33,14 @@ rising-floor a [] p q = refl
 rising-floor a (x ∷ xs) p q = and-both _ _ (and-left (leb a x) (every (leb a) xs) q) (rising-rest 0 x xs p)
 
 pub floor-forward : (a : Asked) (n : Node) (ks xs : List ℕ) → names n ≡ ks → ((f : ℕ → Bool) → every f ks ≡ true → every f xs ≡ true)
-    → notBelow a n ≡ true → rising xs ≡ true → risingFrom (floorOf a) xs ≡ true
-unfolding notBelow floorOf
+    → notBelow a n ≡ true → rising xs ≡ true → risingFrom (lowOf a) xs ≡ true
+unfolding notBelow
 floor-forward (Root b) n ks xs q part h p = p
 floor-forward (Child e) n ks xs q part h p = rising-floor (e .low) xs p (part (λ k. leb (e .low) k) (ap (every (λ k. leb (e .low) k)) (sym q) ∙ h))
 
-pub floor-back : (a : Asked) (n : Node) (xs ys zs : List ℕ) → names n ≡ xs ++ (ys ++ zs) → risingFrom (floorOf a) xs ≡ true → risingFrom (floorOf a) ys ≡ true
-    → risingFrom (floorOf a) zs ≡ true → notBelow a n ≡ true
-unfolding notBelow floorOf
+pub floor-back : (a : Asked) (n : Node) (xs ys zs : List ℕ) → names n ≡ xs ++ (ys ++ zs) → risingFrom (lowOf a) xs ≡ true → risingFrom (lowOf a) ys ≡ true
+    → risingFrom (lowOf a) zs ≡ true → notBelow a n ≡ true
+unfolding notBelow
 floor-back (Root b) n xs ys zs q u v w = refl
 floor-back (Child e) n xs ys zs q u v w =
     let f : ℕ → Bool = λ k. leb (e .low) k in

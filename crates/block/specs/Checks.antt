@@ -16,7 +16,7 @@ use Rattle.block.specs.declared.Front.{Front}
 use Rattle.block.specs.declared.Asked.{Asked}
 use Rattle.block.specs.declared.Asked.the-variants.{Root, Child}
 use Rattle.block.specs.Table.{blocksOf, capacity, tableSized, mapBlocks}
-use Rattle.block.specs.NodeRules.{floorOf, standsIn}
+use Rattle.block.specs.NodeRules.{lowOf, standsIn}
 use Rattle.block.specs.Access.{usedOf}
 
 -- both tests pass: `&&`, shut, so that a proof's `_` finds a conjunction's parts
@@ -157,22 +157,22 @@ abbrev pub keysD : List ℕ → Front → List ℕ
 keysD s h = keysAt s 8 (h .d) (8 + 28 * h .c + 12 * (h .p + h .i))
 
 -- P's lowest and highest in rank order
-abbrev pub lowOf : List ℕ → Front → ℕ
-lowOf s h = minimum lastKey (map rankKey (keysP s h))
+abbrev pub lowRank : List ℕ → Front → ℕ
+lowRank s h = minimum lastKey (map rankKey (keysP s h))
 
-abbrev pub highOf : List ℕ → Front → ℕ
-highOf s h = maximum (map rankKey (keysP s h))
+abbrev pub highRank : List ℕ → Front → ℕ
+highRank s h = maximum (map rankKey (keysP s h))
 
 unfoldable pub listsFine : List ℕ → Asked → Front → Bool
 listsFine s a h =
-    risingFrom (floorOf a) (keysP s h) and risesUnder (floorOf a) (lowOf s h) (keysI s h) and risesUnder (floorOf a) (lowOf s h) (keysD s h)
+    risingFrom (lowOf a) (keysP s h) and risesUnder (lowOf a) (lowRank s h) (keysI s h) and risesUnder (lowOf a) (lowRank s h) (keysD s h)
 
 unfoldable pub restFine : List ℕ → ℕ → Asked → Front → Bool
 restFine s blocks a h =
     apart (keysI s h) (keysD s h) and every isZero (drop (h .used) s)
-    and entriesFine s (h .c) blocks (standsIn a) (aboveTops (h .p) (lowOf s h)) (floorOf a)
+    and entriesFine s (h .c) blocks (standsIn a) (aboveTops (h .p) (lowRank s h)) (lowOf a)
     and blocksFine s (h .c)
-    and agreesFine a (h .p) (lowOf s h) (highOf s h)
+    and agreesFine a (h .p) (lowRank s h) (highRank s h)
 
 unfoldable pub bodyFine : List ℕ → ℕ → Asked → Front → Bool
 bodyFine s blocks a h = listsFine s a h and restFine s blocks a h

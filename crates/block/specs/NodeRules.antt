@@ -101,14 +101,14 @@ unfoldable pub notBelow : Asked → Node → Bool
 notBelow (Root b) n = true
 notBelow (Child e) n = every (λ k. leb (e .low) k) (names n)
 
--- where the range of a node begins, as what leads there shows it
-unfoldable pub floorOf : Asked → ℕ
-floorOf (Root b) = 0
-floorOf (Child e) = e .low
+-- where the range of a node begins, as its entry says; the root's begins at 0
+abbrev pub lowOf : Asked → ℕ
+lowOf (Root b) = 0
+lowOf (Child e) = e .low
 
 -- rule 3, as far as the entry shows: the lowest identities "lie in the parent's range"
 unfoldable pub lowsNotBelow : Asked → Node → Bool
-lowsNotBelow a n = every (λ k. leb (floorOf a) k) (rest (lows (n .entries)))
+lowsNotBelow a n = every (λ k. leb (lowOf a) k) (rest (lows (n .entries)))
 
 -- the block that a node stands in, as what leads there names it
 unfoldable pub standsIn : Asked → ℕ
@@ -148,7 +148,7 @@ allCredible from [] = true
 allCredible from (e ∷ es) = entryCredible from e es && allCredible from es
 
 unfoldable pub entriesCredible : Asked → Node → Bool
-entriesCredible a n = allCredible (floorOf a) (n .entries)
+entriesCredible a n = allCredible (lowOf a) (n .entries)
 
 -- all that a node block, read at this level (rule 2), and the entry leading to it can show
 unfoldable pub nodeOk : ℕ → Asked → Node → Bool

@@ -9,7 +9,7 @@ ghost use Rattle.spot.specs.Spots.{keyAt};
 ghost use Rattle.block.specs.Table.{version1, tableSized, capacity};
 ghost use Rattle.block.specs.Header.{headOf, headerOf};
 ghost use Rattle.block.specs.Node.{nodeOf, storeOf, pointsFrom, insertsFrom, deletesFrom};
-ghost use Rattle.block.specs.NodeRules.{nodeOk, fewest, floorOf, standsIn};
+ghost use Rattle.block.specs.NodeRules.{nodeOk, fewest, lowOf, standsIn};
 ghost use Rattle.block.specs.HeaderRules.{headerOk};
 ghost use Rattle.block.specs.Fresh.{formatted};
 ghost use Rattle.block.specs.Answers.{answer};
@@ -445,7 +445,7 @@ fn front_ok(h: Front, level: usize, few: usize) -> bool
 
 // Where the range begins that leads to a node.
 fn floor_of(a: Asked) -> u64
-    ensures { λ r. ⌜ r ≡ floorOf a ⌝ }
+    ensures { λ r. ⌜ r ≡ lowOf a ⌝ }
 {
     match a {
         Asked::Root(_) => 0,

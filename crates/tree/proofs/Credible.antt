@@ -21,10 +21,10 @@ use Rattle.spot.proofs.Halves.{rank-inj, rank-strict}
 use Rattle.spot.proofs.Places.{within-from, within-to}
 use Rattle.block.specs.declared.Entry.{Entry}
 use Rattle.block.specs.declared.Asked.{Asked}
-use Rattle.block.specs.declared.Asked.the-variants.{Root, Child}
+use Rattle.block.specs.declared.Asked.the-variants.{Child}
 use Rattle.block.specs.Node.{Node, Store}
-use Rattle.block.specs.NodeRules.{nodeOk, buffersRise, filled, lowest, agrees, lows, zeroFirst, lowsRise, floorOf, standsIn, childBlocks, childrenApart, lowsNotBelow, beforeNext, inChild, entryCredible, allCredible, entriesCredible}
-use Rattle.tree.specs.Part.{Part, nextLow, parts, lowOf, Steps}
+use Rattle.block.specs.NodeRules.{nodeOk, buffersRise, filled, lowest, agrees, lows, zeroFirst, lowsRise, lowOf, standsIn, childBlocks, childrenApart, lowsNotBelow, beforeNext, inChild, entryCredible, allCredible, entriesCredible}
+use Rattle.tree.specs.Part.{Part, nextLow, parts, Steps}
 use Rattle.tree.specs.Reach.{gather, reach}
 use Rattle.tree.specs.Sound.{soundAt, inRange}
 use Rattle.tree.proofs.Says.{names-P}
@@ -117,17 +117,11 @@ all-lower from from′ (e ∷ es) l h =
 
 -- ---- the entries of a node over sound children
 
--- where a node's range begins, in the words of the tree
-floor-low : (a : Asked) → floorOf a ≡ lowOf a
-unfolding floorOf
-floor-low (Root b) = refl
-floor-low (Child e) = refl
-
 -- lows in the range are not below what leads there
 pub lows-not-below : (a : Asked) (lo hi : ℕ) (n : Node) → lowOf a ≤ lo → every (within lo hi) (rest (lows (n .entries))) ≡ true → lowsNotBelow a n ≡ true
 unfolding lowsNotBelow
 lows-not-below a lo hi n h w =
-    every-imp (within lo hi) _ (rest (lows (n .entries))) (λ k i. le-leb (floorOf a) k (let z = within-from lo hi k i in omega (arith, floor-low a))) w
+    every-imp (within lo hi) _ (rest (lows (n .entries))) (λ k i. le-leb (lowOf a) k (let z = within-from lo hi k i in omega arith)) w
 
 -- a child begins where the entries after it do, or its parent ends
 pub next-low : (es : List Entry) (hi : ℕ) → nextLow es (nextLow es hi) ≤ nextLow es hi
@@ -175,7 +169,7 @@ pub entries-credible : (l : ℕ) (m : Store) (a : Asked) (lo hi : ℕ) (n : Node
     → every (soundAt l m) (parts lo hi (n .entries)) ≡ true → entriesCredible a n ≡ true
 unfolding entriesCredible lowsRise
 entries-credible l m a lo hi n low full up st s =
-    all-credible l m (floorOf a) lo hi (n .entries) (omega (arith, floor-low a)) (zero-low (n .entries) lo (all-at _ up 0)) full st s
+    all-credible l m (lowOf a) lo hi (n .entries) (omega arith) (zero-low (n .entries) lo (all-at _ up 0)) full st s
 
 -- ---- the blocks that a node names
 

@@ -8,6 +8,7 @@ use Rattle.block.specs.declared.Asked.{Asked}
 use Rattle.block.specs.declared.Asked.the-variants.{Root, Child}
 use Rattle.block.specs.Header.{Header}
 use Rattle.block.specs.Node.{Node}
+pub use Rattle.block.specs.NodeRules.{lowOf}
 
 -- a part of the tree: the block of its uppermost node, what leads there, and its range, from lo up to, and without, hi
 pub record Part : Type 0 where
@@ -32,11 +33,6 @@ parts lo hi (e ∷ es) = record { block = e .block; asked = Child e; lo = lo; hi
 
 abbrev pub children : Part → Node → List Part
 children p n = parts (p .lo) (p .hi) (n .entries)
-
--- where the range of a child begins, as its entry says; the root's begins at 0
-abbrev pub lowOf : Asked → ℕ
-lowOf (Root b) = 0
-lowOf (Child e) = e .low
 
 -- the ends of the ranges of these entries rise from lo to hi
 abbrev pub Steps : ℕ → ℕ → List Entry → Type 0

@@ -21,7 +21,7 @@ use Rattle.block.specs.declared.Entry.{Entry}
 use Rattle.block.specs.Node.{Node, Store, openBelow}
 use Rattle.block.specs.declared.Asked.{Asked}
 use Rattle.block.specs.declared.Asked.the-variants.{Child}
-use Rattle.block.specs.NodeRules.{names, lows, nodeOk, agrees, notBelow, childCountOk, fewest, floorOf, lowsNotBelow, standsIn, childrenApart, entriesCredible}
+use Rattle.block.specs.NodeRules.{names, lows, nodeOk, agrees, notBelow, childCountOk, fewest, lowsNotBelow, standsIn, childrenApart, entriesCredible}
 use Rattle.tree.specs.Part.{Part, nextLow, parts, Steps}
 use Rattle.tree.specs.Lookup.{orElse, down, lookup}
 use Rattle.tree.specs.Reach.{reach}
@@ -89,7 +89,7 @@ module _ (l : ℕ) (New : ℕ → Type 0) (x y : Store) (lo hi : ℕ) (full : hi
 -- an entry may be read with a lower low
 relow-node : (l : ℕ) (n : Node) (e e′ : Entry) → e′ .block ≡ e .block → e′ .size ≡ e .size → e′ .top ≡ e .top → e′ .bottom ≡ e .bottom → e′ .low ≤ e .low
     → nodeOk l (Child e) n ≡ true → nodeOk l (Child e′) n ≡ true
-unfolding nodeOk agrees notBelow childCountOk fewest floorOf lowsNotBelow standsIn childrenApart entriesCredible
+unfolding nodeOk agrees notBelow childCountOk fewest lowsNotBelow standsIn childrenApart entriesCredible
 relow-node l n e e′ o a b c d h =
     all-cons _ _ (all-at _ h 0) (all-cons _ _ (all-at _ h 1) (all-cons _ _ (all-at _ h 2) (all-cons _ _ (all-at _ h 3) (all-cons _ _ (all-at _ h 4) (all-cons _ _ (all-at _ h 5) (all-cons _ _ (all-at _ h 6) (all-cons _ _ (all-at _ h 7) (all-cons _ _ (all-at _ h 8)
     (all-cons _ _ (rw (a, b, c) (all-at _ h 9)) (all-cons _ _ (lower (names n) (all-at _ h 10)) (all-cons _ _ (all-at _ h 11)
