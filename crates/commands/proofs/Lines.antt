@@ -12,13 +12,14 @@ use lib.IntN.{ℤ}
 use lib.ListN.{length, take, drop, take-append-drop}
 use Rattle.octets.specs.Bytes.{be}
 use Rattle.text.specs.Text.{spotLine, countLine}
-use Rattle.text.specs.Written.{putText, Wrote}
+use Rattle.octets.specs.Bytes.{putBytes}
+use Rattle.text.specs.Written.{Wrote}
 use Rattle.text.proofs.Written.{wrote-then, wrote-within}
 use Rattle.commands.specs.Printed.{lineAt, linesOf, printed}
 
 -- nothing was written yet
 pub start : (s o : List ℕ) (at : ℕ) → at ≤ length s → Wrote s s at (35 * 0) (linesOf o 0) at
-unfolding putText linesOf
+unfolding putBytes linesOf
 start s o at h =
     record {
       bytes =

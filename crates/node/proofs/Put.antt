@@ -4,14 +4,15 @@ use mathlib.Core.Path.{_≡_, refl, sym, ap, ap₂, _∙_}
 use mathlib.Core.Bool.{Bool, true, false}
 use mathlib.Core.List.{List, [], _∷_, _++_, append-assoc, append-nil}
 use Prim.Native.Nat.{ℕ, zero, suc, _+_, _-_, _*_, _≤_, _<_}
-use native.Mathlib.Nat.{add-zero, le-of-suc-le-suc, not-suc-le-zero}
+use native.Mathlib.Nat.{le-of-suc-le-suc, not-suc-le-zero}
 use native.Mathlib.Numerals.{add-one}
 use native.Mathlib.Omega.{arith}
 use lib.Dec.{eqb, eqb·suc-zero}
-use lib.ListN.{length, take, drop, replicate, getD, length-append, length-drop, take-append-drop}
-use lib.Seq.{take-at, take-suc, take-take, split-at, getD-take, length-take-le, drop-append-add, drop-drop, drop-length}
+use lib.ListN.{length, take, drop, replicate, getD, length-append}
+use lib.Seq.{take-suc, take-take, split-at, getD-take, length-take-le, drop-length}
 use borrow.Rule.Slice.PartMut.{midOf, putMid, post-is, mid-len}
-use Rattle.octets.specs.Bytes.{bytesOf, putBe}
+use Rattle.octets.specs.Bytes.{bytesOf, putBe, putBytes}
+use Rattle.octets.proofs.Parts.{bytes-length, bytes-behind}
 use Rattle.octets.proofs.Bytes.{put-eq, length-bytesOf}
 use Rattle.octets.proofs.Codec.{coded-append, length-coded}
 use Rattle.octets.proofs.Lists.{over-all}
@@ -21,32 +22,9 @@ use Rattle.spot.proofs.Card.{putKey-eq, putSpot-eq, length-keyBytes, length-spo
 use Rattle.buffer.specs.Buffer.{blank}
 use Rattle.block.specs.declared.Entry.{Entry}
 use Rattle.block.specs.declared.Front.{Front}
-use Rattle.node.specs.Bytes.{putBytes, frontBytes, bytesUnless, entryBytes, laterBytes, entriesBytes, keysBytes}
+use Rattle.node.specs.Bytes.{frontBytes, bytesUnless, entryBytes, laterBytes, entriesBytes, keysBytes}
 
 -- ---- one part behind the other
-
-pub put-nothing : (s : List ℕ) (i : ℕ) → s ≡ putBytes s i []
-unfolding putBytes
-put-nothing s i = sym (rw (append-nil, add-zero) (take-append-drop i s))
-
-pub put-length : (s a : List ℕ) (i : ℕ) → i + length a ≤ length s → length (putBytes s i a) ≡ length s
-unfolding putBytes
-put-length s a i h =
-    let l : length (take i s) ≡ i = length-take-le i s (omega arith) in
-    simp (length-append, length-drop) (omega arith)
-
--- b behind a
-pub behind : (s a b : List ℕ) {t u : List ℕ} (i j : ℕ) → i + length a ≡ j → j ≤ length s → t ≡ putBytes s i a → u ≡ putBytes t j b → u ≡ putBytes s i (a ++ b)
-unfolding putBytes
-behind s a b i j e h p q =
-    let x : List ℕ = take i s ++ a in
-    let z : List ℕ = drop (i + length a) s in
-    let n : length x ≡ j = length-append (take i s) a ∙ ap (λ (k : ℕ). k + length a) (length-take-le i s (omega arith)) ∙ e in
-    let k : i + length a + length b ≡ i + length (a ++ b) = omega (arith, length-append a b) in
-    q ∙ ap (λ (l : List ℕ). putBytes l j b) p
-    ∙ ap₂ (λ (y w : List ℕ). y ++ b ++ w) (take-at x z j n)
-    (ap (λ (m : ℕ). drop (m + length b) (x ++ z)) (sym n) ∙ drop-append-add x z (length b) ∙ drop-drop (length b) (i + length a) s)
-    ∙ ap₂ (λ (y : List ℕ) (m : ℕ). y ++ drop m s) (append-assoc (take i s) a b) k
 
 pub number-bytes : (n : ℕ) (s : List ℕ) (i v : ℕ) → i + n ≤ length s → putBe n s i v ≡ putBytes s i (bytesOf n v)
 unfolding putBytes
@@ -64,8 +42,8 @@ spot-bytes s i x h = putSpot-eq s i x h ∙ ap (λ (m : ℕ). take i s ++ spotBy
 pub number-behind : (n : ℕ) (s a : List ℕ) {t u : List ℕ} (i j v : ℕ) → i + length a ≡ j → j + n ≤ length s → t ≡ putBytes s i a → u ≡ putBe n t j v
     → u ≡ putBytes s i (a ++ bytesOf n v)
 number-behind n s a {t} i j v e h p q =
-    let l : length t ≡ length s = ap length p ∙ put-length s a i (omega arith) in
-    behind s a (bytesOf n v) i j e (omega arith) p (q ∙ number-bytes n t j v (omega arith))
+    let l : length t ≡ length s = ap length p ∙ bytes-length s a i (omega arith) in
+    bytes-behind s a (bytesOf n v) i j e (omega arith) p (q ∙ number-bytes n t j v (omega arith))
 
 -- ---- the front
 
@@ -111,8 +89,8 @@ entry-written first e s {a} {b} {c} at h pa pb pc pd pf pg =
     (number-behind 1 s (bytesOf 2 (e .block)) at (at + 2) (e .size) refl (omega arith) (pa ∙ number-bytes 2 s at (e .block) (omega arith)) pb)
     pc
     in
-    behind s (n ++ l ++ t) u at (at + 20) (simp (length-append, length-unless)) (omega arith)
-    (behind s (n ++ l) t at (at + 12) (simp length-unless) (omega arith) (behind s n l at (at + 4) refl (omega arith) q pd) pf)
+    bytes-behind s (n ++ l ++ t) u at (at + 20) (simp (length-append, length-unless)) (omega arith)
+    (bytes-behind s (n ++ l) t at (at + 12) (simp length-unless) (omega arith) (bytes-behind s n l at (at + 4) refl (omega arith) q pd) pf)
     pg
 
 -- ---- lists of records
@@ -134,7 +112,7 @@ module _ {A : Type 0} (E : List A → List ℕ) (enc : A → List ℕ) (w : ℕ)
   record-behind wide s at l i d h k p q =
       let n : length (take i l) ≡ i = length-take-le i l (omega arith) in
       let m : at + length (E (take i l)) ≡ at + w * i = ap (λ (z : ℕ). at + z) (length-coded E enc w nil cons wide (take i l) ∙ ap (λ (z : ℕ). w * z) n) in
-      behind s (E (take i l)) (enc (getD l i d)) at (at + w * i) m k p q ∙ ap (putBytes s at) (sym (coded-more l i d h))
+      bytes-behind s (E (take i l)) (enc (getD l i d)) at (at + w * i) m k p q ∙ ap (putBytes s at) (sym (coded-more l i d h))
 
 length-later : (es : List Entry) → length (laterBytes es) ≡ 28 * length es
 length-later = length-coded laterBytes (entryBytes false) 28 refl (λ e es. refl) (length-entry false)
@@ -166,7 +144,7 @@ entry-behind s n l i d h g k p q =
     let b : i ≤ i + 1 = omega arith in
     let r : suc i ≡ length (take (i + 1) es) = omega arith in
     let z : drop (suc i) (take (i + 1) es) ≡ [] = ap (λ (x : ℕ). drop x (take (i + 1) es)) r ∙ drop-length (take (i + 1) es) in
-    behind s (entriesBytes (take i es)) (entryBytes (eqb i 0) (getD l i d)) 8 (8 + 28 * i) m (omega arith) p q
+    bytes-behind s (entriesBytes (take i es)) (entryBytes (eqb i 0) (getD l i d)) 8 (8 + 28 * i) m (omega arith) p q
     ∙ ap (putBytes s 8)
     (sym (entries-split (take (i + 1) es) i d (omega arith) ∙ rw (take-take i (i + 1) es b, getD-take (i + 1) es i d a, getD-take n l i d h, z, append-nil)))
 

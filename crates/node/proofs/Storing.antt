@@ -19,11 +19,11 @@ use Rattle.block.proofs.Frames.{put-part-is, put-length, block-put-other, store
 use Rattle.buffer.specs.Buffer.{held, named}
 use Rattle.node.specs.declared.NodeValue.{NodeValue}
 use Rattle.node.specs.Memory.{entriesOf, Storable, Stored, StoredIn}
-use Rattle.node.specs.Bytes.{putBytes, frontBytes, entriesBytes, keysBytes, keyFits, spotFits, keysFit, SpotsWritten, KeysWritten, EntriesWritten}
-use Rattle.node.proofs.Put.{behind}
+use Rattle.node.specs.Bytes.{frontBytes, entriesBytes, keysBytes, keyFits, spotFits, keysFit, SpotsWritten, KeysWritten, EntriesWritten}
+use Rattle.octets.specs.Bytes.{putBytes}
+use Rattle.octets.proofs.Parts.{bytes-length, bytes-behind}
 use Rattle.node.proofs.Back.{length-front}
 use Rattle.node.proofs.Whole.{Parts, wholeBytes, length-b, length-p, length-i, length-d, whole-is}
-use Rattle.node.proofs.Put as put
 
 -- the numbers at the front of a node in memory
 abbrev pub frontFor : NodeValue → Front
@@ -99,12 +99,12 @@ module _ (n : NodeValue) (s : List ℕ) {a b c d e f : List ℕ} (sized : length
 
   written : e ≡ putBytes s 0 x
   written =
-      behind s (frontBytes h ++ entriesBytes es ++ spotsBytes ps ++ spotsBytes is) (keysBytes ds) 0 (8 + 28 * h .c + 12 * h .p + 12 * h .i)
+      bytes-behind s (frontBytes h ++ entriesBytes es ++ spotsBytes ps ++ spotsBytes is) (keysBytes ds) 0 (8 + 28 * h .c + 12 * h .p + 12 * h .i)
       (omega (arith, length-i h es ps is ds g)) (omega (arith, ok))
-      (behind s (frontBytes h ++ entriesBytes es ++ spotsBytes ps) (spotsBytes is) 0 (8 + 28 * h .c + 12 * h .p)
+      (bytes-behind s (frontBytes h ++ entriesBytes es ++ spotsBytes ps) (spotsBytes is) 0 (8 + 28 * h .c + 12 * h .p)
       (omega (arith, length-p h es ps is ds g)) (omega (arith, ok))
-      (behind s (frontBytes h ++ entriesBytes es) (spotsBytes ps) 0 (8 + 28 * h .c) (omega (arith, length-b h es ps is ds g)) (omega (arith, ok))
-      (behind s (frontBytes h) (entriesBytes es) 0 8 (omega (arith, length-front h)) (omega arith) pa (pb .bytes))
+      (bytes-behind s (frontBytes h ++ entriesBytes es) (spotsBytes ps) 0 (8 + 28 * h .c) (omega (arith, length-b h es ps is ds g)) (omega (arith, ok))
+      (bytes-behind s (frontBytes h) (entriesBytes es) 0 8 (omega (arith, length-front h)) (omega arith) pa (pb .bytes))
       (pc .bytes))
       (pd .bytes))
       (pe .bytes)
@@ -113,7 +113,7 @@ module _ (n : NodeValue) (s : List ℕ) {a b c d e f : List ℕ} (sized : length
   long-x = length-d h es ps is ds g ∙ omega arith
 
   same-length : length e ≡ 2048
-  same-length = ap length written ∙ put.put-length s x 0 (omega (arith, long-x, ok)) ∙ sized
+  same-length = ap length written ∙ bytes-length s x 0 (omega (arith, long-x, ok)) ∙ sized
 
   whole : f ≡ wholeBytes h es ps is ds (2048 - h .used)
   unfolding wholeBytes putBytes

@@ -1,22 +1,18 @@
 -- The bytes of a node as they are written, one part behind the other.
 -- Assumes nothing.
-use Prim.Native.Nat.{ℕ, _+_}
+use Prim.Native.Nat.{ℕ}
 use mathlib.Core.Path.{_≡_}
 use mathlib.Core.Bool.{Bool, true, false, _&&_}
 use mathlib.Core.List.{List, [], _∷_, _++_}
-use lib.ListN.{length, take, drop, replicate}
+use lib.ListN.{replicate}
 use lib.Dec.{eqb}
 use Rattle.octets.specs.Lists.{every}
-use Rattle.octets.specs.Bytes.{bytesOf}
+use Rattle.octets.specs.Bytes.{bytesOf, putBytes}
 use Rattle.spot.specs.Keys.{allKeys, within, unsigned32}
 use Rattle.spot.specs.Spots.{keyBytes, spotsBytes}
 use Rattle.spot.specs.declared.Spot.{Spot}
 use Rattle.block.specs.declared.Entry.{Entry}
 use Rattle.block.specs.declared.Front.{Front}
-
--- s with other bytes from index i on
-unfoldable pub putBytes : List ℕ → ℕ → List ℕ → List ℕ
-putBytes s i xs = take i s ++ xs ++ drop (i + length xs) s
 
 -- the 8 bytes at the front of a node
 unfoldable pub frontBytes : Front → List ℕ

@@ -10,7 +10,8 @@ ghost use Rattle.block.specs.Access.{frontOf};
 ghost use Rattle.block.specs.NodeRules.{ValidBlock};
 ghost use Rattle.buffer.specs.Buffer.{held, named};
 ghost use Rattle.node.specs.Memory.{entriesOf, EntryAt, Storable, Stored, StoredIn, Loaded};
-ghost use Rattle.node.specs.Bytes.{putBytes, frontBytes, bytesUnless, entryBytes, keyFits, keysFit, SpotsWritten, KeysWritten, EntriesWritten};
+ghost use Rattle.octets.specs.Bytes.{putBytes};
+ghost use Rattle.node.specs.Bytes.{frontBytes, bytesUnless, entryBytes, keyFits, keysFit, SpotsWritten, KeysWritten, EntriesWritten};
 ghost use Rattle.node.specs.Blocks.{ValidIn, EntriesLoaded, LoadedIn};
 
 // The child entries of a node, held together as one value; the first n are in use.

@@ -2,7 +2,7 @@
 -- Assumes nothing.
 use Prim.Native.Nat.{ℕ, zero, suc, _+_, _*_, _/_, _%_}
 use mathlib.Core.List.{List, [], _∷_, _++_}
-use lib.ListN.{getD, set}
+use lib.ListN.{length, getD, set, take, drop}
 
 -- "All numbers on it are big-endian": the number in the n bytes from index i
 unfoldable pub be : ℕ → List ℕ → ℕ → ℕ
@@ -18,3 +18,7 @@ bytesOf (suc n) v = bytesOf n (v / 256) ++ (v % 256 ∷ [])
 unfoldable pub putBe : ℕ → List ℕ → ℕ → ℕ → List ℕ
 putBe zero s i v = s
 putBe (suc n) s i v = set (putBe n s i (v / 256)) (i + n) (v % 256)
+
+-- s with other bytes from index i on
+unfoldable pub putBytes : List ℕ → ℕ → List ℕ → List ℕ
+putBytes s i xs = take i s ++ xs ++ drop (i + length xs) s

@@ -7,12 +7,14 @@ use borrow.Author.Needs.{needs}
 use lib.ListN.{length, take}
 use lib.Seq.{take-take}
 use denote.Ref.{now}
-use Rattle.node.specs.Bytes.{putBytes, entriesBytes, keysFit}
+use Rattle.octets.specs.Bytes.{putBytes}
+use Rattle.node.specs.Bytes.{entriesBytes, keysFit}
 use Rattle.node.specs.Memory.{entriesOf}
 use Rattle.buffer.proofs.Lists.{length-image}
 use Rattle.octets.specs.Lists.{every}
 use Rattle.node.proofs.Listed.{blank}
-use Rattle.node.proofs.Put.{put-nothing, entry-behind}
+use Rattle.octets.proofs.Parts.{bytes-nothing}
+use Rattle.node.proofs.Put.{entry-behind}
 use Rattle.node.proofs.Fits.{every-more}
 use mathlib.Core.Bool.{true}
 use Rattle.node.proofs.write_entries.Statement.{statement}
@@ -29,7 +31,7 @@ long : (c : tie.Start Inv-loop μ-loop) → length (c .args .t2 .list) ≡ 8
 long c = search (needs, length-image)
 
 loop-holds : tie.Need-loop-holds Inv-loop μ-loop
-loop-holds c = (search needs, refl, put-nothing (now (c .before .args .s)) 8, refl)
+loop-holds c = (search needs, refl, bytes-nothing (now (c .before .args .s)) 8, refl)
 
 mul-e : tie.Need-mul-e Inv-loop μ-loop
 mul-e c = omega arith

@@ -7,11 +7,13 @@ use borrow.Author.Needs.{needs}
 use lib.ListN.{length, take}
 use lib.Seq.{take-take}
 use denote.Ref.{now}
-use Rattle.node.specs.Bytes.{putBytes, keysBytes, keyFits}
+use Rattle.octets.specs.Bytes.{putBytes}
+use Rattle.node.specs.Bytes.{keysBytes, keyFits}
 use Rattle.buffer.specs.Buffer.{named}
 use Rattle.buffer.proofs.Lists.{length-image}
 use Rattle.octets.specs.Lists.{every}
-use Rattle.node.proofs.Put.{put-nothing, key-behind}
+use Rattle.octets.proofs.Parts.{bytes-nothing}
+use Rattle.node.proofs.Put.{key-behind}
 use Rattle.node.proofs.Fits.{keys-fit, every-take}
 use mathlib.Core.Bool.{true}
 use Rattle.node.proofs.write_keys.Statement.{statement}
@@ -30,7 +32,7 @@ fit : (c : tie.Start Inv-loop μ-loop) → every keyFits (c .args .t3 .keys) ≡
 fit c = keys-fit (c .args .t3 .keys) (λ i. search needs)
 
 loop-holds : tie.Need-loop-holds Inv-loop μ-loop
-loop-holds c = (search needs, refl, put-nothing (now (c .before .args .s)) (c .before .args .at))
+loop-holds c = (search needs, refl, bytes-nothing (now (c .before .args .s)) (c .before .args .at))
 
 mul-k : tie.Need-mul-k Inv-loop μ-loop
 mul-k c = omega arith

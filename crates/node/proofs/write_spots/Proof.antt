@@ -10,9 +10,11 @@ use denote.Ref.{now}
 use Rattle.spot.specs.Spots.{spotsBytes}
 use Rattle.buffer.specs.Buffer.{held}
 use Rattle.buffer.proofs.Lists.{length-image}
-use Rattle.node.specs.Bytes.{putBytes, spotFits}
+use Rattle.octets.specs.Bytes.{putBytes}
+use Rattle.node.specs.Bytes.{spotFits}
 use Rattle.octets.specs.Lists.{every}
-use Rattle.node.proofs.Put.{put-nothing, spot-behind}
+use Rattle.octets.proofs.Parts.{bytes-nothing}
+use Rattle.node.proofs.Put.{spot-behind}
 use Rattle.node.proofs.Fits.{all-fit, every-take}
 use mathlib.Core.Bool.{true}
 use Rattle.node.proofs.write_spots.Statement.{statement}
@@ -31,7 +33,7 @@ fit : (c : tie.Start Inv-loop μ-loop) → every spotFits (c .args .t3 .spots) �
 fit c = search (needs, all-fit)
 
 loop-holds : tie.Need-loop-holds Inv-loop μ-loop
-loop-holds c = (search needs, refl, put-nothing (now (c .before .args .s)) (c .before .args .at))
+loop-holds c = (search needs, refl, bytes-nothing (now (c .before .args .s)) (c .before .args .at))
 
 mul-x : tie.Need-mul-x Inv-loop μ-loop
 mul-x c = omega arith
