@@ -1,3 +1,7 @@
+pub mod Written
+pub mod Leaving
+pub mod Passing
+pub mod Replaced
 pub mod Laying
 pub mod Gathering
 pub mod Renewing

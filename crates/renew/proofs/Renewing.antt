@@ -24,7 +24,7 @@ use Rattle.tree.proofs.Tables.{live-walk}
 use Rattle.query.specs.declared.Tally.{Tally}
 use Rattle.rebuild.specs.Build.{Rebuilt}
 use Rattle.build.specs.Building.{Segment}
-use Rattle.amend.specs.Amended.{Amendable, Amended}
+use Rattle.renew.specs.Amended.{Amendable, Amended}
 use Rattle.renew.specs.Layable.{layable}
 use Rattle.renew.specs.Renewed.{Gathered, Renewed}
 use Rattle.renew.proofs.Laying.{laid-rises, laid-few, laid-sound}

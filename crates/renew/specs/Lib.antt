@@ -1,2 +1,3 @@
+pub mod Amended
 pub mod Layable
 pub mod Renewed

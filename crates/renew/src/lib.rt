@@ -9,6 +9,8 @@ ghost use Rattle.block.specs.Table.{tableSized, capacity};
 ghost use Rattle.tree.specs.Walk.{liveSpots};
 ghost use Rattle.renew.specs.Renewed.{Gathered, Renewed};
 
+mod amend;
+
 // The live spots in the scratch, in place order; not ok where a rule is broken.
 fn gather(table: &[u8], scratch: &mut [u8]) -> query::Tally
     requires { ⌜ (tableSized (length (now table)) ≡ true) × (length (now table) ≤ length (now scratch)) ⌝ }

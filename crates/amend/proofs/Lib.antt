@@ -1,4 +1,0 @@
-pub mod Written
-pub mod Leaving
-pub mod Passing
-pub mod Replaced
