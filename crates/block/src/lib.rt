@@ -16,6 +16,39 @@ ghost use Rattle.block.specs.Answers.{answer};
 ghost use Rattle.block.specs.Access.{frontOf, Small, usedOf, EntryIs};
 ghost use Rattle.block.specs.Checks.{keysAt, isZero, risesUnder, PointsAre, Past, apart, inFine, credibleFine, entryFine, entriesFine, freshFine, blocksFine, aboveTops, countFine, sizesFine, leafFine, frontFine, keyed, agreesFine, bodyFine, mapFine, numbersFine, freshMarks};
 
+// A table: its blocks, and the spots that it has room for in each block after the first.
+pub const BLOCK_BYTES: usize = 2048;
+
+pub const BLOCKS_LEAST: usize = 9;
+
+pub const BLOCKS_MOST: usize = 4096;
+
+pub const SPOTS_A_BLOCK: usize = 16;
+
+// The map of blocks in use, in block 0.
+pub const MAP_BYTES: usize = 512;
+
+pub const MAP_FROM: usize = 12;
+
+pub const MAP_END: usize = 524;
+
+// A node: the numbers at its front, its entries, and its limits.
+pub const FRONT_BYTES: usize = 8;
+
+pub const ENTRY_BYTES: usize = 28;
+
+pub const USED_MOST: usize = 1896;
+
+pub const ENTRIES_MOST: usize = 8;
+
+pub const POINTS_LEAST: usize = 32;
+
+pub const POINTS_MOST: usize = 64;
+
+pub const INSERTS_MOST: usize = 64;
+
+pub const DELETES_MOST: usize = 16;
+
 // What a call answers: one of the paper's numbers, and its detail.
 pub struct Answer {
     pub number: u32,
@@ -61,18 +94,20 @@ pub struct Points {
 pub fn sized(bytes: usize) -> bool
     ensures { λ r. ⌜ r ≡ tableSized bytes ⌝ }
 {
-    (bytes % 2048 == 0) & (9 <= bytes / 2048) & (bytes / 2048 <= 4096)
+    (bytes % BLOCK_BYTES == 0)
+        & (BLOCKS_LEAST <= bytes / BLOCK_BYTES)
+        & (bytes / BLOCK_BYTES <= BLOCKS_MOST)
 }
 
 // The spots that a table of this many bytes has room for.
 pub fn capacity_of(bytes: usize) -> usize
     ensures { λ r. ⌜ r ≡ capacity bytes ⌝ }
 {
-    let blocks = bytes / 2048;
+    let blocks = bytes / BLOCK_BYTES;
     if blocks == 0 {
         return 0;
     }
-    16 * (blocks - 1)
+    SPOTS_A_BLOCK * (blocks - 1)
 }
 
 // ---- reading block 0, of a table
@@ -124,21 +159,21 @@ pub fn points_from(h: Front) -> usize
     requires { ⌜ usedOf h ≤ 2048 ⌝ }
     ensures { λ r. ⌜ r ≡ pointsFrom version1 (h .c) ⌝ }
 {
-    8 + 28 * h.c
+    FRONT_BYTES + ENTRY_BYTES * h.c
 }
 
 pub fn inserts_from(h: Front) -> usize
     requires { ⌜ usedOf h ≤ 2048 ⌝ }
     ensures { λ r. ⌜ r ≡ insertsFrom version1 (h .c) (h .p) ⌝ }
 {
-    8 + 28 * h.c + 12 * h.p
+    FRONT_BYTES + ENTRY_BYTES * h.c + spot::SPOT_BYTES * h.p
 }
 
 pub fn deletes_from(h: Front) -> usize
     requires { ⌜ usedOf h ≤ 2048 ⌝ }
     ensures { λ r. ⌜ r ≡ deletesFrom version1 (h .c) (h .p) (h .i) ⌝ }
 {
-    8 + 28 * h.c + 12 * (h.p + h.i)
+    FRONT_BYTES + ENTRY_BYTES * h.c + spot::SPOT_BYTES * (h.p + h.i)
 }
 
 // The key at a place that is in use, else 0.
@@ -157,7 +192,7 @@ pub fn entry_at(s: &[u8], i: usize) -> Entry
     requires { ⌜ 36 + 28 * i ≤ length (now s) ⌝ }
     ensures { λ r. ⌜ EntryIs (now (s .entry)) i r ⌝ }
 {
-    let at = 8 + 28 * i;
+    let at = FRONT_BYTES + ENTRY_BYTES * i;
     let block = octets::read16(s, at);
     let size = octets::count_at(s, at + 2);
     let low = key_unless(s, at + 4, i == 0);
@@ -258,7 +293,7 @@ fn points_of(s: &[u8], at: usize, n: usize, floor: u64) -> Points
     let mut high = low;
     let mut i = 1;
     while i < n {
-        let k = spot::read_key(s, at + 12 * i);
+        let k = spot::read_key(s, at + spot::SPOT_BYTES * i);
         let r = spot::rank_key(k);
         ok = ok & (prev < k);
         low = smaller(low, r);
@@ -276,7 +311,7 @@ fn past(s: &[u8], at: usize, n: usize, from: usize, k: u64) -> usize
 {
     let mut i = from;
     while i < n {
-        if k <= spot::read_key(s, at + 12 * i) {
+        if k <= spot::read_key(s, at + spot::SPOT_BYTES * i) {
             return i;
         }
         i += 1;
@@ -292,12 +327,12 @@ fn apart_ok(s: &[u8], at: usize, n: usize, ad: usize, d: usize) -> bool
     let mut i = 0;
     let mut j = 0;
     while j < d {
-        let b = spot::read_key(s, ad + 8 * j);
+        let b = spot::read_key(s, ad + spot::KEY_BYTES * j);
         i = past(s, at, n, i, b);
         if n <= i {
             return true;
         }
-        if spot::read_key(s, at + 12 * i) == b {
+        if spot::read_key(s, at + spot::SPOT_BYTES * i) == b {
             return false;
         }
         j += 1;
@@ -343,7 +378,7 @@ fn entry_ok(
     ((1 <= b) & (b < blocks) & (own != b))
         & (((n == 0) & (octets::read64(s, a + 12) == 0) & (octets::read64(s, a + 20) == 0))
             | ((n != 0)
-                & (n <= 64)
+                & (n <= POINTS_MOST)
                 & ((spot::rank_key(top) < low) & credible(n, top, bottom, from, next, last))))
 }
 
@@ -361,10 +396,19 @@ fn entries_ok(s: &[u8], c: usize, blocks: usize, own: usize, low: u64, floor: u6
     let mut next = 0;
     let mut i = c - 1;
     while 0 < i {
-        let from = spot::read_key(s, 12 + 28 * i);
+        let from = spot::read_key(s, 12 + ENTRY_BYTES * i);
         ok = ok
             & (last | (from < next))
-            & entry_ok(s, 8 + 28 * i, blocks, own, low, from, next, last);
+            & entry_ok(
+                s,
+                FRONT_BYTES + ENTRY_BYTES * i,
+                blocks,
+                own,
+                low,
+                from,
+                next,
+                last,
+            );
         next = from;
         last = false;
         i -= 1;
@@ -372,7 +416,7 @@ fn entries_ok(s: &[u8], c: usize, blocks: usize, own: usize, low: u64, floor: u6
     ok
         & (octets::read64(s, 12) == 0)
         & (last | (floor <= next))
-        & entry_ok(s, 8, blocks, own, low, floor, next, last)
+        & entry_ok(s, FRONT_BYTES, blocks, own, low, floor, next, last)
 }
 
 // No entry before the one with index j names its block.
@@ -380,11 +424,11 @@ fn fresh_ok(s: &[u8], j: usize) -> bool
     requires { ⌜ 36 + 28 * j ≤ length (now s) ⌝ }
     ensures { λ r. ⌜ r ≡ freshFine (now (s .entry)) j ⌝ }
 {
-    let b = octets::read16(s, 8 + 28 * j);
+    let b = octets::read16(s, FRONT_BYTES + ENTRY_BYTES * j);
     let mut ok = true;
     let mut i = 0;
     while i < j {
-        ok = ok & (b != octets::read16(s, 8 + 28 * i));
+        ok = ok & (b != octets::read16(s, FRONT_BYTES + ENTRY_BYTES * i));
         i += 1;
     }
     ok
@@ -411,14 +455,15 @@ fn blocks_ok(s: &[u8], c: usize) -> bool
 fn count_ok(level: usize, few: usize, c: usize) -> bool
     ensures { λ r. ⌜ r ≡ countFine level few c ⌝ }
 {
-    ((level == 0) & (c == 0)) | ((level != 0) & ((few <= c) & (c <= 8)))
+    ((level == 0) & (c == 0)) | ((level != 0) & ((few <= c) & (c <= ENTRIES_MOST)))
 }
 
 // The sizes of points, inserts and deletes, of a filled node and of one with nothing below.
 fn sizes_ok(p: usize, i: usize, d: usize) -> bool
     ensures { λ r. ⌜ r ≡ sizesFine p i d ⌝ }
 {
-    ((32 <= p) & (p <= 64) & (i <= 64) & (d <= 16)) | ((p < 32) & (i == 0) & (d == 0))
+    ((POINTS_LEAST <= p) & (p <= POINTS_MOST) & (i <= INSERTS_MOST) & (d <= DELETES_MOST))
+        | ((p < POINTS_LEAST) & (i == 0) & (d == 0))
 }
 
 // A leaf has no inserts and no deletes.
@@ -433,9 +478,12 @@ fn front_ok(h: Front, level: usize, few: usize) -> bool
     requires { ⌜ Small h ⌝ }
     ensures { λ r. ⌜ r ≡ frontFine level few h ⌝ }
 {
-    let used = 8 + 28 * h.c + 12 * (h.p + h.i) + 8 * h.d;
+    let used = FRONT_BYTES
+        + ENTRY_BYTES * h.c
+        + spot::SPOT_BYTES * (h.p + h.i)
+        + spot::KEY_BYTES * h.d;
     (h.used == used)
-        & (used <= 1896)
+        & (used <= USED_MOST)
         & (h.version == 1)
         & (h.level == level)
         & count_ok(h.level, few, h.c)
@@ -467,7 +515,7 @@ fn own_of(a: Asked) -> usize
 fn above_tops(p: usize, low: u64) -> u64
     ensures { λ r. ⌜ r ≡ aboveTops p low ⌝ }
 {
-    if p < 32 {
+    if p < POINTS_LEAST {
         return 0;
     }
     low
@@ -501,13 +549,15 @@ fn body_ok(s: &[u8], blocks: usize, a: Asked, h: Front) -> bool
     requires { ⌜ (length (now s) ≡ 2048) × (usedOf h ≤ 1896) × (h .used ≡ usedOf h) ⌝ }
     ensures { λ r. ⌜ r ≡ bodyFine (now (s .entry)) blocks a h ⌝ }
 {
-    let at = 8 + 28 * h.c;
-    let ai = at + 12 * h.p;
-    let ad = at + 12 * (h.p + h.i);
+    let at = FRONT_BYTES + ENTRY_BYTES * h.c;
+    let ai = at + spot::SPOT_BYTES * h.p;
+    let ad = at + spot::SPOT_BYTES * (h.p + h.i);
     let floor = floor_of(a);
     let q = points_of(s, at, h.p, floor);
     let low = q.low;
-    if !(q.ok & rises_under(s, ai, 12, h.i, floor, low) & rises_under(s, ad, 8, h.d, floor, low)) {
+    if !(q.ok
+        & rises_under(s, ai, spot::SPOT_BYTES, h.i, floor, low)
+        & rises_under(s, ad, spot::KEY_BYTES, h.d, floor, low)) {
         return false;
     }
     apart_ok(s, ai, h.i, ad, h.d)
@@ -534,9 +584,9 @@ pub fn block_ok(t: &[u8], b: usize, level: usize, a: Asked) -> bool
     requires { ⌜ b * 2048 + 2048 ≤ length (now t) ⌝ }
     ensures { λ r. ⌜ r ≡ nodeOk level a (storeOf (now (t .entry)) b) ⌝ }
 {
-    let from = b * 2048;
-    let to = from + 2048;
-    node_ok(&t[from..to], t.len() / 2048, level, a)
+    let from = b * BLOCK_BYTES;
+    let to = from + BLOCK_BYTES;
+    node_ok(&t[from..to], t.len() / BLOCK_BYTES, level, a)
 }
 
 // ---- validating block 0
@@ -547,7 +597,7 @@ fn clear_from(m: &[u8], b: usize) -> bool
     ensures { λ r. ⌜ r ≡ every (λ k. not (bit (now (m .entry)) k)) (upTo b (4096 - b)) ⌝ }
 {
     let i = b / 8;
-    if 512 <= i {
+    if MAP_BYTES <= i {
         return true;
     }
     ((octets::count_at(m, i) >> (b % 8)) == 0) & zeros(m, i + 1)
@@ -573,7 +623,7 @@ fn numbers_ok(s: &[u8], bytes: usize) -> bool
         & (1 <= levels)
         & (levels <= 7)
         & (1 <= root)
-        & (root < bytes / 2048)
+        & (root < bytes / BLOCK_BYTES)
         & (octets::read32(s, 8) <= capacity_of(bytes) as u64)
         & sized(bytes)
 }
@@ -586,7 +636,12 @@ pub fn head_ok(s: &[u8], bytes: usize) -> bool
     if !numbers_ok(s, bytes) {
         return false;
     }
-    map_ok(&s[12..524], bytes / 2048, octets::read16(s, 6)) & zeros(s, 524)
+    map_ok(
+        &s[MAP_FROM..MAP_END],
+        bytes / BLOCK_BYTES,
+        octets::read16(s, 6),
+    )
+        & zeros(s, MAP_END)
 }
 
 // The same of a table.
@@ -594,7 +649,7 @@ pub fn header_ok(t: &[u8]) -> bool
     requires { ⌜ 2048 ≤ length (now t) ⌝ }
     ensures { λ r. ⌜ r ≡ headerOk (length (now (t .entry))) (headOf (now (t .entry))) ⌝ }
 {
-    head_ok(&t[0..2048], t.len())
+    head_ok(&t[0..BLOCK_BYTES], t.len())
 }
 
 // ---- making a table

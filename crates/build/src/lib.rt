@@ -43,7 +43,7 @@ pub fn count_band(list: &[u8], from: usize, n: usize, cut: u64, limit: Limit) ->
     let mut sum = 0;
     let mut i = 0;
     while i < n {
-        let k = spot::read_key(list, 12 * (from + i));
+        let k = spot::read_key(list, spot::SPOT_BYTES * (from + i));
         if in_band(k, cut, limit) {
             sum += 1;
         }
@@ -81,14 +81,14 @@ fn likely_cut(list: &[u8], from: usize, n: usize, limit: Limit) -> u64
     let mut all: usize = 0;
     let mut i = 0;
     while i < n {
-        let k = spot::read_key(list, 12 * (from + i));
+        let k = spot::read_key(list, spot::SPOT_BYTES * (from + i));
         if in_band(k, 0, limit) {
             all += 1;
             admit(&mut top, spot::rank_key(k));
         }
         i += 1;
     }
-    if all <= 64 {
+    if all <= block::POINTS_MOST {
         return 0;
     }
     top[0]
@@ -100,13 +100,13 @@ fn cut_fits(list: &[u8], from: usize, n: usize, limit: Limit, cut: u64) -> bool
     ensures { λ r. ⌜ (r ≡ true → Cut (now (list .entry)) from n limit cut) ⌝ }
 {
     let taken = count_band(list, from, n, cut, limit);
-    if 64 < taken {
+    if block::POINTS_MOST < taken {
         return false;
     }
     if cut == 0 {
         return true;
     }
-    32 <= taken
+    block::POINTS_LEAST <= taken
 }
 
 // Such a cut found by halving, in as many passes as a rank key has bits at most.
@@ -114,7 +114,7 @@ fn halved_cut(list: &[u8], from: usize, n: usize, limit: Limit) -> u64
     requires { ⌜ Segment (now list) from n ⌝ }
     ensures { λ r. ⌜ Cut (now (list .entry)) from n limit r ⌝ }
 {
-    if count_band(list, from, n, 0, limit) <= 64 {
+    if count_band(list, from, n, 0, limit) <= block::POINTS_MOST {
         return 0;
     }
     let mut lo = 0;
@@ -122,10 +122,10 @@ fn halved_cut(list: &[u8], from: usize, n: usize, limit: Limit) -> u64
     while lo < hi {
         let mid = lo + (hi - lo) / 2;
         let taken = count_band(list, from, n, mid, limit);
-        if 64 < taken {
+        if block::POINTS_MOST < taken {
             lo = mid;
         } else {
-            if 32 <= taken {
+            if block::POINTS_LEAST <= taken {
                 return mid;
             }
             hi = mid;
@@ -154,7 +154,7 @@ pub fn take_band(list: &[u8], from: usize, n: usize, cut: u64, limit: Limit) -> 
     let mut out = buffer::empty();
     let mut i = 0;
     while i < n {
-        let s = spot::read_spot(list, 12 * (from + i));
+        let s = spot::read_spot(list, spot::SPOT_BYTES * (from + i));
         if in_band(s.key, cut, limit) {
             let at = out.n;
             out.spots[at] = s;
@@ -218,7 +218,7 @@ pub fn shape_of(n: usize) -> Fans
     ensures { λ r. ⌜ ShapeIs n r ⌝ }
 {
     let mut i = 0;
-    while 32 * (SHAPES[i] / 1000) < n {
+    while block::POINTS_LEAST * (SHAPES[i] / 1000) < n {
         i += 1;
     }
     let r = SHAPES[i];
@@ -234,7 +234,7 @@ fn write_numbers(s: &mut [u8], bytes: u64, levels: usize, bound: u64)
     requires { ⌜ (length (now s) ≡ 2048) × (bytes < 4294967296) × (levels < 256) × (bound < 4294967296) ⌝ }
     ensures { λ _. ⌜ NumbersAre (now (s .exit)) bytes levels bound ⌝ }
 {
-    octets::zero(s, 2048);
+    octets::zero(s, block::BLOCK_BYTES);
     octets::write32(s, 0, bytes);
     octets::write8(s, 4, 1);
     octets::write8(s, 5, levels);
@@ -260,7 +260,7 @@ fn write_head(s: &mut [u8], bytes: u64, levels: usize, bound: u64, last: usize)
     ensures { λ _. ⌜ HeadSays (headerOf (now (s .exit))) bytes levels bound last ⌝ }
 {
     write_numbers(s, bytes, levels, bound);
-    mark_to(&mut s[12..524], last);
+    mark_to(&mut s[block::MAP_FROM..block::MAP_END], last);
 }
 
 // Block 0: root block 1, blocks 0 to `last` in use.
@@ -269,7 +269,13 @@ pub fn write_header(t: &mut [u8], levels: usize, bound: usize, last: usize)
     ensures { λ _. ⌜ HeaderWritten (now (t .entry)) (now (t .exit)) levels bound last ⌝ }
 {
     let bytes = t.len() as u64;
-    write_head(&mut t[0..2048], bytes, levels, bound as u64, last);
+    write_head(
+        &mut t[0..block::BLOCK_BYTES],
+        bytes,
+        levels,
+        bound as u64,
+        last,
+    );
 }
 
 // ---- the entries of a node
@@ -329,7 +335,7 @@ fn first_key(list: &[u8], from: usize, n: usize) -> u64
     if n == 0 {
         return 0;
     }
-    spot::read_key(list, 12 * from)
+    spot::read_key(list, spot::SPOT_BYTES * from)
 }
 
 // The entry of a node in block b with these points: the highest and the lowest in rank order, 0 where there are none.

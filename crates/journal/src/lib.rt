@@ -13,9 +13,9 @@ fn copy_block(to: &mut [u8], from: &[u8], b: usize)
     requires { ⌜ (b * 2048 + 2048 ≤ length (now to)) × (b * 2048 + 2048 ≤ length (now from)) ⌝ }
     ensures { λ _. ⌜ now (to .exit) ≡ putBlock (now (to .entry)) b (block (now (from .entry)) b) ⌝ }
 {
-    let at = b * 2048;
-    let end = at + 2048;
-    octets::copy(&from[at..end], &mut to[at..end], 2048);
+    let at = b * block::BLOCK_BYTES;
+    let end = at + block::BLOCK_BYTES;
+    octets::copy(&from[at..end], &mut to[at..end], block::BLOCK_BYTES);
 }
 
 // Keeps block b in scratch, unless it is kept already.
@@ -45,7 +45,7 @@ pub fn undo(t: &mut [u8], s: &[u8], map: &[u8])
     requires { ⌜ Undoable (now t) (now s) (now map) ⌝ }
     ensures { λ _. ⌜ Undone (now (t .entry)) (now (s .entry)) (now (map .entry)) (now (t .exit)) ⌝ }
 {
-    let n = t.len() / 2048;
+    let n = t.len() / block::BLOCK_BYTES;
     let mut b = 0;
     while b < n {
         if octets::test_bit(map, b) {

@@ -37,14 +37,14 @@ fn find_run(t: &[u8], at: usize, n: usize, k: u64) -> Found
     requires { ⌜ (n ≤ 64) × (at + 12 * n ≤ length (now t)) × (rising (keysFrom (now t) 12 n at) ≡ true) ⌝ }
     ensures { λ r. ⌜ foundIn r ≡ find k (records (spotAt (now (t .entry))) 12 n at) ⌝ }
 {
-    let i = visit::below(t, at, 12, n, k);
+    let i = visit::below(t, at, spot::SPOT_BYTES, n, k);
     if n <= i {
         return Found {
             there: false,
             track: 0,
         };
     }
-    let s = spot::read_spot(t, at + 12 * i);
+    let s = spot::read_spot(t, at + spot::SPOT_BYTES * i);
     Found {
         there: s.key == k,
         track: s.track,
@@ -56,8 +56,8 @@ fn node_says(t: &[u8], b: usize, k: u64) -> Word
     requires { ⌜ ValidBlock (now t) b ⌝ }
     ensures { λ r. ⌜ Speaks (now (t .entry)) b k r ⌝ }
 {
-    let from = b * 2048;
-    let to = from + 2048;
+    let from = b * block::BLOCK_BYTES;
+    let to = from + block::BLOCK_BYTES;
     let h = block::front_of(&t[from..to]);
     let ap = from + block::points_from(h);
     let ai = from + block::inserts_from(h);
@@ -73,7 +73,7 @@ fn node_says(t: &[u8], b: usize, k: u64) -> Word
     let s = find_run(t, ai, h.i, k);
     Word {
         live: s.there,
-        gone: visit::has_key(t, ad, 8, h.d, k),
+        gone: visit::has_key(t, ad, spot::KEY_BYTES, h.d, k),
         track: s.track,
     }
 }
@@ -107,8 +107,8 @@ fn look_in(
     if w.gone {
         return Looked::Nothing;
     }
-    let from = b * 2048;
-    let to = from + 2048;
+    let from = b * block::BLOCK_BYTES;
+    let to = from + block::BLOCK_BYTES;
     let c = block::front_of(&t[from..to]).c;
     let mut lo = span.lo;
     let mut i = 0;

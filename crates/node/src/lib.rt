@@ -142,7 +142,7 @@ fn write_entries(s: &mut [u8], es: Entries)
     let mut i = 0;
     while i < n {
         let e = es.list[i];
-        write_entry(s, 8 + 28 * i, e, i == 0);
+        write_entry(s, block::FRONT_BYTES + block::ENTRY_BYTES * i, e, i == 0);
         i += 1;
     }
 }
@@ -155,7 +155,7 @@ fn write_spots(s: &mut [u8], at: usize, b: buffer::SpotBuffer)
     let mut i = 0;
     while i < n {
         let x = b.spots[i];
-        spot::write_spot(s, at + 12 * i, x);
+        spot::write_spot(s, at + spot::SPOT_BYTES * i, x);
         i += 1;
     }
 }
@@ -168,7 +168,7 @@ fn write_keys(s: &mut [u8], at: usize, b: buffer::KeyBuffer)
     let mut i = 0;
     while i < n {
         let k = b.keys[i];
-        spot::write_key(s, at + 8 * i, k);
+        spot::write_key(s, at + spot::KEY_BYTES * i, k);
         i += 1;
     }
 }
@@ -195,10 +195,10 @@ pub fn store(s: &mut [u8], n: NodeValue)
     let p = points.n;
     let i = inserts.n;
     let d = deletes.n;
-    let at = 8 + 28 * c;
-    let ai = at + 12 * p;
-    let ad = ai + 12 * i;
-    let used = ad + 8 * d;
+    let at = block::FRONT_BYTES + block::ENTRY_BYTES * c;
+    let ai = at + spot::SPOT_BYTES * p;
+    let ad = ai + spot::SPOT_BYTES * i;
+    let used = ad + spot::KEY_BYTES * d;
     let level = n.level;
     let version = 1;
     write_front(
@@ -225,8 +225,8 @@ pub fn put_node(t: &mut [u8], b: usize, n: NodeValue)
     requires { ⌜ (b * 2048 + 2048 ≤ length (now t)) × Storable n ⌝ }
     ensures { λ r. ⌜ Stored (now (t .entry)) (now (t .exit)) b n ⌝ }
 {
-    let from = b * 2048;
-    let to = from + 2048;
+    let from = b * block::BLOCK_BYTES;
+    let to = from + block::BLOCK_BYTES;
     store(&mut t[from..to], n);
 }
 
@@ -265,7 +265,7 @@ fn load_spots(s: &[u8], at: usize, n: usize) -> buffer::SpotBuffer
     let mut out = buffer::empty();
     let mut i = 0;
     while i < n {
-        let x = spot::read_spot(s, at + 12 * i);
+        let x = spot::read_spot(s, at + spot::SPOT_BYTES * i);
         out.spots[i] = x;
         i += 1;
     }
@@ -280,7 +280,7 @@ fn load_keys(s: &[u8], at: usize, n: usize) -> buffer::KeyBuffer
     let mut out = buffer::empty_keys();
     let mut i = 0;
     while i < n {
-        let k = spot::read_key(s, at + 8 * i);
+        let k = spot::read_key(s, at + spot::KEY_BYTES * i);
         out.keys[i] = k;
         i += 1;
     }
@@ -313,7 +313,7 @@ pub fn load(t: &[u8], b: usize) -> NodeValue
     requires { ⌜ ValidBlock (now t) b ⌝ }
     ensures { λ r. ⌜ Loaded (now (t .entry)) b r ⌝ }
 {
-    let from = b * 2048;
-    let to = from + 2048;
+    let from = b * block::BLOCK_BYTES;
+    let to = from + block::BLOCK_BYTES;
     load_block(&t[from..to])
 }

@@ -63,10 +63,10 @@ pub extern "C" fn perf_change(t: &mut [u8], level: usize, key: u64, track: u32) 
     let n = node::load(t, 1);
     let r = edit::threshold(n);
     let m = edit::insert_one(n, spot::Spot { key, track }, r);
-    if 64 < m.points.n {
+    if block::POINTS_MOST < m.points.n {
         return false;
     }
-    if 64 < m.inserts.n {
+    if block::INSERTS_MOST < m.inserts.n {
         return false;
     }
     node::put_node(t, 1, m);

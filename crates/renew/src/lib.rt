@@ -16,7 +16,7 @@ fn gather(table: &[u8], scratch: &mut [u8]) -> query::Tally
     requires { ⌜ (tableSized (length (now table)) ≡ true) × (length (now table) ≤ length (now scratch)) ⌝ }
     ensures { λ r. ⌜ Gathered (now (table .entry)) (now (scratch .entry)) (now (scratch .exit)) r ⌝ }
 {
-    let mut seen = [0u8; 512];
+    let mut seen = [0u8; block::MAP_BYTES];
     let everything = spot::Query {
         from: 0,
         last: 18446744073709551615,
@@ -35,7 +35,7 @@ fn gather(table: &[u8], scratch: &mut [u8]) -> query::Tally
         return none;
     }
     query::collect_table(table, scratch, everything);
-    if !block::rises(scratch, 0, 12, all.spots, 0) {
+    if !block::rises(scratch, 0, spot::SPOT_BYTES, all.spots, 0) {
         return none;
     }
     all

@@ -32,19 +32,19 @@ pub fn in_range(t: &[u8], b: usize, span: visit::Span) -> bool
     requires { ⌜ ValidBlock (now t) b ⌝ }
     ensures { λ r. ⌜ r ≡ inRange (partOf b (Root b) span) (storeOf (now (t .entry)) b) ⌝ }
 {
-    let from = b * 2048;
-    let to = from + 2048;
+    let from = b * block::BLOCK_BYTES;
+    let to = from + block::BLOCK_BYTES;
     let h = block::front_of(&t[from..to]);
     let ap = from + block::points_from(h);
     let ai = from + block::inserts_from(h);
     let ad = from + block::deletes_from(h);
-    let buffers = keys_within(t, ap, 12, h.p, span)
-        & keys_within(t, ai, 12, h.i, span)
-        & keys_within(t, ad, 8, h.d, span);
+    let buffers = keys_within(t, ap, spot::SPOT_BYTES, h.p, span)
+        & keys_within(t, ai, spot::SPOT_BYTES, h.i, span)
+        & keys_within(t, ad, spot::KEY_BYTES, h.d, span);
     if h.c == 0 {
         return buffers;
     }
-    buffers & keys_within(t, from + 40, 28, h.c - 1, span)
+    buffers & keys_within(t, from + 40, block::ENTRY_BYTES, h.c - 1, span)
 }
 
 // The part at block b keeps the rules; `seen` marks its blocks, none of them twice.
@@ -69,8 +69,8 @@ pub fn sound_walk(
         return false;
     }
     octets::set_bit(seen, b);
-    let from = b * 2048;
-    let to = from + 2048;
+    let from = b * block::BLOCK_BYTES;
+    let to = from + block::BLOCK_BYTES;
     let c = block::front_of(&t[from..to]).c;
     let mut lo = span.lo;
     let mut i = 0;
@@ -93,7 +93,7 @@ pub fn same_map(a: &[u8], b: &[u8]) -> bool
 {
     let mut same = true;
     let mut i = 0;
-    while i < 512 {
+    while i < block::MAP_BYTES {
         same = same & (a[i] == b[i]);
         i += 1;
     }
@@ -105,7 +105,7 @@ fn tree_ok(t: &[u8]) -> bool
     requires { ⌜ headerOk (length (now t)) (headOf (now t)) ≡ true ⌝ }
     ensures { λ r. ⌜ r ≡ shapedBelow (now (t .entry)) ⌝ }
 {
-    let mut seen = [0u8; 512];
+    let mut seen = [0u8; block::MAP_BYTES];
     let root = block::root_of(t);
     let level = block::levels_of(t) - 1;
     if !sound_walk(
@@ -119,7 +119,7 @@ fn tree_ok(t: &[u8]) -> bool
         return false;
     }
     octets::set_bit(&mut seen, 0);
-    same_map(&t[12..524], &seen)
+    same_map(&t[block::MAP_FROM..block::MAP_END], &seen)
 }
 
 // The table is sound.
@@ -133,7 +133,7 @@ pub fn is_sound(t: &[u8]) -> bool
     if !tree_ok(t) {
         return false;
     }
-    let mut seen = [0u8; 512];
+    let mut seen = [0u8; block::MAP_BYTES];
     let everything = spot::Query {
         from: 0,
         last: 18446744073709551615,

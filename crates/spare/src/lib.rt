@@ -59,9 +59,13 @@ pub fn spare_blocks(t: &[u8]) -> Spare
     requires { ⌜ headerOk (length (now t)) (headOf (now t)) ≡ true ⌝ }
     ensures { λ r. ⌜ SpareIn (now (t .entry)) r ⌝ }
 {
-    let mut map = [0u8; 512];
-    octets::copy(&t[12..524], &mut map, 512);
-    find_clear(&mut map, t.len() / 2048)
+    let mut map = [0u8; block::MAP_BYTES];
+    octets::copy(
+        &t[block::MAP_FROM..block::MAP_END],
+        &mut map,
+        block::MAP_BYTES,
+    );
+    find_clear(&mut map, t.len() / block::BLOCK_BYTES)
 }
 
 // Marks the blocks that were taken in a map of blocks in use.
@@ -84,7 +88,7 @@ fn turn_head(head: &mut [u8], s: Spare, left: usize, levels: usize, root: usize,
     octets::write8(head, 5, levels);
     octets::write16(head, 6, root);
     octets::write32(head, 8, bound);
-    mark_taken(&mut head[12..524], s, left);
+    mark_taken(&mut head[block::MAP_FROM..block::MAP_END], s, left);
 }
 
 // Block 0 after an update: levels, root and bound, and the blocks taken are marked.
@@ -92,5 +96,5 @@ pub fn rehead(t: &mut [u8], s: Spare, left: usize, levels: usize, root: usize, b
     requires { ⌜ HeadFits (now t) s left levels root bound ⌝ }
     ensures { λ _. ⌜ Reheaded (now (t .entry)) (now (t .exit)) (takenOf s left) levels root bound ⌝ }
 {
-    turn_head(&mut t[0..2048], s, left, levels, root, bound);
+    turn_head(&mut t[0..block::BLOCK_BYTES], s, left, levels, root, bound);
 }

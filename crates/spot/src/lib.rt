@@ -10,6 +10,11 @@ ghost use Rattle.spot.specs.Keys.{biased, unbiased, turned, key, placeOf
 ghost use Rattle.spot.specs.Spots.{keyAt, spotAt, putKey, putSpot};
 ghost use Rattle.spot.specs.Query.{query, topQuery, placed, wantsKey, wanted};
 
+// The bytes of a spot and of a key on the card.
+pub const SPOT_BYTES: usize = 12;
+
+pub const KEY_BYTES: usize = 8;
+
 // A spot: its key, which stands for place and rank together, and its track number.
 pub struct Spot {
     pub key: u64,
