@@ -11,7 +11,7 @@ use Rattle.block.specs.declared.Points.{Points}
 use Rattle.block.specs.declared.Front.{Front}
 use Rattle.block.specs.declared.Asked.{Asked}
 use Rattle.block.specs.NodeRules.{lowOf, standsIn}
-use Rattle.block.specs.Checks.{_and_, keysP, keysI, keysD, lowRank, under, risesUnder, PointsAre, listsFine, restFine, apart, isZero, aboveTops, entriesFine, blocksFine, agreesFine}
+use Rattle.block.specs.Checks.{_and_, keysP, keysI, keysD, lowRank, ranksUnder, risesUnder, PointsAre, listsFine, restFine, apart, isZero, aboveTops, entriesFine, blocksFine, agreesFine}
 use Rattle.octets.proofs.Tests.{and-left}
 use Rattle.octets.proofs.Rising.{rising-lower}
 use Rattle.block.proofs.Shut.{fst, snd}
@@ -27,7 +27,7 @@ module _ (s : List ℕ) (blocks : ℕ) (a : Asked) (h : Front) where
       (v ∙ ap₂ (λ (f l : ℕ). risesUnder f l (keysD s h)) e (p .least))
 
   both-rise : (low : ℕ) (ks : List ℕ) → risesUnder (lowOf a) low ks ≡ true → rising ks ≡ true
-  both-rise low ks p = rising-lower 0 (lowOf a) ks (omega arith) (and-left (risingFrom (lowOf a) ks) (every (under low) ks) p)
+  both-rise low ks p = rising-lower 0 (lowOf a) ks (omega arith) (and-left (risingFrom (lowOf a) ks) (every (ranksUnder low) ks) p)
 
   pub inserts-rise : listsFine s a h ≡ true → rising (keysI s h) ≡ true
   unfolding listsFine

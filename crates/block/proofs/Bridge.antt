@@ -22,7 +22,7 @@ use Rattle.block.specs.Table.{blockOk, version1}
 use Rattle.block.specs.Node.{Node, nodeOf, nodeFrom, laidOut, usedBytes, entryAt, entryBlank, firstBlank, firstOpen}
 use Rattle.block.specs.NodeRules.{lowOf, standsIn, nodeOk, fewest, buffersRise, namedOnce, pointsAbove, tops, filled, lowest}
 use Rattle.block.specs.Access.{frontOf}
-use Rattle.block.specs.Checks.{_and_, keyed, isZero, under, apart, keysAt, lastKey, risesUnder, sizesFine, otherBlock, entryShows, firstFine, entriesFine, blocksFine, aboveTops, countFine, frontFine, listsFine, restFine, bodyFine}
+use Rattle.block.specs.Checks.{_and_, keyed, isZero, ranksUnder, apart, keysAt, lastKey, risesUnder, sizesFine, otherBlock, entryShows, firstFine, entriesFine, blocksFine, aboveTops, countFine, frontFine, listsFine, restFine, bodyFine}
 use Rattle.octets.proofs.Tests.{and-left, and-right, and-both, or-either, or-right, bool-ext, all-at, all-cons, all-nil, every-left, every-right, every-join}
 use Rattle.octets.proofs.Sets.{distinct-split, distinct-join}
 use Rattle.octets.proofs.Rising.{rising-lower, rising-from, rising-distinct}
@@ -67,18 +67,18 @@ module _ (s : List ℕ) (blocks level : ℕ) (a : Asked) (keys64 : keyed a ≡ t
   empties e = eqb (be 1 s (e + 2)) 0
 
   abbrev topped : ℕ → Bool
-  topped e = empties e || under low (keyAt s (e + 12))
+  topped e = empties e || ranksUnder low (keyAt s (e + 12))
 
-  tops-are : every (under low) (tops es) ≡ all (records topped 28 c 8)
+  tops-are : every (ranksUnder low) (tops es) ≡ all (records topped 28 c 8)
   unfolding entryAt
   tops-are =
-      every-top (under low) es ∙ every-entry (λ e. eqb (e .size) 0 || under low (e .top)) (λ e. refl) s c
+      every-top (ranksUnder low) es ∙ every-entry (λ e. eqb (e .size) 0 || ranksUnder low (e .top)) (λ e. refl) s c
       ∙ ap all (records-cong _ topped 28 c 8 8 (λ j l. unused (be 1 s (8 + 28 * j + 2)) (keyAt s (8 + 28 * j + 12))))
     where
-      unused : (n k : ℕ) → eqb n 0 || under low (cond (eqb n 0) 0 k) ≡ eqb n 0 || under low k
+      unused : (n k : ℕ) → eqb n 0 || ranksUnder low (cond (eqb n 0) 0 k) ≡ eqb n 0 || ranksUnder low k
       unused n k = pick (eqb n 0)
         where
-          pick : (b : Bool) → b || under low (cond b 0 k) ≡ b || under low k
+          pick : (b : Bool) → b || ranksUnder low (cond b 0 k) ≡ b || ranksUnder low k
           pick true = refl
           pick false = refl
 
@@ -118,7 +118,7 @@ module _ (s : List ℕ) (blocks level : ℕ) (a : Asked) (keys64 : keyed a ≡ t
   others e = otherBlock (standsIn a) s e
 
   abbrev covered : ℕ → Bool
-  covered e = empties e || under over (keyAt s (e + 12))
+  covered e = empties e || ranksUnder over (keyAt s (e + 12))
 
   abbrev agreeable : ℕ → Bool
   agreeable e = credibleAt (lowOf a) (8 + 28 * c) s e
@@ -163,7 +163,7 @@ module _ (s : List ℕ) (blocks level : ℕ) (a : Asked) (keys64 : keyed a ≡ t
     unfolding nodeOk
     above-ok = sym above-are ∙ all-at _ ok 6
 
-    under-full : full ≡ true → every (under low) ks ≡ true
+    under-full : full ≡ true → every (ranksUnder low) ks ≡ true
     under-full h =
         let at : ℕ = 8 + 28 * c in
         let first : ps ≡ keyAt s at ∷ left (keyAt s) 12 p at 1 = left-first (keyAt s) 12 p at (omega (arith, leb-true 32 p (full-p h))) in
@@ -171,15 +171,15 @@ module _ (s : List ℕ) (blocks level : ℕ) (a : Asked) (keys64 : keyed a ≡ t
         subst (λ (l : List ℕ). every (λ k. ltb (rankKey k) (minimum lastKey (map rankKey l))) ks ≡ true) (sym first)
         (above-under rankKey lastKey (keyAt s at) ks (left (keyAt s) 12 p at 1) (omega arith) (ap (above rankKey ks) (sym first) ∙ above-ok))
 
-    under-i : every (under low) is ≡ true
+    under-i : every (ranksUnder low) is ≡ true
     under-i =
-        ⊎-elim (λ h. every-left (under low) is ds (every-left (under low) (is ++ ds) (tops es) (under-full h)))
-        (λ h. ap (every (under low)) (thin-i (h .0))) kind
+        ⊎-elim (λ h. every-left (ranksUnder low) is ds (every-left (ranksUnder low) (is ++ ds) (tops es) (under-full h)))
+        (λ h. ap (every (ranksUnder low)) (thin-i (h .0))) kind
 
-    under-d : every (under low) ds ≡ true
+    under-d : every (ranksUnder low) ds ≡ true
     under-d =
-        ⊎-elim (λ h. every-right (under low) is ds (every-left (under low) (is ++ ds) (tops es) (under-full h)))
-        (λ h. ap (every (under low)) (thin-d (h .0))) kind
+        ⊎-elim (λ h. every-right (ranksUnder low) is ds (every-left (ranksUnder low) (is ++ ds) (tops es) (under-full h)))
+        (λ h. ap (every (ranksUnder low)) (thin-d (h .0))) kind
 
     rise : (xs : List ℕ) → ((f : ℕ → Bool) → every f (ps ++ (is ++ ds)) ≡ true → every f xs ≡ true) → rising xs ≡ true → risingFrom (lowOf a) xs ≡ true
     unfolding nodeOk
@@ -235,9 +235,9 @@ module _ (s : List ℕ) (blocks level : ℕ) (a : Asked) (keys64 : keyed a ≡ t
     covers : all (records covered 28 c 8) ≡ true
     covers =
         ⊎-elim
-        (λ h. subst (λ (l : ℕ). all (records (λ e. empties e || under l (keyAt s (e + 12))) 28 c 8) ≡ true) (sym (full-over h))
-        (sym tops-are ∙ every-right (under low) (is ++ ds) (tops es) (under-full h)))
-        (λ h. tests-mono empties 28 covered (λ e q. in-left (under over (keyAt s (e + 12))) q) c 8 (h .1))
+        (λ h. subst (λ (l : ℕ). all (records (λ e. empties e || ranksUnder l (keyAt s (e + 12))) 28 c 8) ≡ true) (sym (full-over h))
+        (sym tops-are ∙ every-right (ranksUnder low) (is ++ ds) (tops es) (under-full h)))
+        (λ h. tests-mono empties 28 covered (λ e q. in-left (ranksUnder over (keyAt s (e + 12))) q) c 8 (h .1))
         kind
 
     to-entries : all (records shows 28 c 8) ≡ true
@@ -289,15 +289,15 @@ module _ (s : List ℕ) (blocks level : ℕ) (a : Asked) (keys64 : keyed a ≡ t
     both-d = snd _ _ lists
 
     rise-i : risingFrom (lowOf a) is ≡ true
-    rise-i = and-left (risingFrom (lowOf a) is) (every (under low) is) both-i
+    rise-i = and-left (risingFrom (lowOf a) is) (every (ranksUnder low) is) both-i
 
     rise-d : risingFrom (lowOf a) ds ≡ true
-    rise-d = and-left (risingFrom (lowOf a) ds) (every (under low) ds) both-d
+    rise-d = and-left (risingFrom (lowOf a) ds) (every (ranksUnder low) ds) both-d
 
-    under-id : every (under low) (is ++ ds) ≡ true
+    under-id : every (ranksUnder low) (is ++ ds) ≡ true
     under-id =
-        every-join (under low) is ds (and-right (risingFrom (lowOf a) is) (every (under low) is) both-i)
-        (and-right (risingFrom (lowOf a) ds) (every (under low) ds) both-d)
+        every-join (ranksUnder low) is ds (and-right (risingFrom (lowOf a) is) (every (ranksUnder low) is) both-i)
+        (and-right (risingFrom (lowOf a) ds) (every (ranksUnder low) ds) both-d)
 
     entries : all (records shows 28 c 8) ≡ true
     unfolding restFine entriesFine
@@ -365,7 +365,7 @@ module _ (s : List ℕ) (blocks level : ℕ) (a : Asked) (keys64 : keyed a ≡ t
 
     from-above : pointsAbove node ≡ true
     from-above =
-        above-are ∙ least-above rankKey lastKey ks ps (every-join (under low) (is ++ ds) (tops es) under-id (tops-are ∙ from-topped))
+        above-are ∙ least-above rankKey lastKey ks ps (every-join (ranksUnder low) (is ++ ds) (tops es) under-id (tops-are ∙ from-topped))
 
     from-kind : filled node || lowest node ≡ true
     unfolding sizesFine
@@ -375,7 +375,7 @@ module _ (s : List ℕ) (blocks level : ℕ) (a : Asked) (keys64 : keyed a ≡ t
         (lowest-is blocks s c p i d
         ∙ and-both _ _ h
         (tests-mono shows 28 empties
-        (λ e q. or-right (empties e) (under 0 (keyAt s (e + 12))) (subst (λ (l : ℕ). empties e || under l (keyAt s (e + 12)) ≡ true) (thin-over h) (fine-top blocks (standsIn a) over (lowOf a) (8 + 28 * c) s e q)) (leb·suc-zero (rankKey (keyAt s (e + 12)))))
+        (λ e q. or-right (empties e) (ranksUnder 0 (keyAt s (e + 12))) (subst (λ (l : ℕ). empties e || ranksUnder l (keyAt s (e + 12)) ≡ true) (thin-over h) (fine-top blocks (standsIn a) over (lowOf a) (8 + 28 * c) s e q)) (leb·suc-zero (rankKey (keyAt s (e + 12)))))
         c 8 entries)))
         (or-either full thin sizes)
 

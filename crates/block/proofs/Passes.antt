@@ -20,7 +20,7 @@ use Rattle.spot.specs.Spots.{keyAt}
 use Rattle.spot.proofs.Card.{keyAt-lt}
 use Rattle.spot.proofs.Halves.{rank-small}
 use Rattle.block.specs.declared.Points.{Points}
-use Rattle.block.specs.Checks.{_and_, keysAt, isZero, under, risesUnder, lastKey, PointsAre, inFine, credibleFine, entryFine, fromAt, entryShows, firstFine, entriesFine}
+use Rattle.block.specs.Checks.{_and_, keysAt, isZero, ranksUnder, risesUnder, lastKey, PointsAre, inFine, credibleFine, entryFine, fromAt, entryShows, firstFine, entriesFine}
 use Rattle.octets.proofs.Records.{left, left-all, left-cons, left-none, left-first, none-left}
 use Rattle.block.proofs.Shut.{shuffle}
 
@@ -76,7 +76,7 @@ module _ (s : List ℕ) (w n at floor : ℕ) where
     both-start {prev} h e g =
         ap (risesUnder floor low) (left-first (keyAt s) w n at h)
         ∙ ap (λ (k : ℕ). risesUnder floor low (k ∷ left (keyAt s) w n at 1)) (sym e)
-        ∙ shuffle true (leb floor prev) (under low prev) (risingFrom (suc prev) (left (keyAt s) w n at 1)) (every (under low) (left (keyAt s) w n at 1))
+        ∙ shuffle true (leb floor prev) (ranksUnder low prev) (risingFrom (suc prev) (left (keyAt s) w n at 1)) (every (ranksUnder low) (left (keyAt s) w n at 1))
         ∙ ap (λ (q : ℕ). (leb floor prev && ltb q low) && risesUnder (suc prev) low (left (keyAt s) w n at 1)) (sym g)
 
     pub both-next : (ok : Bool) (prev : ℕ) {k r : ℕ} (i : ℕ) → BothInv ok prev i → i < n → k ≡ keyAt s (at + w * i) → r ≡ rankKey k
@@ -84,7 +84,7 @@ module _ (s : List ℕ) (w n at floor : ℕ) where
     both-next ok prev {k} i p h e g =
         p ∙ ap (λ (l : List ℕ). ok && risesUnder (suc prev) low l) (left-cons (keyAt s) w n at i h)
         ∙ ap (λ (x : ℕ). ok && risesUnder (suc prev) low (x ∷ left (keyAt s) w n at (i + 1))) (sym e)
-        ∙ shuffle ok (ltb prev k) (under low k) (risingFrom (suc k) (left (keyAt s) w n at (i + 1))) (every (under low) (left (keyAt s) w n at (i + 1)))
+        ∙ shuffle ok (ltb prev k) (ranksUnder low k) (risingFrom (suc k) (left (keyAt s) w n at (i + 1))) (every (ranksUnder low) (left (keyAt s) w n at (i + 1)))
         ∙ ap (λ (q : ℕ). (ok && (ltb prev k && ltb q low)) && risesUnder (suc k) low (left (keyAt s) w n at (i + 1))) (sym g)
 
     pub both-end : (ok : Bool) (prev i : ℕ) → BothInv ok prev i → n ≤ i → ok ≡ risesUnder floor low (keysAt s w n at)

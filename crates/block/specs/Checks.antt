@@ -32,12 +32,12 @@ abbrev pub isZero : ℕ → Bool
 isZero x = eqb x 0
 
 -- k is below low in rank order
-abbrev pub under : ℕ → ℕ → Bool
-under low k = ltb (rankKey k) low
+abbrev pub ranksUnder : ℕ → ℕ → Bool
+ranksUnder low k = ltb (rankKey k) low
 
 -- rising, from floor on, and below low in rank order
 abbrev pub risesUnder : ℕ → ℕ → List ℕ → Bool
-risesUnder floor low ks = risingFrom floor ks && every (under low) ks
+risesUnder floor low ks = risingFrom floor ks && every (ranksUnder low) ks
 
 -- the highest number of 64 bits
 abbrev pub lastKey : ℕ

@@ -27,7 +27,7 @@ use Rattle.block.proofs.Making.{blocks-least, blocks-most}
 use Rattle.block.proofs.Facts.{HeadFacts, head-made}
 use Rattle.block.proofs.Frames.{put-length as put-block-length, block-put-other}
 use Rattle.block.proofs.Heading.{numbers-stay, map-is, tail-stays, head-put}
-use Rattle.build.specs.Building.{Marked, NumbersAre, HeadSays, HeaderFits, HeaderWritten}
+use Rattle.build.specs.Building.{FirstMarked, NumbersAre, HeadSays, HeaderFits, HeaderWritten}
 
 -- ---- the map
 
@@ -53,7 +53,7 @@ marked-more m {m′} {u} {i} r h e =
       sized = ap length e ∙ setBit-length m′ i ∙ r .sized;
     }
 
-pub marked-all : (m : List ℕ) {m′ : List ℕ} {i z : ℕ} → MarkedBelow m m′ i → i ≡ z + 1 → Marked m m′ z
+pub marked-all : (m : List ℕ) {m′ : List ℕ} {i z : ℕ} → MarkedBelow m m′ i → i ≡ z + 1 → FirstMarked m m′ z
 marked-all m {m′} {i} {z} r e =
     record { bits = λ b. r .bits b ∙ ap (λ (x : Bool). x || bit m b) (up-to b); sized = r .sized }
   where
@@ -131,7 +131,7 @@ module _ (a h n : ℕ) (la : a < 4294967296) (lh : h < 256) (ln : n < 4294967296
 
 -- ---- the block
 
-module _ (a h n z : ℕ) (s u m : List ℕ) (len : length s ≡ 2048) (nums : NumbersAre s a h n) (marks : Marked (midOf 12 512 s) m z) (e : u ≡ putMid 12 512 s m) where
+module _ (a h n z : ℕ) (s u m : List ℕ) (len : length s ≡ 2048) (nums : NumbersAre s a h n) (marks : FirstMarked (midOf 12 512 s) m z) (e : u ≡ putMid 12 512 s m) where
   old-bits : (b : ℕ) → bit (midOf 12 512 s) b ≡ false
   old-bits b = ap (λ (x : List ℕ). bit (take 512 x) b) (nums .blank) ∙ ap (λ (x : List ℕ). bit x b) (zeros-take 512 1524) ∙ bit-zeros 512 b
 

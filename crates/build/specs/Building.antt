@@ -92,7 +92,7 @@ pub record HeadSays (r : Header) (size h n z : ℕ) : Type 0 where
   pub blank : r .blank ≡ true
 
 -- the blocks up to z are marked besides those that were
-pub record Marked (m m′ : List ℕ) (z : ℕ) : Type 0 where
+pub record FirstMarked (m m′ : List ℕ) (z : ℕ) : Type 0 where
   pub bits : (b : ℕ) → bit m′ b ≡ (leb b z || bit m b)
   pub sized : length m′ ≡ length m
 

@@ -12,7 +12,7 @@ ghost use Rattle.block.specs.Node.{firstOpen};
 ghost use Rattle.buffer.specs.Buffer.{held, Ordered};
 ghost use Rattle.node.specs.Memory.{entriesOf, EntryFits};
 ghost use Rattle.rebuild.specs.Build.{nodes, shapeOf, band, firstKey, BuildPost, Rebuilt};
-ghost use Rattle.build.specs.Building.{limitOf, Segment, Cut, Buildable, HeaderFits, HeaderWritten, ShapeIs, NumbersAre, HeadSays, Marked, EntryFor, Own, OwnPut};
+ghost use Rattle.build.specs.Building.{limitOf, Segment, Cut, Buildable, HeaderFits, HeaderWritten, ShapeIs, NumbersAre, HeadSays, FirstMarked, EntryFor, Own, OwnPut};
 
 // A limit of rank keys: all up to `last`, or none.
 pub struct Limit {
@@ -245,7 +245,7 @@ fn write_numbers(s: &mut [u8], bytes: u64, levels: usize, bound: u64)
 // Marks the blocks up to `last` in a map.
 fn mark_to(map: &mut [u8], last: usize)
     requires { ⌜ (last < 8 * length (now map)) × (length (now map) ≤ 512) ⌝ }
-    ensures { λ _. ⌜ Marked (now (map .entry)) (now (map .exit)) last ⌝ }
+    ensures { λ _. ⌜ FirstMarked (now (map .entry)) (now (map .exit)) last ⌝ }
 {
     let mut i = 0;
     while i <= last {
