@@ -9,7 +9,7 @@ use lib.Dec.{leb, eqb, eqb·suc-zero}
 use borrow.Author.Tests.{leb-true, le-leb, eqb-true, eq-eqb}
 use Rattle.octets.specs.Lists.{all, every, records, has, maximum, minimum}
 use Rattle.spot.specs.Keys.{rankKey, allKeys}
-use Rattle.spot.specs.Spots.{keys, keyAt, spotAt}
+use Rattle.spot.specs.Spots.{keys, keyAt, spotAt, keysFrom}
 use Rattle.octets.proofs.Tests.{and-left, and-right, all-at, all-cons, all-nil, every-mem, every-make, bool-ext}
 use Rattle.octets.proofs.Sets.{has-mem, mem-has}
 use Rattle.octets.proofs.Extremes.{maximum-ge, max-is, maximum-mem, minimum-le, min-is, minimum-mem}
@@ -20,7 +20,7 @@ use Rattle.block.specs.declared.Asked.the-variants.{Root, Child}
 use Rattle.block.specs.Table.{version1}
 use Rattle.block.specs.Node.{nodeFrom}
 use Rattle.block.specs.NodeRules.{agrees, isHighest, isLowest}
-use Rattle.block.specs.Checks.{keysAt, agreesFine, keyed, lastKey}
+use Rattle.block.specs.Checks.{agreesFine, keyed, lastKey}
 use Rattle.block.proofs.Above.{least-last}
 use Rattle.spot.proofs.Buffers.{keys-records, keys-small}
 
@@ -87,17 +87,17 @@ same-size x y z y' z' e p q r = rw (p, q, r, and-true)
 module _ (blocks : ℕ) (s : List ℕ) (c i d : ℕ) where
   pub agrees-is : (a : Asked) → keyed a ≡ true → (p : ℕ)
       → agrees a (nodeFrom version1 blocks s c p i d)
-      ≡ agreesFine a p (minimum lastKey (map rankKey (keysAt s 12 p (8 + 28 * c)))) (maximum (map rankKey (keysAt s 12 p (8 + 28 * c))))
+      ≡ agreesFine a p (minimum lastKey (map rankKey (keysFrom s 12 p (8 + 28 * c)))) (maximum (map rankKey (keysFrom s 12 p (8 + 28 * c))))
   unfolding agrees agreesFine nodeFrom keyed
   agrees-is (Root b) kd p = refl
   agrees-is (Child e) kd zero = all3 (eqb (e .size) 0)
   agrees-is (Child e) kd (suc p) =
       let at : ℕ = 8 + 28 * c in
-      let k : keys (records (spotAt s) 12 (suc p) at) ≡ keysAt s 12 (suc p) at = keys-records s 12 (suc p) at in
+      let k : keys (records (spotAt s) 12 (suc p) at) ≡ keysFrom s 12 (suc p) at = keys-records s 12 (suc p) at in
       let t : e .top ≤ lastKey = leb-true _ _ (and-left (leb (e .top) lastKey) (leb (e .bottom) lastKey) kd) in
       let b : e .bottom ≤ lastKey = leb-true _ _ (and-right (leb (e .top) lastKey) (leb (e .bottom) lastKey) kd) in
-      let ss : (j : ℕ) → List·Memᴰ j (keysAt s 12 (suc p) at) → j < allKeys = λ j i. keys-small s 12 (suc p) at i in
+      let ss : (j : ℕ) → List·Memᴰ j (keysFrom s 12 (suc p) at) → j < allKeys = λ j i. keys-small s 12 (suc p) at i in
       ap (λ (n : ℕ). all (eqb (e .size) n ∷ (false || isHighest (e .top) (keys (records (spotAt s) 12 (suc p) at))) ∷ (false || isLowest (e .bottom) (keys (records (spotAt s) 12 (suc p) at))) ∷ [])) (length-records (spotAt s) 12 (suc p) at)
       ∙ same-size (eqb (e .size) (suc p)) _ _ _ _ (eqb (suc p) 0) (eqb·suc-zero p)
-      (ap (isHighest (e .top)) k ∙ highest-is (e .top) (keyAt s at) (keysAt s 12 p (at + 12)) (omega arith) ss)
-      (ap (isLowest (e .bottom)) k ∙ lowest-is (e .bottom) (keyAt s at) (keysAt s 12 p (at + 12)) (omega arith) ss)
+      (ap (isHighest (e .top)) k ∙ highest-is (e .top) (keyAt s at) (keysFrom s 12 p (at + 12)) (omega arith) ss)
+      (ap (isLowest (e .bottom)) k ∙ lowest-is (e .bottom) (keyAt s at) (keysFrom s 12 p (at + 12)) (omega arith) ss)

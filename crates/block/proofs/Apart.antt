@@ -10,8 +10,8 @@ use native.Mathlib.Omega.{arith}
 use borrow.Author.Tests.{not-true, ne-eqb, eq-eqb}
 use Rattle.octets.specs.Lists.{risingFrom, rising, has}
 use Rattle.octets.specs.Sets.{Apart}
-use Rattle.spot.specs.Spots.{keyAt}
-use Rattle.block.specs.Checks.{keysAt, apart, Past}
+use Rattle.spot.specs.Spots.{keyAt, keysFrom}
+use Rattle.block.specs.Checks.{apart, Past}
 use Rattle.octets.proofs.Tests.{every-mem, every-make}
 use Rattle.octets.proofs.Sets.{has-not, not-has-mem}
 use Rattle.octets.proofs.Rising.{rising-lower, rising-first, rising-rest, rising-make, rising-least}
@@ -54,17 +54,17 @@ module _ (s : List ℕ) (n at d ad : ℕ) where
   few j = left (keyAt s) 8 d ad j
 
   abbrev goal : Bool
-  goal = apart (keysAt s 12 n at) (keysAt s 8 d ad)
+  goal = apart (keysFrom s 12 n at) (keysFrom s 8 d ad)
 
   pub record ApartInv (i j : ℕ) : Type 0 where
     pub same : goal ≡ apart (many i) (few j)
     pub rise : rising (many i) ≡ true
     pub rise2 : rising (few j) ≡ true
 
-  pub apart-start : rising (keysAt s 12 n at) ≡ true → rising (keysAt s 8 d ad) ≡ true → ApartInv 0 0
+  pub apart-start : rising (keysFrom s 12 n at) ≡ true → rising (keysFrom s 8 d ad) ≡ true → ApartInv 0 0
   apart-start p q =
-      let e : keysAt s 12 n at ≡ many 0 = left-all (keyAt s) 12 n at in
-      let g : keysAt s 8 d ad ≡ few 0 = left-all (keyAt s) 8 d ad in
+      let e : keysFrom s 12 n at ≡ many 0 = left-all (keyAt s) 12 n at in
+      let g : keysFrom s 8 d ad ≡ few 0 = left-all (keyAt s) 8 d ad in
       record { same = ap₂ apart e g; rise = ap rising (sym e) ∙ p; rise2 = ap rising (sym g) ∙ q }
 
   pub apart-few : (i j : ℕ) → ApartInv i j → d ≤ j → true ≡ goal

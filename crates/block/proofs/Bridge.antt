@@ -12,7 +12,7 @@ use borrow.Author.Tests.{eqb-true, leb-true, le-ltb}
 use Rattle.octets.specs.Lists.{all, every, records, rising, risingFrom, distinct, minimum}
 use Rattle.octets.specs.Bytes.{be}
 use Rattle.spot.specs.Keys.{rankKey}
-use Rattle.spot.specs.Spots.{keyAt}
+use Rattle.spot.specs.Spots.{keyAt, keysFrom}
 use Rattle.spot.proofs.Card.{keyAt-lt}
 use Rattle.spot.proofs.Halves.{rank-small}
 use Rattle.block.specs.declared.Entry.{Entry}
@@ -22,7 +22,7 @@ use Rattle.block.specs.Table.{blockOk, version1}
 use Rattle.block.specs.Node.{Node, nodeOf, nodeFrom, laidOut, usedBytes, entryAt, entryBlank, firstBlank, firstOpen}
 use Rattle.block.specs.NodeRules.{lowOf, standsIn, nodeOk, fewest, buffersRise, namedOnce, pointsAbove, tops, filled, lowest}
 use Rattle.block.specs.Access.{frontOf}
-use Rattle.block.specs.Checks.{_and_, keyed, isZero, ranksUnder, apart, keysAt, lastKey, risesUnder, sizesFine, otherBlock, entryShows, firstFine, entriesFine, blocksFine, aboveTops, countFine, frontFine, listsFine, restFine, bodyFine}
+use Rattle.block.specs.Checks.{_and_, keyed, isZero, ranksUnder, apart, lastKey, risesUnder, sizesFine, otherBlock, entryShows, firstFine, entriesFine, blocksFine, aboveTops, countFine, frontFine, listsFine, restFine, bodyFine}
 use Rattle.octets.proofs.Tests.{and-left, and-right, and-both, or-either, or-right, bool-ext, all-at, all-cons, all-nil, every-left, every-right, every-join}
 use Rattle.octets.proofs.Sets.{distinct-split, distinct-join}
 use Rattle.octets.proofs.Rising.{rising-lower, rising-from, rising-distinct}
@@ -45,13 +45,13 @@ module _ (s : List ℕ) (blocks level : ℕ) (a : Asked) (keys64 : keyed a ≡ t
   head = record { used = be 2 s 0; version = be 1 s 2; level = be 1 s 3; p = p; i = i; d = d; c = c }
 
   abbrev ps : List ℕ
-  ps = keysAt s 12 p (8 + 28 * c)
+  ps = keysFrom s 12 p (8 + 28 * c)
 
   abbrev is : List ℕ
-  is = keysAt s 12 i (8 + 28 * c + 12 * p)
+  is = keysFrom s 12 i (8 + 28 * c + 12 * p)
 
   abbrev ds : List ℕ
-  ds = keysAt s 8 d (8 + 28 * c + 12 * (p + i))
+  ds = keysFrom s 8 d (8 + 28 * c + 12 * (p + i))
 
   abbrev es : List Entry
   es = firstOpen (records (entryAt s) 28 c 8)
@@ -109,7 +109,7 @@ module _ (s : List ℕ) (blocks level : ℕ) (a : Asked) (keys64 : keyed a ≡ t
 
   -- the lows from the second entry on
   abbrev ls : List ℕ
-  ls = keysAt s 28 (c - 1) 40
+  ls = keysFrom s 28 (c - 1) 40
 
   abbrev shows : ℕ → Bool
   shows e = entryShows blocks (standsIn a) over (lowOf a) (8 + 28 * c) s e
@@ -347,7 +347,7 @@ module _ (s : List ℕ) (blocks level : ℕ) (a : Asked) (keys64 : keyed a ≡ t
     from-lows : risingFrom (lowOf a) ls ≡ true
     unfolding firstFine
     from-lows =
-        ⊎-elim (λ h. let e : c - 1 ≡ 0 = omega (arith, eqb-true c 0 h) in ap (λ (k : ℕ). risingFrom (lowOf a) (keysAt s 28 k 40)) e)
+        ⊎-elim (λ h. let e : c - 1 ≡ 0 = omega (arith, eqb-true c 0 h) in ap (λ (k : ℕ). risingFrom (lowOf a) (keysFrom s 28 k 40)) e)
         (λ h. and-right (eqb (be 8 s 12) 0) (risingFrom (lowOf a) ls) h)
         (or-either (eqb c 0) (eqb (be 8 s 12) 0 && risingFrom (lowOf a) ls) first)
 

@@ -16,13 +16,13 @@ use Rattle.octets.proofs.Tests.{and-left, and-right, and-both, or-left, bool-ex
 use Rattle.octets.proofs.Sets.{has-not, not-has-mem, distinct-split, distinct-join}
 use Rattle.octets.proofs.Records.{records-more, tests-at, tests-make}
 use Rattle.spot.specs.Keys.{rankKey}
-use Rattle.spot.specs.Spots.{keyAt}
+use Rattle.spot.specs.Spots.{keyAt, keysFrom}
 use Rattle.block.specs.declared.Entry.{Entry}
 use Rattle.block.specs.declared.Asked.{Asked}
 use Rattle.block.specs.Table.{version1}
 use Rattle.block.specs.Node.{Node, nodeFrom, entryAt, firstOpen}
 use Rattle.block.specs.NodeRules.{lowOf, standsIn, childBlocks, lowsNotBelow, childrenApart, beforeNext, inChild, entryCredible, allCredible, entriesCredible}
-use Rattle.block.specs.Checks.{keysAt, otherBlock, inFine, credibleFine, fromAt, freshFine, placeFine, blocksFine}
+use Rattle.block.specs.Checks.{otherBlock, inFine, credibleFine, fromAt, freshFine, placeFine, blocksFine}
 use Rattle.block.proofs.Shut.{in-left, in-right, cond-or, all3, all4}
 use Rattle.block.proofs.Views.{rest-lows}
 use Rattle.block.proofs.Marks.{credibleAt}
@@ -124,7 +124,7 @@ higher a b k h =
 
 module _ (s : List ℕ) (floor : ℕ) where
   -- the entries from the second on
-  credible-later : (n at end : ℕ) → 8 < at → end ≡ at + 28 * n → every (leb floor) (keysAt s 28 n (at + 4)) ≡ true
+  credible-later : (n at end : ℕ) → 8 < at → end ≡ at + 28 * n → every (leb floor) (keysFrom s 28 n (at + 4)) ≡ true
       → allCredible floor (records (entryAt s) 28 n at) ≡ all (records (credibleAt floor end s) 28 n at)
   unfolding all entryAt
   credible-later zero at end h e q = refl
@@ -132,11 +132,11 @@ module _ (s : List ℕ) (floor : ℕ) where
       let p : at + 4 + 28 ≡ at + 28 + 4 = omega arith in
       ap₂ (λ (x y : Bool). x && y)
       (entry-credible (be 1 s (at + 2)) (keyAt s (at + 12)) (keyAt s (at + 20)) floor (fromAt floor s at) (keyAt s (at + 4)) (be 2 s at) (records (entryAt s) 28 n (at + 28)) (leb end (at + 28)) (keyAt s (at + 32)) start (before n e))
-      (credible-later n (at + 28) end (omega arith) (omega arith) (ap (λ (k : ℕ). every (leb floor) (keysAt s 28 n k)) (sym p) ∙ and-right (leb floor (keyAt s (at + 4))) (every (leb floor) (keysAt s 28 n (at + 4 + 28))) q))
+      (credible-later n (at + 28) end (omega arith) (omega arith) (ap (λ (k : ℕ). every (leb floor) (keysFrom s 28 n k)) (sym p) ∙ and-right (leb floor (keyAt s (at + 4))) (every (leb floor) (keysFrom s 28 n (at + 4 + 28))) q))
     where
       start : (k : ℕ) → leb floor k && leb (keyAt s (at + 4)) k ≡ leb (fromAt floor s at) k
       start k =
-          higher floor (keyAt s (at + 4)) k (leb-true _ _ (and-left (leb floor (keyAt s (at + 4))) (every (leb floor) (keysAt s 28 n (at + 4 + 28))) q))
+          higher floor (keyAt s (at + 4)) k (leb-true _ _ (and-left (leb floor (keyAt s (at + 4))) (every (leb floor) (keysFrom s 28 n (at + 4 + 28))) q))
           ∙ sym (ap (λ (z : Bool). leb (cond z floor (keyAt s (at + 4))) k) (ne-eqb at 8 (λ z. omega arith)))
 
       before : (m : ℕ) → end ≡ at + 28 * suc m → (k : ℕ) → beforeNext (records (entryAt s) 28 m (at + 28)) k ≡ leb end (at + 28) || ltb k (keyAt s (at + 32))
@@ -145,7 +145,7 @@ module _ (s : List ℕ) (floor : ℕ) where
           let p : at + 28 + 4 ≡ at + 32 = omega arith in
           ap (λ (j : ℕ). ltb k (keyAt s j)) p ∙ sym (ap (λ (z : Bool). z || ltb k (keyAt s (at + 32))) (lt-leb end (at + 28) (omega arith)))
 
-  pub credible-all : (c : ℕ) → every (leb floor) (keysAt s 28 (c - 1) 40) ≡ true
+  pub credible-all : (c : ℕ) → every (leb floor) (keysFrom s 28 (c - 1) 40) ≡ true
       → allCredible floor (firstOpen (records (entryAt s) 28 c 8)) ≡ all (records (credibleAt floor (8 + 28 * c) s) 28 c 8)
   unfolding all entryAt
   credible-all zero q = refl
@@ -153,7 +153,7 @@ module _ (s : List ℕ) (floor : ℕ) where
       let e : suc c - 1 ≡ c = omega arith in
       ap₂ (λ (x y : Bool). x && y)
       (entry-credible (be 1 s 10) (keyAt s 20) (keyAt s 28) floor floor 0 (be 2 s 8) (records (entryAt s) 28 c 36) (leb (8 + 28 * suc c) 36) (keyAt s 40) (λ k. ap (λ (z : Bool). leb floor k && z) (leb·zero k) ∙ and-true (leb floor k)) (before c))
-      (credible-later c 36 (8 + 28 * suc c) (omega arith) (omega arith) (ap (λ (k : ℕ). every (leb floor) (keysAt s 28 k 40)) (sym e) ∙ q))
+      (credible-later c 36 (8 + 28 * suc c) (omega arith) (omega arith) (ap (λ (k : ℕ). every (leb floor) (keysFrom s 28 k 40)) (sym e) ∙ q))
     where
       before : (m : ℕ) (k : ℕ) → beforeNext (records (entryAt s) 28 m 36) k ≡ leb (8 + 28 * suc m) 36 || ltb k (keyAt s 40)
       before zero k = refl
@@ -165,7 +165,7 @@ module _ (blocks : ℕ) (s : List ℕ) (c p i d : ℕ) (a : Asked) where
   abbrev node : Node
   node = nodeFrom version1 blocks s c p i d
 
-  pub lows-above-is : lowsNotBelow a node ≡ every (leb (lowOf a)) (keysAt s 28 (c - 1) 40)
+  pub lows-above-is : lowsNotBelow a node ≡ every (leb (lowOf a)) (keysFrom s 28 (c - 1) 40)
   unfolding lowsNotBelow nodeFrom
   lows-above-is = ap (every (λ k. leb (lowOf a) k)) (rest-lows s c)
 
@@ -175,7 +175,7 @@ module _ (blocks : ℕ) (s : List ℕ) (c p i d : ℕ) (a : Asked) where
       ap (λ (l : List ℕ). distinct (standsIn a ∷ l)) (open-blocks (records (entryAt s) 28 c 8) ∙ blocks-records s c 8)
       ∙ ap (λ (b : Bool). b && distinct (records (be 2 s) 28 c 8)) (has-none (be 2 s) 28 8 (standsIn a) c 8)
 
-  pub credible-is : every (leb (lowOf a)) (keysAt s 28 (c - 1) 40) ≡ true
+  pub credible-is : every (leb (lowOf a)) (keysFrom s 28 (c - 1) 40) ≡ true
       → entriesCredible a node ≡ all (records (credibleAt (lowOf a) (8 + 28 * c) s) 28 c 8)
   unfolding entriesCredible nodeFrom
   credible-is q = credible-all s (lowOf a) c q

@@ -16,11 +16,11 @@ use Rattle.octets.specs.Lists.{every, records, risingFrom, rising, all, maximum
 use Rattle.octets.specs.Bytes.{be}
 use Rattle.octets.proofs.Order.{less-or-not, leb-same}
 use Rattle.spot.specs.Keys.{rankKey}
-use Rattle.spot.specs.Spots.{keyAt}
+use Rattle.spot.specs.Spots.{keyAt, keysFrom}
 use Rattle.spot.proofs.Card.{keyAt-lt}
 use Rattle.spot.proofs.Halves.{rank-small}
 use Rattle.block.specs.declared.Points.{Points}
-use Rattle.block.specs.Checks.{_and_, keysAt, isZero, ranksUnder, risesUnder, lastKey, PointsAre, inFine, credibleFine, entryFine, fromAt, entryShows, firstFine, entriesFine}
+use Rattle.block.specs.Checks.{_and_, isZero, ranksUnder, risesUnder, lastKey, PointsAre, inFine, credibleFine, entryFine, fromAt, entryShows, firstFine, entriesFine}
 use Rattle.octets.proofs.Records.{left, left-all, left-cons, left-none, left-first, none-left}
 use Rattle.block.proofs.Shut.{shuffle}
 
@@ -42,12 +42,12 @@ module _ (s : List ℕ) (at : ℕ) where
 -- ---- rising keys
 
 module _ (s : List ℕ) (w n at floor : ℕ) where
-  pub rise-none : n ≡ 0 → true ≡ risingFrom floor (keysAt s w n at)
+  pub rise-none : n ≡ 0 → true ≡ risingFrom floor (keysFrom s w n at)
   rise-none e = sym (ap (risingFrom floor) (none-left (keyAt s) w n at e))
 
   -- after the test of key `prev` and of those before it
   abbrev pub RiseInv : Bool → ℕ → ℕ → Type 0
-  RiseInv ok prev i = risingFrom floor (keysAt s w n at) ≡ ok && risingFrom (suc prev) (left (keyAt s) w n at i)
+  RiseInv ok prev i = risingFrom floor (keysFrom s w n at) ≡ ok && risingFrom (suc prev) (left (keyAt s) w n at i)
 
   pub rise-start : {prev : ℕ} → 0 < n → prev ≡ keyAt s at → RiseInv (leb floor prev) prev 1
   rise-start h e =
@@ -60,17 +60,17 @@ module _ (s : List ℕ) (w n at floor : ℕ) where
       ∙ ap (λ (x : ℕ). ok && (leb (suc prev) x && risingFrom (suc x) (left (keyAt s) w n at (i + 1)))) (sym e)
       ∙ sym (and-assoc ok (ltb prev k) (risingFrom (suc k) (left (keyAt s) w n at (i + 1))))
 
-  pub rise-end : (ok : Bool) (prev i : ℕ) → RiseInv ok prev i → n ≤ i → ok ≡ risingFrom floor (keysAt s w n at)
+  pub rise-end : (ok : Bool) (prev i : ℕ) → RiseInv ok prev i → n ≤ i → ok ≡ risingFrom floor (keysFrom s w n at)
   rise-end ok prev i p h =
       sym (p ∙ ap (λ (l : List ℕ). ok && risingFrom (suc prev) l) (left-none (keyAt s) w n at i h) ∙ and-true ok)
 
   -- the same, with the rank order's bound
   module _ (low : ℕ) where
-    pub both-none : n ≡ 0 → true ≡ risesUnder floor low (keysAt s w n at)
+    pub both-none : n ≡ 0 → true ≡ risesUnder floor low (keysFrom s w n at)
     both-none e = sym (ap (risesUnder floor low) (none-left (keyAt s) w n at e))
 
     abbrev pub BothInv : Bool → ℕ → ℕ → Type 0
-    BothInv ok prev i = risesUnder floor low (keysAt s w n at) ≡ ok && risesUnder (suc prev) low (left (keyAt s) w n at i)
+    BothInv ok prev i = risesUnder floor low (keysFrom s w n at) ≡ ok && risesUnder (suc prev) low (left (keyAt s) w n at i)
 
     pub both-start : {prev r : ℕ} → 0 < n → prev ≡ keyAt s at → r ≡ rankKey prev → BothInv (leb floor prev && ltb r low) prev 1
     both-start {prev} h e g =
@@ -87,7 +87,7 @@ module _ (s : List ℕ) (w n at floor : ℕ) where
         ∙ shuffle ok (ltb prev k) (ranksUnder low k) (risingFrom (suc k) (left (keyAt s) w n at (i + 1))) (every (ranksUnder low) (left (keyAt s) w n at (i + 1)))
         ∙ ap (λ (q : ℕ). (ok && (ltb prev k && ltb q low)) && risesUnder (suc k) low (left (keyAt s) w n at (i + 1))) (sym g)
 
-    pub both-end : (ok : Bool) (prev i : ℕ) → BothInv ok prev i → n ≤ i → ok ≡ risesUnder floor low (keysAt s w n at)
+    pub both-end : (ok : Bool) (prev i : ℕ) → BothInv ok prev i → n ≤ i → ok ≡ risesUnder floor low (keysFrom s w n at)
     both-end ok prev i p h =
         sym (p ∙ ap (λ (l : List ℕ). ok && risesUnder (suc prev) low l) (left-none (keyAt s) w n at i h) ∙ and-true ok)
 
@@ -96,13 +96,13 @@ module _ (s : List ℕ) (w n at floor : ℕ) where
 module _ (s : List ℕ) (n at floor : ℕ) where
   pub record PointsInv (ok : Bool) (prev low high i : ℕ) : Type 0 where
     pub rise : RiseInv s 12 n at floor ok prev i
-    pub least : minimum lastKey (map rankKey (keysAt s 12 n at)) ≡ min low (minimum lastKey (map rankKey (left (keyAt s) 12 n at i)))
-    pub most : maximum (map rankKey (keysAt s 12 n at)) ≡ max high (maximum (map rankKey (left (keyAt s) 12 n at i)))
+    pub least : minimum lastKey (map rankKey (keysFrom s 12 n at)) ≡ min low (minimum lastKey (map rankKey (left (keyAt s) 12 n at i)))
+    pub most : maximum (map rankKey (keysFrom s 12 n at)) ≡ max high (maximum (map rankKey (left (keyAt s) 12 n at i)))
     pub fits : low ≤ lastKey
 
-  pub points-none : {r : Points} → n ≡ 0 → r .ok ≡ true → r .low ≡ lastKey → r .high ≡ 0 → PointsAre floor (keysAt s 12 n at) r
+  pub points-none : {r : Points} → n ≡ 0 → r .ok ≡ true → r .low ≡ lastKey → r .high ≡ 0 → PointsAre floor (keysFrom s 12 n at) r
   points-none e p q h =
-      let g : keysAt s 12 n at ≡ [] = none-left (keyAt s) 12 n at e in
+      let g : keysFrom s 12 n at ≡ [] = none-left (keyAt s) 12 n at e in
       record {
         rise = p ∙ sym (ap (risingFrom floor) g);
         least = q ∙ sym (ap (λ (l : List ℕ). minimum lastKey (map rankKey l)) g);
@@ -111,7 +111,7 @@ module _ (s : List ℕ) (n at floor : ℕ) where
 
   pub points-start : {prev low : ℕ} → 0 < n → prev ≡ keyAt s at → low ≡ rankKey prev → PointsInv (leb floor prev) prev low low 1
   points-start {prev} {low} h e g =
-      let first : keysAt s 12 n at ≡ prev ∷ left (keyAt s) 12 n at 1 =
+      let first : keysFrom s 12 n at ≡ prev ∷ left (keyAt s) 12 n at 1 =
       left-first (keyAt s) 12 n at h ∙ ap (λ (k : ℕ). k ∷ left (keyAt s) 12 n at 1) (sym e)
       in
       record {
@@ -151,7 +151,7 @@ module _ (s : List ℕ) (n at floor : ℕ) where
       max-swap a b c = omega arith
 
   pub points-end : {r : Points} (ok : Bool) (prev low high i : ℕ) → PointsInv ok prev low high i → n ≤ i → r .ok ≡ ok → r .low ≡ low → r .high ≡ high
-      → PointsAre floor (keysAt s 12 n at) r
+      → PointsAre floor (keysFrom s 12 n at) r
   points-end ok prev low high i p h eo el eh =
       let e : left (keyAt s) 12 n at i ≡ [] = left-none (keyAt s) 12 n at i h in
       let f = p .fits in
@@ -294,11 +294,11 @@ module _ (s : List ℕ) (c blocks own low floor : ℕ) where
       let first : records shows 28 c 8 ≡ r ∷ left shows 28 c 8 1 =
       left-first shows 28 c 8 h ∙ ap (λ (b : Bool). b ∷ left shows 28 c 8 1) (sym (shows-is ok last next 0 v refl g))
       in
-      let rises : risingFrom floor (keysAt s 28 (c - 1) 40) ≡ (last || leb floor next) && rising (lowsFrom 0) =
+      let rises : risingFrom floor (keysFrom s 28 (c - 1) 40) ≡ (last || leb floor next) && rising (lowsFrom 0) =
       ap (risingFrom floor) (left-all (keyAt s) 28 (c - 1) 40) ∙ rise-from ok last next 0 v floor
       in
       sym
-      (ap₂ (λ (x : List Bool) (b : Bool). all x && (b || (eqb (be 8 s 12) 0 && risingFrom floor (keysAt s 28 (c - 1) 40)))) first (ne-eqb c 0 (λ q. omega arith))
+      (ap₂ (λ (x : List Bool) (b : Bool). all x && (b || (eqb (be 8 s 12) 0 && risingFrom floor (keysFrom s 28 (c - 1) 40)))) first (ne-eqb c 0 (λ q. omega arith))
       ∙ ap₂ (λ (x : ℕ) (b : Bool). (r && all (left shows 28 c 8 1)) && (eqb x 0 && b)) (sym e) rises
       ∙ order-first r (all (left shows 28 c 8 1)) (eqb z 0) (last || leb floor next) (rising (lowsFrom 0))
       ∙ ap (λ (b : Bool). ((b && eqb z 0) && (last || leb floor next)) && r) (sym (v .done)))

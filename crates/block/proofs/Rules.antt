@@ -11,14 +11,14 @@ use lib.ListN.{length}
 use borrow.Author.Tests.{eqb-true, leb-true}
 use Rattle.octets.specs.Lists.{all, every, records, isEmpty, rest, rising, risingFrom}
 use Rattle.octets.specs.Bytes.{be}
-use Rattle.spot.specs.Spots.{keyAt, spotAt}
+use Rattle.spot.specs.Spots.{keyAt, spotAt, keysFrom}
 use Rattle.block.specs.declared.Entry.{Entry}
 use Rattle.block.specs.declared.Asked.{Asked}
 use Rattle.block.specs.declared.Asked.the-variants.{Root, Child}
 use Rattle.block.specs.Table.{blockOk, version1}
 use Rattle.block.specs.Node.{Node, nodeFrom, entryAt, firstOpen}
 use Rattle.block.specs.NodeRules.{lowOf, names, fewest, childCountOk, filled, lowest, leafBuffersEmpty, notBelow, lows, zeroFirst, lowsRise, childBlocksOk}
-use Rattle.block.specs.Checks.{keysAt, countFine, leafFine}
+use Rattle.block.specs.Checks.{countFine, leafFine}
 use Rattle.octets.proofs.Tests.{and-left, and-right, and-both, or-either, every-join}
 use Rattle.octets.proofs.Rising.{rising-rest, rising-from}
 use Rattle.octets.proofs.Records.{length-records, empty-records}
@@ -64,11 +64,11 @@ module _ (blocks : ℕ) (s : List ℕ) (c p i d : ℕ) where
   es-empty : isEmpty es ≡ eqb c 0
   es-empty = empty-open (records (entryAt s) 28 c 8) ∙ empty-records (entryAt s) 28 c 8
 
-  pub names-are : names node ≡ keysAt s 12 p (8 + 28 * c) ++ (keysAt s 12 i (8 + 28 * c + 12 * p) ++ keysAt s 8 d (8 + 28 * c + 12 * (p + i)))
+  pub names-are : names node ≡ keysFrom s 12 p (8 + 28 * c) ++ (keysFrom s 12 i (8 + 28 * c + 12 * p) ++ keysFrom s 8 d (8 + 28 * c + 12 * (p + i)))
   unfolding names nodeFrom
   names-are =
-      ap₂ (λ (x y : List ℕ). (x ++ y) ++ keysAt s 8 d (8 + 28 * c + 12 * (p + i))) (keys-records s 12 p (8 + 28 * c)) (keys-records s 12 i (8 + 28 * c + 12 * p))
-      ∙ append-assoc (keysAt s 12 p (8 + 28 * c)) (keysAt s 12 i (8 + 28 * c + 12 * p)) (keysAt s 8 d (8 + 28 * c + 12 * (p + i)))
+      ap₂ (λ (x y : List ℕ). (x ++ y) ++ keysFrom s 8 d (8 + 28 * c + 12 * (p + i))) (keys-records s 12 p (8 + 28 * c)) (keys-records s 12 i (8 + 28 * c + 12 * p))
+      ∙ append-assoc (keysFrom s 12 p (8 + 28 * c)) (keysFrom s 12 i (8 + 28 * c + 12 * p)) (keysFrom s 8 d (8 + 28 * c + 12 * (p + i)))
 
   pub count-is : (a : Asked) → childCountOk a node ≡ countFine (be 1 s 3) (fewest a) c
   unfolding childCountOk nodeFrom countFine
@@ -105,7 +105,7 @@ module _ (blocks : ℕ) (s : List ℕ) (c p i d : ℕ) where
       ∙ ap₂ (λ (x y : Bool). not (eqb (be 1 s 3) 0) || all (x ∷ y ∷ [])) (empty-records (spotAt s) 12 i (8 + 28 * c + 12 * p)) (empty-records (keyAt s) 8 d (8 + 28 * c + 12 * (p + i)))
       ∙ ap (λ (x : Bool). not (eqb (be 1 s 3) 0) || x) (all2 (eqb i 0) (eqb d 0))
 
-  pub lows-is : lowsRise node ≡ rising (keysAt s 28 (c - 1) 40)
+  pub lows-is : lowsRise node ≡ rising (keysFrom s 28 (c - 1) 40)
   unfolding lowsRise nodeFrom
   lows-is =
       all2 (zeroFirst (lows es)) (rising (rest (lows es)))

@@ -9,11 +9,10 @@ use native.Mathlib.Omega.{arith}
 use lib.Dec.{eqb}
 use lib.ListN.{length}
 use Rattle.octets.specs.Lists.{all, every, records, isEmpty, rest}
-use Rattle.spot.specs.Spots.{keyAt}
+use Rattle.spot.specs.Spots.{keyAt, keysFrom}
 use Rattle.block.specs.declared.Entry.{Entry}
 use Rattle.block.specs.Node.{entryAt, openBelow, firstOpen}
 use Rattle.block.specs.NodeRules.{lows, zeroFirst, tops}
-use Rattle.block.specs.Checks.{keysAt}
 use Rattle.octets.proofs.Records.{every-records, tests-at, tests-make}
 
 -- ---- tests at every record
@@ -72,15 +71,15 @@ lows-append [] vs = refl
 lows-append (u ∷ us) vs = ap (λ (r : List ℕ). u .low ∷ r) (lows-append us vs)
 
 -- the lows from the second entry on
-lows-records : (s : List ℕ) (n at : ℕ) → lows (records (entryAt s) 28 n at) ≡ keysAt s 28 n (at + 4)
+lows-records : (s : List ℕ) (n at : ℕ) → lows (records (entryAt s) 28 n at) ≡ keysFrom s 28 n (at + 4)
 unfolding entryAt
 lows-records s zero at = refl
 lows-records s (suc n) at =
     let e : at + 28 + 4 ≡ at + 4 + 28 = omega arith in
-    ap (λ (l : List ℕ). keyAt s (at + 4) ∷ l) (lows-records s n (at + 28) ∙ ap (λ (k : ℕ). keysAt s 28 n k) e)
+    ap (λ (l : List ℕ). keyAt s (at + 4) ∷ l) (lows-records s n (at + 28) ∙ ap (λ (k : ℕ). keysFrom s 28 n k) e)
 
-pub rest-lows : (s : List ℕ) (c : ℕ) → rest (lows (firstOpen (records (entryAt s) 28 c 8))) ≡ keysAt s 28 (c - 1) 40
+pub rest-lows : (s : List ℕ) (c : ℕ) → rest (lows (firstOpen (records (entryAt s) 28 c 8))) ≡ keysFrom s 28 (c - 1) 40
 rest-lows s zero = refl
 rest-lows s (suc c) =
     let e : suc c - 1 ≡ c = omega arith in
-    lows-records s c 36 ∙ ap (λ (k : ℕ). keysAt s 28 k 40) (sym e)
+    lows-records s c 36 ∙ ap (λ (k : ℕ). keysFrom s 28 k 40) (sym e)

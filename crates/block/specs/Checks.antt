@@ -10,7 +10,7 @@ use Rattle.octets.specs.Lists.{all, every, records, risingFrom, has, maximum, m
 use Rattle.octets.specs.Bitmap.{bit}
 use Rattle.octets.specs.Bytes.{be}
 use Rattle.spot.specs.Keys.{rankKey}
-use Rattle.spot.specs.Spots.{keyAt}
+use Rattle.spot.specs.Spots.{keyAt, keysFrom}
 use Rattle.block.specs.declared.Points.{Points}
 use Rattle.block.specs.declared.Front.{Front}
 use Rattle.block.specs.declared.Asked.{Asked}
@@ -23,10 +23,6 @@ use Rattle.block.specs.Access.{usedOf}
 infixl 35 _and_
 unfoldable pub _and_ : Bool → Bool → Bool
 a and b = a && b
-
--- the keys of n records of w bytes from at on
-abbrev pub keysAt : List ℕ → ℕ → ℕ → ℕ → List ℕ
-keysAt s w n at = records (keyAt s) w n at
 
 abbrev pub isZero : ℕ → Bool
 isZero x = eqb x 0
@@ -97,7 +93,7 @@ entryShows blocks own low floor end s a = entryFine blocks own low (fromAt floor
 
 -- the first entry's range field is zero, the others' rise from floor on
 unfoldable pub firstFine : ℕ → List ℕ → ℕ → Bool
-firstFine floor s c = eqb c 0 || (eqb (be 8 s 12) 0 && risingFrom floor (keysAt s 28 (c - 1) 40))
+firstFine floor s c = eqb c 0 || (eqb (be 8 s 12) 0 && risingFrom floor (keysFrom s 28 (c - 1) 40))
 
 unfoldable pub entriesFine : List ℕ → ℕ → ℕ → ℕ → ℕ → ℕ → Bool
 entriesFine s c blocks own low floor = all (records (entryShows blocks own low floor (8 + 28 * c) s) 28 c 8) and firstFine floor s c
@@ -148,13 +144,13 @@ agreesFine (Child e) p low high = eqb (e .size) p && (eqb p 0 || (eqb (rankKey (
 
 -- the keys of P, I and D
 abbrev pub keysP : List ℕ → Front → List ℕ
-keysP s h = keysAt s 12 (h .p) (8 + 28 * h .c)
+keysP s h = keysFrom s 12 (h .p) (8 + 28 * h .c)
 
 abbrev pub keysI : List ℕ → Front → List ℕ
-keysI s h = keysAt s 12 (h .i) (8 + 28 * h .c + 12 * h .p)
+keysI s h = keysFrom s 12 (h .i) (8 + 28 * h .c + 12 * h .p)
 
 abbrev pub keysD : List ℕ → Front → List ℕ
-keysD s h = keysAt s 8 (h .d) (8 + 28 * h .c + 12 * (h .p + h .i))
+keysD s h = keysFrom s 8 (h .d) (8 + 28 * h .c + 12 * (h .p + h .i))
 
 -- P's lowest and highest in rank order
 abbrev pub lowRank : List ℕ → Front → ℕ

@@ -5,7 +5,7 @@ ghost use Prim.Native.Nat.{_+_, _-_, _*_, _≤_, _<_, min, max};
 ghost use lib.ListN.{length, drop};
 ghost use Rattle.octets.specs.Lists.{every, risingFrom, rising, upTo};
 ghost use Rattle.octets.specs.Bitmap.{bit};
-ghost use Rattle.spot.specs.Spots.{keyAt};
+ghost use Rattle.spot.specs.Spots.{keyAt, keysFrom};
 ghost use Rattle.block.specs.Table.{version1, tableSized, capacity};
 ghost use Rattle.block.specs.Header.{headOf, headerOf};
 ghost use Rattle.block.specs.Node.{nodeOf, storeOf, pointsFrom, insertsFrom, deletesFrom};
@@ -14,7 +14,7 @@ ghost use Rattle.block.specs.HeaderRules.{headerOk};
 ghost use Rattle.block.specs.Fresh.{formatted};
 ghost use Rattle.block.specs.Answers.{answer};
 ghost use Rattle.block.specs.Access.{frontOf, Small, usedOf, EntryIs};
-ghost use Rattle.block.specs.Checks.{keysAt, isZero, risesUnder, PointsAre, Past, apart, inFine, credibleFine, entryFine, entriesFine, freshFine, blocksFine, aboveTops, countFine, sizesFine, leafFine, frontFine, keyed, agreesFine, bodyFine, mapFine, numbersFine, freshMarks};
+ghost use Rattle.block.specs.Checks.{isZero, risesUnder, PointsAre, Past, apart, inFine, credibleFine, entryFine, entriesFine, freshFine, blocksFine, aboveTops, countFine, sizesFine, leafFine, frontFine, keyed, agreesFine, bodyFine, mapFine, numbersFine, freshMarks};
 
 // A table: its blocks, and the spots that it has room for in each block after the first.
 pub const BLOCK_BYTES: usize = 2048;
@@ -226,7 +226,7 @@ fn zeros(s: &[u8], at: usize) -> bool
 // The keys of the n records of w bytes from at on rise, and the first is at least floor.
 pub fn rises(s: &[u8], at: usize, w: usize, n: usize, floor: u64) -> bool
     requires { ⌜ (8 ≤ w) × (at + w * n ≤ length (now s)) ⌝ }
-    ensures { λ r. ⌜ r ≡ risingFrom floor (keysAt (now (s .entry)) w n at) ⌝ }
+    ensures { λ r. ⌜ r ≡ risingFrom floor (keysFrom (now (s .entry)) w n at) ⌝ }
 {
     if n == 0 {
         return true;
@@ -246,7 +246,7 @@ pub fn rises(s: &[u8], at: usize, w: usize, n: usize, floor: u64) -> bool
 // The same, and all are below low in rank order.
 fn rises_under(s: &[u8], at: usize, w: usize, n: usize, floor: u64, low: u64) -> bool
     requires { ⌜ (8 ≤ w) × (at + w * n ≤ length (now s)) ⌝ }
-    ensures { λ r. ⌜ r ≡ risesUnder floor low (keysAt (now (s .entry)) w n at) ⌝ }
+    ensures { λ r. ⌜ r ≡ risesUnder floor low (keysFrom (now (s .entry)) w n at) ⌝ }
 {
     if n == 0 {
         return true;
@@ -278,7 +278,7 @@ fn greater(a: u64, b: u64) -> u64
 // One pass over P: whether it rises from floor on, and its lowest and highest in rank order.
 fn points_of(s: &[u8], at: usize, n: usize, floor: u64) -> Points
     requires { ⌜ at + 12 * n ≤ length (now s) ⌝ }
-    ensures { λ r. ⌜ PointsAre floor (keysAt (now (s .entry)) 12 n at) r ⌝ }
+    ensures { λ r. ⌜ PointsAre floor (keysFrom (now (s .entry)) 12 n at) r ⌝ }
 {
     if n == 0 {
         return Points {
@@ -321,8 +321,8 @@ fn past(s: &[u8], at: usize, n: usize, from: usize, k: u64) -> usize
 
 // No key of the n spots from at on is one of the d identities from ad on; both rise.
 fn apart_ok(s: &[u8], at: usize, n: usize, ad: usize, d: usize) -> bool
-    requires { ⌜ (at + 12 * n ≤ length (now s)) × (ad + 8 * d ≤ length (now s)) × (rising (keysAt (now s) 12 n at) ≡ true) × (rising (keysAt (now s) 8 d ad) ≡ true) ⌝ }
-    ensures { λ r. ⌜ r ≡ apart (keysAt (now (s .entry)) 12 n at) (keysAt (now (s .entry)) 8 d ad) ⌝ }
+    requires { ⌜ (at + 12 * n ≤ length (now s)) × (ad + 8 * d ≤ length (now s)) × (rising (keysFrom (now s) 12 n at) ≡ true) × (rising (keysFrom (now s) 8 d ad) ≡ true) ⌝ }
+    ensures { λ r. ⌜ r ≡ apart (keysFrom (now (s .entry)) 12 n at) (keysFrom (now (s .entry)) 8 d ad) ⌝ }
 {
     let mut i = 0;
     let mut j = 0;

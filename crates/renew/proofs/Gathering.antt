@@ -11,12 +11,11 @@ use borrow.Author.Tests.{not-true, not-false}
 use Rattle.octets.specs.Lists.{rising, risingFrom}
 use Rattle.octets.proofs.Tests.{refuted}
 use Rattle.spot.specs.Query.{everything}
-use Rattle.spot.specs.Spots.{keys, spotsBytes, spotsIn}
+use Rattle.spot.specs.Spots.{keys, spotsBytes, spotsIn, keysFrom}
 use Rattle.spot.specs.declared.Spot.{Spot}
 use Rattle.spot.proofs.Buffers.{keys-records}
 use Rattle.spot.proofs.Stored.{length-spotsBytes}
 use Rattle.block.specs.Table.{capacity}
-use Rattle.block.specs.Checks.{keysAt}
 use Rattle.tree.specs.Walk.{walkTable, isBroken, spots, liveSpots}
 use Rattle.tree.proofs.Tables.{live-walk}
 use Rattle.query.specs.declared.Tally.{Tally}
@@ -72,14 +71,14 @@ module _ (t w w′ : List ℕ) (all : Tally) (r : ℕ) (few : all .spots ≤ cap
   list-is : spotsIn w′ (all .spots) ≡ liveSpots t
   list-is = ap (spotsIn w′) (count ∙ sym (got .0)) ∙ got .2 ∙ live-walk t
 
-  rises-are : risingFrom 0 (keysAt w′ 12 (all .spots) 0) ≡ rising (keys (liveSpots t))
+  rises-are : risingFrom 0 (keysFrom w′ 12 (all .spots) 0) ≡ rising (keys (liveSpots t))
   rises-are = ap rising (sym (keys-records w′ 12 (all .spots) 0)) ∙ ap (λ (ss : List Spot). rising (keys ss)) list-is
 
   -- an identity stands there twice
-  pub gather-twice : (q : Tally) (b : Bool) → q .ok ≡ false → b ≡ risingFrom 0 (keysAt w′ 12 (all .spots) 0) → b ≡ false → Gathered t w w′ q
+  pub gather-twice : (q : Tally) (b : Bool) → q .ok ≡ false → b ≡ risingFrom 0 (keysFrom w′ 12 (all .spots) 0) → b ≡ false → Gathered t w w′ q
   gather-twice q b f e h = gather-stops t w w′ q f lent-is rest-is (λ y. true≢false (sym (laid-rises (length t) (walkTable t everything) y) ∙ ap (λ (ss : List Spot). rising (keys ss)) (live-walk t) ∙ sym rises-are ∙ sym e ∙ h))
 
-  pub gather-all : (b : Bool) → b ≡ risingFrom 0 (keysAt w′ 12 (all .spots) 0) → b ≡ true → Gathered t w w′ all
+  pub gather-all : (b : Bool) → b ≡ risingFrom 0 (keysFrom w′ 12 (all .spots) 0) → b ≡ true → Gathered t w w′ all
   gather-all b e h =
       record {
         lent = lent-is;

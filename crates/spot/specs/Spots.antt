@@ -14,6 +14,10 @@ use Rattle.spot.specs.declared.Spot.{Spot}
 unfoldable pub keyAt : List ℕ → ℕ → ℕ
 keyAt s i = turned (be 4 s i) * word + turned (be 4 s (i + 4))
 
+-- the keys of n records of w bytes from index at on
+abbrev pub keysFrom : List ℕ → ℕ → ℕ → ℕ → List ℕ
+keysFrom s w n at = records (keyAt s) w n at
+
 -- "spots of 12 bytes: place, rank, track"
 unfoldable pub spotAt : List ℕ → ℕ → Spot
 spotAt s i = record { key = keyAt s i; track = be 4 s (i + 8) }

@@ -8,7 +8,6 @@ use Prim.Native.Nat.{ℕ, _<_, _≤_}
 use native.Mathlib.Omega.{arith}
 use lib.ListN.{length}
 use lib.Dec.{eqb}
-use borrow.Author.Tests.{eqb-true}
 use Rattle.octets.specs.Lists.{keep, has}
 use Rattle.octets.proofs.Tests.{and-left, keep-length}
 use Rattle.spot.specs.declared.Spot.{Spot}
@@ -32,7 +31,7 @@ use Rattle.update.specs.Change.{part, reaches, Sound, Changed}
 use Rattle.update.specs.Spare.{Taken}
 use Rattle.update.specs.Open.{under, Open}
 use Rattle.update.specs.Rounds.{Loop}
-use Rattle.update.proofs.Spread.{start, childAt, parts-one}
+use Rattle.update.proofs.Spread.{childAt, parts-one, first-low}
 use Rattle.update.proofs.Fill.{under-child, open-ends, open-fill-I, open-fill-both, open-fill-child, open-fill-dead}
 use Rattle.update.proofs.Spare.{lows-same}
 use Rattle.update.proofs.Best.{tops-bound, tops-none}
@@ -107,11 +106,7 @@ module _ (ni nd l lo hi : ℕ) (full : hi ≤ allKeys) (x : Store) (es₀ : List
     child-sound = going-child l lo hi x [] es₀ y [] r us vs e b f (p .going) .0
 
     pub child-low : e .low ≤ childAt lo hi us vs e .lo
-    child-low = go us (ap zeroFirst (p .sameLows) ∙ zero₀)
-      where
-        go : (us′ : List Entry) → zeroFirst (lows (us′ ++ (e ∷ vs))) ≡ true → e .low ≤ start lo us′ (e .low)
-        go [] z = let q = eqb-true (e .low) 0 z in omega arith
-        go (u ∷ us′) z = omega arith
+    child-low = first-low lo us vs e (ap zeroFirst (p .sameLows) ∙ zero₀)
 
     -- its top
     pub child-top : Top l y (childAt lo hi us vs e) (e .top)

@@ -6,10 +6,12 @@ use mathlib.Core.List.{List, [], _∷_, _++_, List·Memᴰ}
 use mathlib.Core.Option.{Option}
 use Prim.Native.Nat.{ℕ, _≤_}
 use native.Mathlib.Omega.{arith}
+use borrow.Author.Tests.{eqb-true}
 use Rattle.spot.specs.Keys.{within}
 use Rattle.spot.proofs.Places.{within-high, within-from, within-join}
 use Rattle.block.specs.declared.Entry.{Entry}
 use Rattle.block.specs.Node.{Store}
+use Rattle.block.specs.NodeRules.{lows, zeroFirst}
 use Rattle.block.specs.declared.Asked.the-variants.{Child}
 use Rattle.tree.specs.Part.{Part, nextLow, parts, Steps}
 use Rattle.tree.specs.Lookup.{down, lookup}
@@ -27,6 +29,11 @@ covers-parts lo hi e (f ∷ es) k h =
 abbrev pub start : ℕ → List Entry → ℕ → ℕ
 start lo [] h = lo
 start lo (u ∷ us) h = h
+
+-- a child's range doesn't begin before its entry says
+pub first-low : (lo : ℕ) (us vs : List Entry) (e : Entry) → zeroFirst (lows (us ++ (e ∷ vs))) ≡ true → e .low ≤ start lo us (e .low)
+first-low lo [] vs e z = let q = eqb-true (e .low) 0 z in omega arith
+first-low lo (u ∷ us) vs e z = omega arith
 
 nextLow-append : (us vs : List Entry) (hi : ℕ) → nextLow (us ++ vs) hi ≡ nextLow us (nextLow vs hi)
 nextLow-append [] vs hi = refl

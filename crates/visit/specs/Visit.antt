@@ -11,6 +11,7 @@ use Rattle.octets.specs.Lists.{has, keep, records, rising, isEmpty}
 use Rattle.octets.specs.Bytes.{be}
 use Rattle.spot.specs.Keys.{rankKey, allKeys}
 use Rattle.spot.specs.Spots.{keys, keyAt, spotAt}
+pub use Rattle.spot.specs.Spots.{keysFrom}
 use Rattle.spot.specs.Query.{wantsKey}
 use Rattle.spot.specs.declared.Spot.{Spot}
 use Rattle.spot.specs.declared.Query.{Query}
@@ -67,10 +68,6 @@ pub record ValidPath (t : List ℕ) (p : Path) : Type 0 where
 pub record Ancestors (t : List ℕ) (p : Path) (top : ℕ) : Type 0 where
   pub path : ValidPath t p
   pub over : (b : ℕ) → List·Memᴰ b (above p) → (k : ℕ) → List·Memᴰ k (keys (storeOf t b .points)) → top < rankKey k
-
--- the keys of n records of w bytes from at on
-abbrev pub keysFrom : List ℕ → ℕ → ℕ → ℕ → List ℕ
-keysFrom s w n at = records (keyAt s) w n at
 
 -- n records of w bytes from at on whose keys rise
 abbrev pub Ready : List ℕ → ℕ → ℕ → ℕ → Type 0
