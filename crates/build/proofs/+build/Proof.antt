@@ -48,8 +48,9 @@ parts :
     (t : ℕ) (c : lts.Else1 (cs t) (at t) build.Post Inv μ) →
     Under (c .before .before .before .before .args .fans .fan) (shapeOf (c .before .before .before .before .args .fans .next) 6 (c .before .before .before .before .args .fans .height - 1)) (c .before .before .before .before .args .n) (c .before .before .before .before .args .b) (blocksOf (length (c .before .before .before .before .args .t .now)))
 parts t c =
-    let a = c .before .before .before .before .args in
-    ready (a .t .now) (a .list .now) (a .from) (a .n) (a .fans .fan) (a .fans .next) (a .fans .height) (a .b) (c .before .before .before .before .pre .1) 0 (c .if1 .left)
+    let start = c .before .before .before .before in
+    let a = start .args in
+    ready (a .t .now) (a .list .now) (a .from) (a .n) (a .fans .fan) (a .fans .next) (a .fans .height) (a .b) (start .pre .1) 0 (c .if1 .left)
 
 no-entries-requires : (t : ℕ) → lts.Need-no-entries-requires (cs t) (at t) build.Post Inv μ
 no-entries-requires t c κs = search needs
@@ -63,7 +64,10 @@ same-length t c = search needs
 
 returns : (t : ℕ) → lts.Need-returns (cs t) (at t) build.Post Inv μ
 returns t c =
-    leaf-post _ _ _ _ _ _ _ _ (c .before .before .before .before .before .before .before .before .pre .1) _ (c .before .before .before .before .if1 .taken) (c .before .before .before .before .before .no-entries .result) (c .before .before .before .before .before .no-entries .ensures .1) (c .before .before .put-own .ensures)
+    let at-if1 = c .before .before .before .before in
+    let at-no-entries = at-if1 .before in
+    let start = at-no-entries .before .before .before in
+    leaf-post _ _ _ _ _ _ _ _ (start .pre .1) _ (at-if1 .if1 .taken) (at-no-entries .no-entries .result) (at-no-entries .no-entries .ensures .1) (c .before .before .put-own .ensures)
 
 choose-cut-requires : (t : ℕ) → lts.Need-choose-cut-requires (cs t) (at t) build.Post Inv μ
 choose-cut-requires t c κs = c .before .before .before .before .pre .1 .segment
@@ -135,7 +139,13 @@ loop-less t c = omega (arith, c .before .before .before .before .before .loop-te
 
 loop-again : (t : ℕ) → lts.Need-loop-again (cs t) (at t) build.Post Inv μ
 loop-again t c =
-    child-added _ _ _ _ _ _ _ _ (parts t (c .before .before .before .before .before .before .before .before .before .before)) (c .before .before .before .before .before .before .loop .inv) (c .before .before .before .before .before .loop-test .taken) (c .before .before .before .before .before .before .before .nodes-of .ensures .0) (c .before .before .before .before .before .before .before .before .limit-at .ensures) (c .before .before .before .build .ensures .0) (c .before .before .before .build .ensures .1) (c .add-entry .ensures .0) (c .add-entry .ensures .1)
+    let at-build = c .before .before .before in
+    let at-loop-test = at-build .before .before in
+    let at-loop = at-loop-test .before in
+    let at-nodes-of = at-loop .before in
+    let at-limit-at = at-nodes-of .before in
+    let at-here = at-limit-at .before .before in
+    child-added _ _ _ _ _ _ _ _ (parts t (at-here)) (at-loop .loop .inv) (at-loop-test .loop-test .taken) (at-nodes-of .nodes-of .ensures .0) (at-limit-at .limit-at .ensures) (at-build .build .ensures .0) (at-build .build .ensures .1) (c .add-entry .ensures .0) (c .add-entry .ensures .1)
 
 put-own-requires-2 : (t : ℕ) → lts.Need-put-own-requires-2 (cs t) (at t) build.Post Inv μ
 put-own-requires-2 t c κs =
@@ -146,7 +156,12 @@ same-length-2 t c = c .before .before .put-own2 .ensures .sized ∙ c .before .b
 
 returns-2 : (t : ℕ) → lts.Need-returns-2 (cs t) (at t) build.Post Inv μ
 returns-2 t c =
-    inner-post _ _ _ _ _ _ _ _ (c .before .before .before .before .before .before .before .before .before .before .before .before .before .pre .1) _ (c .before .before .before .before .before .before .before .before .before .if1 .left) _ _ refl (c .before .before .before .before .before .before .before .before .choose-cut .ensures) (c .before .before .before .before .before .loop .inv) (c .before .before .before .before .loop-test .left) (c .before .before .put-own2 .ensures)
+    let at-loop-test = c .before .before .before .before in
+    let at-loop = at-loop-test .before in
+    let at-choose-cut = at-loop .before .before .before in
+    let at-if1 = at-choose-cut .before in
+    let start = at-if1 .before .before .before .before in
+    inner-post _ _ _ _ _ _ _ _ (start .pre .1) _ (at-if1 .if1 .left) _ _ refl (at-choose-cut .choose-cut .ensures) (at-loop .loop .inv) (at-loop-test .loop-test .left) (c .before .before .put-own2 .ensures)
 
 pub +build-spec : {M : Type 1} → statement M
 +build-spec = close μ-height λ t. lts.spec (cs t) (at t) build.Post Inv μ

@@ -19,17 +19,24 @@ add-write-header c = search needs
 
 write-header-requires : tie.Need-write-header-requires
 write-header-requires c κs =
-    let p = c .before .before .before .before .before .before .before .before .before .before .pre in
-    let a = c .before .before .before .before .before .before .before .before .before .before .args in
-    header-ready (a .t .now) (a .list .now) (a .n) (p .0) (p .1) (p .2) (c .before .before .before .before .before .before .before .shape-of .result) (c .before .before .before .before .before .before .before .shape-of .ensures) {u = c .before .before .before .before .before .build .last .0} (c .before .before .before .before .before .build .ensures .0 .sized) (c .before .before .nodes-of .ensures .0)
+    let at-build = c .before .before .before .before .before in
+    let at-shape-of = at-build .before .before in
+    let start = at-shape-of .before .before .before in
+    let p = start .pre in
+    let a = start .args in
+    header-ready (a .t .now) (a .list .now) (a .n) (p .0) (p .1) (p .2) (at-shape-of .shape-of .result) (at-shape-of .shape-of .ensures) {u = at-build .build .last .0} (at-build .build .ensures .0 .sized) (c .before .before .nodes-of .ensures .0)
 
 same-length : tie.Need-same-length
 same-length c = search needs
 
 returns : tie.Need-returns
 returns c =
-    let p = c .before .before .before .before .before .before .before .before .before .before .before .before .before .pre in
-    rebuilt _ _ _ (p .0) (p .1) (p .2) _ (c .before .before .before .before .before .before .before .before .before .before .shape-of .ensures) (c .before .before .before .before .before .nodes-of .ensures .0) (c .before .before .before .before .before .before .before .before .build .ensures .0) (c .before .before .write-header .ensures)
+    let at-nodes-of = c .before .before .before .before .before in
+    let at-build = at-nodes-of .before .before .before in
+    let at-shape-of = at-build .before .before in
+    let start = at-shape-of .before .before .before in
+    let p = start .pre in
+    rebuilt _ _ _ (p .0) (p .1) (p .2) _ (at-shape-of .shape-of .ensures) (at-nodes-of .nodes-of .ensures .0) (at-build .build .ensures .0) (c .before .before .write-header .ensures)
 
 pub build-table-spec : {M : Type 1} → statement M
 build-table-spec =

@@ -26,7 +26,9 @@ same-length c = search needs
 
 returns : tie.Need-returns
 returns c =
-    head-says _ _ _ _ (c .before .before .before .before .before .before .write-numbers .last .0) _ (c .before .before .mark-to .last .0) (c .before .before .before .before .before .before .write-numbers .kept .0 ∙ c .before .before .before .before .before .before .before .before .before .pre .0) (c .before .before .before .before .before .before .write-numbers .ensures) (c .before .before .mark-to .ensures) refl
+    let at-write-numbers = c .before .before .before .before .before .before in
+    let start = at-write-numbers .before .before .before in
+    head-says _ _ _ _ (at-write-numbers .write-numbers .last .0) _ (c .before .before .mark-to .last .0) (at-write-numbers .write-numbers .kept .0 ∙ start .pre .0) (at-write-numbers .write-numbers .ensures) (c .before .before .mark-to .ensures) refl
 
 pub write-head-spec : {M : Type 1} → statement M
 write-head-spec =

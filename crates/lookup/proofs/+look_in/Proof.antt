@@ -169,7 +169,11 @@ look-in-requires t c κs = (omega (arith, kid-level (kid t (c .before .before)),
 
 returns-4 : (t : ℕ) → lts.Need-returns-4 (cs t) (at t) look-in.Post Inv μ
 returns-4 t c =
-    kid-says (kid t (c .before .before .before)) (c .before .before .before .before .before .before .before .before .before .before .before .before .before .node-says .ensures) (c .before .before .before .before .before .before .before .before .before .before .before .before .if2 .left) (c .before .before .before .before .before .before .before .before .before .before .before .if3 .left) (sym (c .before .before .holds .ensures) ∙ c .before .if4 .taken) (c .look-in .ensures)
+    let at-here = c .before .before .before in
+    let at-if3 = at-here .before .before .before .before .before .before .before .before in
+    let at-if2 = at-if3 .before in
+    let at-node-says = at-if2 .before in
+    kid-says (kid t (at-here)) (at-node-says .node-says .ensures) (at-if2 .if2 .left) (at-if3 .if3 .left) (sym (c .before .before .holds .ensures) ∙ c .before .if4 .taken) (c .look-in .ensures)
 
 add-i : (t : ℕ) → lts.Need-add-i (cs t) (at t) look-in.Post Inv μ
 add-i t c =
@@ -185,9 +189,13 @@ loop-again t c = (omega (arith, c .before .before .before .before .before .befor
 
 returns-5 : (t : ℕ) → lts.Need-returns-5 (cs t) (at t) look-in.Post Inv μ
 returns-5 t c =
-    let s = c .before .before .before .before .before .before .before .before .before .before in
+    let at-if3 = c .before .before .before .before in
+    let at-if2 = at-if3 .before in
+    let at-node-says = at-if2 .before in
+    let at-here = at-node-says .before .before .before .before in
+    let s = at-here in
     let a = s .args in
-    no-child (now (a .t)) (a .b) (a .level) (a .asked) (a .span) (a .k) (node t (c .before .before)) (c .before .before .before .before .before .before .node-says .ensures) (c .before .before .before .before .before .if2 .left) (c .before .before .before .before .if3 .left) (c .before .loop .inv .1) (omega (arith, count t (c .before .before), c .loop-test .left))
+    no-child (now (a .t)) (a .b) (a .level) (a .asked) (a .span) (a .k) (node t (c .before .before)) (at-node-says .node-says .ensures) (at-if2 .if2 .left) (at-if3 .if3 .left) (c .before .loop .inv .1) (omega (arith, count t (c .before .before), c .loop-test .left))
 
 pub +look-in-spec : {M : Type 1} → statement M
 +look-in-spec = close μ-level λ t. lts.spec (cs t)

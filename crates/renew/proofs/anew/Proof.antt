@@ -23,9 +23,11 @@ returns c = renew-broken _ _ (c .before .before .before .before .gather .ensures
 
 build-table-requires : tie.Need-build-table-requires
 build-table-requires c κs =
+    let at-gather = c .before .before .before .before .before .before in
+    let start = at-gather .before .before .before .before .before in
     let ok = not-false _ (c .before .before .if1 .left) in
-    let few = renew-few (c .before .before .before .before .before .before .before .before .before .before .before .pre .0) (c .before .before .before .before .before .before .before .before .before .before .before .pre .1) (c .before .before .before .before .before .before .gather .ensures) ok in
-    (c .before .before .before .before .before .before .before .before .before .before .before .pre .0, few, renew-segment (c .before .before .before .before .before .before .before .before .before .before .before .pre .0) (c .before .before .before .before .before .before .before .before .before .before .before .pre .1) (c .before .before .before .before .before .before .gather .ensures) ok (λ (l : List Spot). l) (amended-none _ _) few (λ u. u))
+    let few = renew-few (start .pre .0) (start .pre .1) (at-gather .gather .ensures) ok in
+    (start .pre .0, few, renew-segment (start .pre .0) (start .pre .1) (at-gather .gather .ensures) ok (λ (l : List Spot). l) (amended-none _ _) few (λ u. u))
 
 same-length-3 : tie.Need-same-length-3
 same-length-3 c = search needs
@@ -34,7 +36,11 @@ same-length-4 : tie.Need-same-length-4
 same-length-4 c = search needs
 
 returns-2 : tie.Need-returns-2
-returns-2 c = renew-built (c .before .before .before .before .before .before .before .before .before .before .before .before .before .before .pre .0) (c .before .before .before .before .before .before .before .before .before .before .before .before .before .before .pre .1) (c .before .before .before .before .before .before .before .before .before .gather .ensures) (not-false _ (c .before .before .before .before .before .if1 .left)) (λ (l : List Spot). l) (amended-none _ _) refl (c .before .before .build-table .ensures)
+returns-2 c =
+    let at-if1 = c .before .before .before .before .before in
+    let at-gather = at-if1 .before .before .before .before in
+    let start = at-gather .before .before .before .before .before in
+    renew-built (start .pre .0) (start .pre .1) (at-gather .gather .ensures) (not-false _ (at-if1 .if1 .left)) (λ (l : List Spot). l) (amended-none _ _) refl (c .before .before .build-table .ensures)
 
 pub anew-spec : {M : Type 1} → statement M
 anew-spec =

@@ -31,9 +31,13 @@ returns-2 c =
 
 collect-table-requires : tie.Need-collect-table-requires
 collect-table-requires c κs =
-    let few : c .before .before .before .before .before .before .before .count-table .result .spots ≤ capacity (length (now (c .before .before .before .before .before .before .before .before .before .before .before .args .table))) = omega (arith, c .before .before .before .capacity-of .ensures) in
-    let ok = not-false _ (c .before .before .before .before .if1 .left) in
-    (c .before .before .before .before .before .before .before .before .before .before .before .pre .0, not-true _ (sym (c .before .before .before .before .before .before .before .count-table .ensures .ok) ∙ ok), omega (arith, few, c .before .before .before .before .before .before .before .count-table .ensures .spots ok, c .before .before .before .before .before .before .before .before .before .before .before .pre .1))
+    let at-capacity-of = c .before .before .before in
+    let at-if1 = at-capacity-of .before in
+    let at-count-table = at-if1 .before .before .before in
+    let start = at-count-table .before .before .before .before in
+    let few : at-count-table .count-table .result .spots ≤ capacity (length (now (start .args .table))) = omega (arith, at-capacity-of .capacity-of .ensures) in
+    let ok = not-false _ (at-if1 .if1 .left) in
+    (start .pre .0, not-true _ (sym (at-count-table .count-table .ensures .ok) ∙ ok), omega (arith, few, at-count-table .count-table .ensures .spots ok, start .pre .1))
 
 rises-requires : tie.Need-rises-requires
 rises-requires c κs = search needs
@@ -43,18 +47,28 @@ same-length c = search needs
 
 returns-3 : tie.Need-returns-3
 returns-3 c =
-    let few : c .before .before .before .before .before .before .before .before .before .before .before .before .before .count-table .result .spots ≤ capacity (length (now (c .before .before .before .before .before .before .before .before .before .before .before .before .before .before .before .before .before .args .table))) = omega (arith, c .before .before .before .before .before .before .before .before .before .capacity-of .ensures) in
-    let ok = not-false _ (c .before .before .before .before .before .before .before .before .before .before .if1 .left) in
-    gather-twice _ _ _ (c .before .before .before .before .before .before .before .before .before .before .before .before .before .count-table .result) _ few (c .before .before .before .before .before .before .before .before .before .before .before .before .before .count-table .ensures .ok) ok (c .before .before .before .before .before .before .before .before .before .before .before .before .before .count-table .ensures .spots ok) (c .before .before .before .before .before .collect-table .ensures) (c .before .before .before .before .before .before .before .before .before .before .before .before .before .before .before .before .before .pre .1) _ _ refl (c .before .rises .ensures) (not-true _ (c .if3 .taken))
+    let at-collect-table = c .before .before .before .before .before in
+    let at-capacity-of = at-collect-table .before .before .before .before in
+    let at-if1 = at-capacity-of .before in
+    let at-count-table = at-if1 .before .before .before in
+    let start = at-count-table .before .before .before .before in
+    let few : at-count-table .count-table .result .spots ≤ capacity (length (now (start .args .table))) = omega (arith, at-capacity-of .capacity-of .ensures) in
+    let ok = not-false _ (at-if1 .if1 .left) in
+    gather-twice _ _ _ (at-count-table .count-table .result) _ few (at-count-table .count-table .ensures .ok) ok (at-count-table .count-table .ensures .spots ok) (at-collect-table .collect-table .ensures) (start .pre .1) _ _ refl (c .before .rises .ensures) (not-true _ (c .if3 .taken))
 
 same-length-2 : tie.Need-same-length-2
 same-length-2 c = search needs
 
 returns-4 : tie.Need-returns-4
 returns-4 c =
-    let few : c .before .before .before .before .before .before .before .before .before .before .before .before .before .count-table .result .spots ≤ capacity (length (now (c .before .before .before .before .before .before .before .before .before .before .before .before .before .before .before .before .before .args .table))) = omega (arith, c .before .before .before .before .before .before .before .before .before .capacity-of .ensures) in
-    let ok = not-false _ (c .before .before .before .before .before .before .before .before .before .before .if1 .left) in
-    gather-all _ _ _ (c .before .before .before .before .before .before .before .before .before .before .before .before .before .count-table .result) _ few (c .before .before .before .before .before .before .before .before .before .before .before .before .before .count-table .ensures .ok) ok (c .before .before .before .before .before .before .before .before .before .before .before .before .before .count-table .ensures .spots ok) (c .before .before .before .before .before .collect-table .ensures) (c .before .before .before .before .before .before .before .before .before .before .before .before .before .before .before .before .before .pre .1) _ (c .before .rises .ensures) (not-false _ (c .if3 .left))
+    let at-collect-table = c .before .before .before .before .before in
+    let at-capacity-of = at-collect-table .before .before .before .before in
+    let at-if1 = at-capacity-of .before in
+    let at-count-table = at-if1 .before .before .before in
+    let start = at-count-table .before .before .before .before in
+    let few : at-count-table .count-table .result .spots ≤ capacity (length (now (start .args .table))) = omega (arith, at-capacity-of .capacity-of .ensures) in
+    let ok = not-false _ (at-if1 .if1 .left) in
+    gather-all _ _ _ (at-count-table .count-table .result) _ few (at-count-table .count-table .ensures .ok) ok (at-count-table .count-table .ensures .spots ok) (at-collect-table .collect-table .ensures) (start .pre .1) _ (c .before .rises .ensures) (not-false _ (c .if3 .left))
 
 pub gather-spec : {M : Type 1} → statement M
 gather-spec =

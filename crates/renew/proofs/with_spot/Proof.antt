@@ -28,7 +28,10 @@ returns : tie.Need-returns
 returns c = renew-broken _ _ (c .before .before .before .before .gather .ensures) (not-true _ (c .if1 .taken))
 
 put-in-requires : tie.Need-put-in-requires
-put-in-requires c κs = renew-amendable (c .before .before .before .before .before .before .before .before .before .before .pre .0) (c .before .before .before .before .before .before .before .before .before .before .pre .1) (c .before .before .before .before .before .gather .ensures) (not-false _ (c .before .if1 .left))
+put-in-requires c κs =
+    let at-gather = c .before .before .before .before .before in
+    let start = at-gather .before .before .before .before .before in
+    renew-amendable (start .pre .0) (start .pre .1) (at-gather .gather .ensures) (not-false _ (c .before .if1 .left))
 
 capacity-of-requires : tie.Need-capacity-of-requires
 capacity-of-requires c κs = search needs
@@ -41,13 +44,22 @@ same-length-4 c = search needs
 
 returns-2 : tie.Need-returns-2
 returns-2 c =
-    let many : capacity (length (now (c .before .before .before .before .before .before .before .before .before .before .before .before .before .before .before .args .table))) < c .before .before .before .before .put-in .result = omega (arith, c .before .capacity-of .ensures) in
-    renew-full (c .before .before .before .before .before .before .before .before .before .before .before .before .before .before .before .pre .0) (c .before .before .before .before .before .before .before .before .before .before .before .before .before .before .before .pre .1) (c .before .before .before .before .before .before .before .before .before .before .gather .ensures) (not-false _ (c .before .before .before .before .before .before .if1 .left)) (λ (l : List Spot). put (c .before .before .before .before .before .before .before .before .before .before .before .before .before .before .before .args .s) (without (c .before .before .before .before .before .before .before .before .before .before .before .before .before .before .before .args .s .key) l)) (c .before .before .before .before .put-in .ensures) many
+    let at-put-in = c .before .before .before .before in
+    let at-if1 = at-put-in .before .before in
+    let at-gather = at-if1 .before .before .before .before in
+    let start = at-gather .before .before .before .before .before in
+    let many : capacity (length (now (start .args .table))) < at-put-in .put-in .result = omega (arith, c .before .capacity-of .ensures) in
+    renew-full (start .pre .0) (start .pre .1) (at-gather .gather .ensures) (not-false _ (at-if1 .if1 .left)) (λ (l : List Spot). put (start .args .s) (without (start .args .s .key) l)) (at-put-in .put-in .ensures) many
 
 build-table-requires : tie.Need-build-table-requires
 build-table-requires c κs =
-    let few : c .before .before .before .before .before .before .put-in .result ≤ capacity (length (now (c .before .before .before .before .before .before .before .before .before .before .before .before .before .before .before .before .before .args .table))) = omega (arith, c .before .before .before .capacity-of .ensures) in
-    (c .before .before .before .before .before .before .before .before .before .before .before .before .before .before .before .before .before .pre .0, few, renew-segment (c .before .before .before .before .before .before .before .before .before .before .before .before .before .before .before .before .before .pre .0) (c .before .before .before .before .before .before .before .before .before .before .before .before .before .before .before .before .before .pre .1) (c .before .before .before .before .before .before .before .before .before .before .before .before .gather .ensures) (not-false _ (c .before .before .before .before .before .before .before .before .if1 .left)) (λ (l : List Spot). put (c .before .before .before .before .before .before .before .before .before .before .before .before .before .before .before .before .before .args .s) (without (c .before .before .before .before .before .before .before .before .before .before .before .before .before .before .before .before .before .args .s .key) l)) (c .before .before .before .before .before .before .put-in .ensures) few (replaced-rises (c .before .before .before .before .before .before .before .before .before .before .before .before .before .before .before .before .before .args .s) _))
+    let at-capacity-of = c .before .before .before in
+    let at-put-in = at-capacity-of .before .before .before in
+    let at-if1 = at-put-in .before .before in
+    let at-gather = at-if1 .before .before .before .before in
+    let start = at-gather .before .before .before .before .before in
+    let few : at-put-in .put-in .result ≤ capacity (length (now (start .args .table))) = omega (arith, at-capacity-of .capacity-of .ensures) in
+    (start .pre .0, few, renew-segment (start .pre .0) (start .pre .1) (at-gather .gather .ensures) (not-false _ (at-if1 .if1 .left)) (λ (l : List Spot). put (start .args .s) (without (start .args .s .key) l)) (at-put-in .put-in .ensures) few (replaced-rises (start .args .s) _))
 
 same-length-5 : tie.Need-same-length-5
 same-length-5 c = search needs

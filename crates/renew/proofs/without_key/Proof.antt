@@ -22,12 +22,19 @@ returns : tie.Need-returns
 returns c = renew-broken _ _ (c .before .before .before .before .gather .ensures) (not-true _ (c .if1 .taken))
 
 take-out-requires : tie.Need-take-out-requires
-take-out-requires c κs = renew-amendable (c .before .before .before .before .before .before .before .before .before .before .pre .0) (c .before .before .before .before .before .before .before .before .before .before .pre .1) (c .before .before .before .before .before .gather .ensures) (not-false _ (c .before .if1 .left))
+take-out-requires c κs =
+    let at-gather = c .before .before .before .before .before in
+    let start = at-gather .before .before .before .before .before in
+    renew-amendable (start .pre .0) (start .pre .1) (at-gather .gather .ensures) (not-false _ (c .before .if1 .left))
 
 build-table-requires : tie.Need-build-table-requires
 build-table-requires c κs =
-    let few = out-few (c .before .before .before .before .before .before .before .before .before .before .before .before .before .before .before .pre .0) (c .before .before .before .before .before .before .before .before .before .before .before .before .before .before .before .pre .1) (c .before .before .before .before .before .before .before .before .before .before .gather .ensures) (not-false _ (c .before .before .before .before .before .before .if1 .left)) (c .before .before .before .before .before .before .before .before .before .before .before .before .before .before .before .args .k) (c .before .before .before .before .take-out .ensures) in
-    (c .before .before .before .before .before .before .before .before .before .before .before .before .before .before .before .pre .0, few, renew-segment (c .before .before .before .before .before .before .before .before .before .before .before .before .before .before .before .pre .0) (c .before .before .before .before .before .before .before .before .before .before .before .before .before .before .before .pre .1) (c .before .before .before .before .before .before .before .before .before .before .gather .ensures) (not-false _ (c .before .before .before .before .before .before .if1 .left)) (without (c .before .before .before .before .before .before .before .before .before .before .before .before .before .before .before .args .k)) (c .before .before .before .before .take-out .ensures) few (without-rises 0 (c .before .before .before .before .before .before .before .before .before .before .before .before .before .before .before .args .k) _))
+    let at-take-out = c .before .before .before .before in
+    let at-if1 = at-take-out .before .before in
+    let at-gather = at-if1 .before .before .before .before in
+    let start = at-gather .before .before .before .before .before in
+    let few = out-few (start .pre .0) (start .pre .1) (at-gather .gather .ensures) (not-false _ (at-if1 .if1 .left)) (start .args .k) (at-take-out .take-out .ensures) in
+    (start .pre .0, few, renew-segment (start .pre .0) (start .pre .1) (at-gather .gather .ensures) (not-false _ (at-if1 .if1 .left)) (without (start .args .k)) (at-take-out .take-out .ensures) few (without-rises 0 (start .args .k) _))
 
 same-length-3 : tie.Need-same-length-3
 same-length-3 c = search needs
@@ -36,7 +43,12 @@ same-length-4 : tie.Need-same-length-4
 same-length-4 c = search needs
 
 returns-2 : tie.Need-returns-2
-returns-2 c = renew-built (c .before .before .before .before .before .before .before .before .before .before .before .before .before .before .before .before .before .before .pre .0) (c .before .before .before .before .before .before .before .before .before .before .before .before .before .before .before .before .before .before .pre .1) (c .before .before .before .before .before .before .before .before .before .before .before .before .before .gather .ensures) (not-false _ (c .before .before .before .before .before .before .before .before .before .if1 .left)) (without (c .before .before .before .before .before .before .before .before .before .before .before .before .before .before .before .before .before .before .args .k)) (c .before .before .before .before .before .before .before .take-out .ensures) refl (c .before .before .build-table .ensures)
+returns-2 c =
+    let at-take-out = c .before .before .before .before .before .before .before in
+    let at-if1 = at-take-out .before .before in
+    let at-gather = at-if1 .before .before .before .before in
+    let start = at-gather .before .before .before .before .before in
+    renew-built (start .pre .0) (start .pre .1) (at-gather .gather .ensures) (not-false _ (at-if1 .if1 .left)) (without (start .args .k)) (at-take-out .take-out .ensures) refl (c .before .before .build-table .ensures)
 
 pub without-key-spec : {M : Type 1} → statement M
 without-key-spec =

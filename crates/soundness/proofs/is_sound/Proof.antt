@@ -34,7 +34,13 @@ bound-of-requires c κs =
 
 returns-3 : tie.Need-returns-3
 returns-3 c =
-    count-decides (now (c .before .before .before .before .before .before .before .before .before .before .args .t)) (sym (c .before .before .before .before .before .before .before .before .header-ok .ensures) ∙ not-false _ (c .before .before .before .before .before .before .before .if1 .left)) (sym (c .before .before .before .before .before .before .tree-ok .ensures) ∙ not-false _ (c .before .before .before .before .before .if2 .left)) (c .before .before .before .count-table .ensures)
+    let at-count-table = c .before .before .before in
+    let at-if2 = at-count-table .before .before in
+    let at-tree-ok = at-if2 .before in
+    let at-if1 = at-tree-ok .before in
+    let at-header-ok = at-if1 .before in
+    let start = at-header-ok .before .before in
+    count-decides (now (start .args .t)) (sym (at-header-ok .header-ok .ensures) ∙ not-false _ (at-if1 .if1 .left)) (sym (at-tree-ok .tree-ok .ensures) ∙ not-false _ (at-if2 .if2 .left)) (at-count-table .count-table .ensures)
     (c .before .bound-of .ensures .0)
 
 pub is-sound-spec : {M : Type 1} → statement M

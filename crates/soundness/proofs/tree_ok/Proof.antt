@@ -41,9 +41,14 @@ sound-walk-requires c κs =
 
 returns : tie.Need-returns
 returns c =
-    let s = c .before .before .before .before .before .before .before .before in
-    tree-no (now (s .args .t)) (s .pre) (λ i. omega (arith, c .before .before .before .before .before .before .before .shared-slice-known .given i)) (c .before .before .before .root-span .result) refl (c .before .before .before .before .before .before .root-of .ensures .0) (c .before .before .before .before .before .levels-of .ensures .0) (c .before .before .before .root-span .ensures .0)
-    (c .before .before .before .root-span .ensures .1)
+    let at-root-span = c .before .before .before in
+    let at-levels-of = at-root-span .before .before in
+    let at-root-of = at-levels-of .before in
+    let at-shared-slice-known = at-root-of .before in
+    let at-here = at-shared-slice-known .before in
+    let s = at-here in
+    tree-no (now (s .args .t)) (s .pre) (λ i. omega (arith, at-shared-slice-known .shared-slice-known .given i)) (at-root-span .root-span .result) refl (at-root-of .root-of .ensures .0) (at-levels-of .levels-of .ensures .0) (at-root-span .root-span .ensures .0)
+    (at-root-span .root-span .ensures .1)
     (c .before .before .sound-walk .ensures)
     (not-true _ (c .if1 .taken))
 
@@ -72,12 +77,20 @@ same-map-requires c κs = search needs
 
 returns-2 : tie.Need-returns-2
 returns-2 c =
-    let s = c .before .before .before .before .before .before .before .before .before .before .before .before .before .before in
-    tree-yes (now (s .args .t)) (s .pre) (λ i. omega (arith, c .before .before .before .before .before .before .before .before .before .before .before .before .before .shared-slice-known .given i)) (c .before .before .before .before .before .before .before .before .before .root-span .result) refl (c .before .before .before .before .before .before .before .before .before .before .before .before .root-of .ensures .0) (c .before .before .before .before .before .before .before .before .before .before .before .levels-of .ensures .0) (c .before .before .before .before .before .before .before .before .before .root-span .ensures .0)
-    (c .before .before .before .before .before .before .before .before .before .root-span .ensures .1)
-    (c .before .before .before .before .before .before .before .before .sound-walk .ensures)
-    (not-false _ (c .before .before .before .before .before .before .if1 .left))
-    (c .before .before .before .before .set-bit .ensures)
+    let at-set-bit = c .before .before .before .before in
+    let at-if1 = at-set-bit .before .before in
+    let at-sound-walk = at-if1 .before .before in
+    let at-root-span = at-sound-walk .before in
+    let at-levels-of = at-root-span .before .before in
+    let at-root-of = at-levels-of .before in
+    let at-shared-slice-known = at-root-of .before in
+    let at-here = at-shared-slice-known .before in
+    let s = at-here in
+    tree-yes (now (s .args .t)) (s .pre) (λ i. omega (arith, at-shared-slice-known .shared-slice-known .given i)) (at-root-span .root-span .result) refl (at-root-of .root-of .ensures .0) (at-levels-of .levels-of .ensures .0) (at-root-span .root-span .ensures .0)
+    (at-root-span .root-span .ensures .1)
+    (at-sound-walk .sound-walk .ensures)
+    (not-false _ (at-if1 .if1 .left))
+    (at-set-bit .set-bit .ensures)
     (c .same-map .ensures)
 
 pub tree-ok-spec : {M : Type 1} → statement M

@@ -36,7 +36,14 @@ loop-less : tie.Need-loop-less Inv-loop μ-loop
 loop-less c = omega (arith, c .one-more .ensures .0, c .before .before .before .before .before .before .before .before .if1 .taken)
 
 loop-again : tie.Need-loop-again Inv-loop μ-loop
-loop-again c = found-more _ _ _ _ _ _ _ (c .before .before .before .before .before .before .before .before .before .before .loop .inv) (c .before .before .before .before .before .before .first-clear .ensures) (c .before .before .before .before .before .if2 .left) (c .before .before .before .before .before .before .before .before .before .before .before .before .pre .1) (c .before .before .before .before .before .before .before .before .before .before .before .before .pre .0) (c .before .before .before .before .before .before .before .before .if1 .taken) (c .before .before .before .set-bit .ensures) (c .one-more .ensures .0) (c .one-more .ensures .1)
+loop-again c =
+    let at-set-bit = c .before .before .before in
+    let at-if2 = at-set-bit .before .before in
+    let at-first-clear = at-if2 .before in
+    let at-if1 = at-first-clear .before .before in
+    let at-loop = at-if1 .before .before in
+    let start = at-loop .before .before in
+    found-more _ _ _ _ _ _ _ (at-loop .loop .inv) (at-first-clear .first-clear .ensures) (at-if2 .if2 .left) (start .pre .1) (start .pre .0) (at-if1 .if1 .taken) (at-set-bit .set-bit .ensures) (c .one-more .ensures .0) (c .one-more .ensures .1)
 
 same-length-2 : tie.Need-same-length-2 Inv-loop μ-loop
 same-length-2 c = c .before .before .loop .inv .sized

@@ -28,7 +28,10 @@ find-clear-requires : tie.Need-find-clear-requires
 find-clear-requires c κs = (search needs, head-facts _ _ (c .before .before .before .before .before .before .pre) .blocks-most)
 
 returns : tie.Need-returns
-returns c = spare-in (c .before .before .before .before .before .before .before .before .args .t .now) (c .before .before .before .before .copy .last .1 .0) _ (c .before .before .before .before .before .before .before .before .pre) (copied (c .before .before .before .before .before .before .before .before .args .t .now) _ (c .before .before .before .before .copy .ensures)) (c .before .find-clear .ensures)
+returns c =
+    let at-copy = c .before .before .before .before in
+    let start = at-copy .before .before .before .before in
+    spare-in (start .args .t .now) (at-copy .copy .last .1 .0) _ (start .pre) (copied (start .args .t .now) _ (at-copy .copy .ensures)) (c .before .find-clear .ensures)
 
 pub spare-blocks-spec : {M : Type 1} → statement M
 spare-blocks-spec =
