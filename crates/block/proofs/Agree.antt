@@ -34,7 +34,7 @@ module _ (t x : ℕ) (xs : List ℕ) (st : t < allKeys) (ss : (k : ℕ) → List
       let r = Memᴰ·of-map rankKey ks i in
       mem-has t ks (Memᴰ·cast (rank-inj t (r .0) st (ss (r .0) (r .1)) (sym (r .2))) (r .1))
 
-  pub highest-is : isHighest t ks ≡ eqb (rankKey t) (maximum (map rankKey ks))
+  highest-is : isHighest t ks ≡ eqb (rankKey t) (maximum (map rankKey ks))
   highest-is =
       bool-ext (isHighest t ks) (eqb (rankKey t) (maximum (map rankKey ks)))
       (λ h. eq-eqb _ _ (max-is (map rankKey ks) (rankKey t) (Memᴰ·map rankKey (has-mem t ks (all-at _ h 0))) (λ y i. most (all-at _ h 1) y i)))
@@ -70,7 +70,7 @@ module _ (t x : ℕ) (xs : List ℕ) (st : t < allKeys) (ss : (k : ℕ) → List
           let r = Memᴰ·of-map rankKey ks i in
           subst (λ (m : ℕ). rankKey t ≤ m) (r .2) (leb-true _ _ (every-mem (λ k. leb (rankKey t) (rankKey k)) ks h (r .1)))
 
-  pub lowest-is : isLowest t ks ≡ eqb (rankKey t) (minimum lastKey (map rankKey ks))
+  lowest-is : isLowest t ks ≡ eqb (rankKey t) (minimum lastKey (map rankKey ks))
   lowest-is =
       let b : rankKey x < 18446744073709551616 = rank-small x (ss x (List·Memᴰ·head refl)) in
       lowest-least ∙ ap (eqb (rankKey t)) (least-last (rankKey x) (map rankKey xs) (omega arith))

@@ -24,7 +24,7 @@ apart-test xs ys o = every-make (λ x. not (has x ys)) xs (λ x i. ap not (has-n
 pub apart-fact : (xs ys : List ℕ) → apart xs ys ≡ true → Apart xs ys
 apart-fact xs ys h z i j = not-has-mem z ys (not-true (has z ys) (every-mem (λ x. not (has x ys)) xs h i)) j
 
-pub apart-nil : (xs : List ℕ) → apart xs [] ≡ true
+apart-nil : (xs : List ℕ) → apart xs [] ≡ true
 apart-nil [] = refl
 apart-nil (x ∷ xs) = apart-nil xs
 
@@ -35,14 +35,14 @@ skip y a ys (z ∷ zs) p h =
     rw (ne-eqb z y (λ e. omega arith), skip y (suc z) ys zs (rising-rest a z zs p) (omega arith))
 
 -- the lower of the two first numbers goes
-pub apart-left : (x y : ℕ) (xs ys : List ℕ) → rising (y ∷ ys) ≡ true → x < y → apart (x ∷ xs) (y ∷ ys) ≡ apart xs (y ∷ ys)
+apart-left : (x y : ℕ) (xs ys : List ℕ) → rising (y ∷ ys) ≡ true → x < y → apart (x ∷ xs) (y ∷ ys) ≡ apart xs (y ∷ ys)
 apart-left x y xs ys p h = rw (ne-eqb x y (λ e. omega arith), has-not x ys (λ i. let l : suc y ≤ x = rising-least (suc y) ys (rising-rest 0 y ys p) i in omega arith))
 
-pub apart-right : (x y : ℕ) (xs ys : List ℕ) → rising (x ∷ xs) ≡ true → y < x → apart (x ∷ xs) (y ∷ ys) ≡ apart (x ∷ xs) ys
+apart-right : (x y : ℕ) (xs ys : List ℕ) → rising (x ∷ xs) ≡ true → y < x → apart (x ∷ xs) (y ∷ ys) ≡ apart (x ∷ xs) ys
 apart-right x y xs ys p h =
     skip y x ys (x ∷ xs) (rising-make x x xs (omega arith) (rising-rest 0 x xs p)) h
 
-pub apart-meet : (x y : ℕ) (xs ys : List ℕ) → x ≡ y → apart (x ∷ xs) (y ∷ ys) ≡ false
+apart-meet : (x y : ℕ) (xs ys : List ℕ) → x ≡ y → apart (x ∷ xs) (y ∷ ys) ≡ false
 apart-meet x y xs ys e = rw (eq-eqb x y e)
 
 -- ---- the walk
@@ -92,7 +92,7 @@ module _ (s : List ℕ) (n at d ad : ℕ) where
     pub apart-stop : a ≡ b → false ≡ goal
     apart-stop e = sym (both-cons ∙ apart-meet a b (many (i + 1)) (few (j + 1)) e)
 
-    pub apart-next : a < b → ApartInv (i + 1) j
+    apart-next : a < b → ApartInv (i + 1) j
     apart-next h =
         record {
           same = both-cons ∙ apart-left a b (many (i + 1)) (few (j + 1)) rise-y h ∙ ap (apart (many (i + 1))) (sym y-cons);

@@ -410,7 +410,7 @@ module _ (s : List ℕ) (blocks level : ℕ) (a : Asked) (keys64 : keyed a ≡ t
       bool-ext (frontFine level (fewest a) head and bodyFine s blocks a head) (nodeOk level a node) (λ q. from-all (fst _ _ q) (snd _ _ q)) (λ q. pair (to-head q) (to-body q))
 
 -- the node of a block passes exactly if its front and its body pass
-pub node-is : (s : List ℕ) (blocks level : ℕ) (a : Asked) → keyed a ≡ true
+node-is : (s : List ℕ) (blocks level : ℕ) (a : Asked) → keyed a ≡ true
     → (frontFine level (fewest a) (frontOf s) and bodyFine s blocks a (frontOf s)) ≡ nodeOk level a (nodeOf blocks s)
 unfolding frontOf nodeOf
 node-is s blocks level a k = same s blocks level a k (be 1 s 7) (be 1 s 4) (be 1 s 5) (be 1 s 6)

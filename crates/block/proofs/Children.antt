@@ -145,7 +145,7 @@ module _ (s : List ℕ) (floor : ℕ) where
           let p : at + 28 + 4 ≡ at + 32 = omega arith in
           ap (λ (j : ℕ). ltb k (keyAt s j)) p ∙ sym (ap (λ (z : Bool). z || ltb k (keyAt s (at + 32))) (lt-leb end (at + 28) (omega arith)))
 
-  pub credible-all : (c : ℕ) → every (leb floor) (keysFrom s 28 (c - 1) 40) ≡ true
+  credible-all : (c : ℕ) → every (leb floor) (keysFrom s 28 (c - 1) 40) ≡ true
       → allCredible floor (firstOpen (records (entryAt s) 28 c 8)) ≡ all (records (credibleAt floor (8 + 28 * c) s) 28 c 8)
   unfolding all entryAt
   credible-all zero q = refl

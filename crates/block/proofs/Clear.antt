@@ -20,14 +20,14 @@ use Rattle.block.specs.Checks.{isZero}
 
 -- ---- a test of the elements from one on, by their indices
 
-pub every-from : (f : ℕ → Bool) (a : ℕ) (m : List ℕ) → ((q : ℕ) → a ≤ q → q < length m → f (getD m q 0) ≡ true) → every f (drop a m) ≡ true
+every-from : (f : ℕ → Bool) (a : ℕ) (m : List ℕ) → ((q : ℕ) → a ≤ q → q < length m → f (getD m q 0) ≡ true) → every f (drop a m) ≡ true
 every-from f zero [] h = refl
 every-from f zero (x ∷ xs) h =
     and-both _ _ (h 0 (omega arith) (omega arith)) (every-from f zero xs (λ q a b. h (suc q) (omega arith) (omega arith)))
 every-from f (suc a) [] h = refl
 every-from f (suc a) (x ∷ xs) h = every-from f a xs (λ q l b. h (suc q) (omega arith) (omega arith))
 
-pub from-every : (f : ℕ → Bool) (a : ℕ) (m : List ℕ) (q : ℕ) → every f (drop a m) ≡ true → a ≤ q → q < length m → f (getD m q 0) ≡ true
+from-every : (f : ℕ → Bool) (a : ℕ) (m : List ℕ) (q : ℕ) → every f (drop a m) ≡ true → a ≤ q → q < length m → f (getD m q 0) ≡ true
 from-every f a m q h l g =
     let e : a + (q - a) ≡ q = omega arith in
     let d : getD (drop a m) (q - a) 0 ≡ getD m q 0 = getD-drop a m (q - a) 0 ∙ ap (λ (k : ℕ). getD m k 0) e in

@@ -45,25 +45,25 @@ module _ (list : List ℕ) (from n c t : ℕ) where
   abbrev pub after : ℕ → List Spot
   after i = band c t (left (spotAt list) 12 n (12 * from) i)
 
-  pub after-all : band c t (spotsFrom list from n) ≡ after 0
+  after-all : band c t (spotsFrom list from n) ≡ after 0
   after-all = ap (band c t) (left-all (spotAt list) 12 n (12 * from))
 
-  pub after-none : (i : ℕ) → n ≤ i → after i ≡ []
+  after-none : (i : ℕ) → n ≤ i → after i ≡ []
   unfolding band
   after-none i h = ap (band c t) (left-none (spotAt list) 12 n (12 * from) i h)
 
   -- the i-th is in it, or it isn't
-  pub after-step : (i : ℕ) → i < n
+  after-step : (i : ℕ) → i < n
       → after i ≡ cond (within c t (rankKey (keyAt list (12 * (from + i))))) (spotAt list (12 * (from + i)) ∷ after (i + 1)) (after (i + 1))
   unfolding band spotAt
   after-step i h =
       let e : 12 * (from + i) ≡ 12 * from + 12 * i = omega arith in
       rw e (ap (band c t) (left-cons (spotAt list) 12 n (12 * from) i h))
 
-  pub after-in : (i : ℕ) → i < n → within c t (rankKey (keyAt list (12 * (from + i)))) ≡ true → after i ≡ spotAt list (12 * (from + i)) ∷ after (i + 1)
+  after-in : (i : ℕ) → i < n → within c t (rankKey (keyAt list (12 * (from + i)))) ≡ true → after i ≡ spotAt list (12 * (from + i)) ∷ after (i + 1)
   after-in i h e = after-step i h ∙ ap (λ (b : Bool). cond b (spotAt list (12 * (from + i)) ∷ after (i + 1)) (after (i + 1))) e
 
-  pub after-out : (i : ℕ) → i < n → within c t (rankKey (keyAt list (12 * (from + i)))) ≡ false → after i ≡ after (i + 1)
+  after-out : (i : ℕ) → i < n → within c t (rankKey (keyAt list (12 * (from + i)))) ≡ false → after i ≡ after (i + 1)
   after-out i h e = after-step i h ∙ ap (λ (b : Bool). cond b (spotAt list (12 * (from + i)) ∷ after (i + 1)) (after (i + 1))) e
 
   -- ---- counted
@@ -114,7 +114,7 @@ module _ (list : List ℕ) (from n c t : ℕ) where
   taken-none h e g =
       record { inside = omega arith; long = h; counted = e ∙ sym (ap (λ (l : List Spot). length l) g); whole = ap (λ (l : List Spot). l ++ after 0) g ∙ sym after-all }
 
-  pub taken-count : {out : SpotBuffer} {i : ℕ} → Taken out i → out .n + length (after i) ≡ length (band c t (spotsFrom list from n))
+  taken-count : {out : SpotBuffer} {i : ℕ} → Taken out i → out .n + length (after i) ≡ length (band c t (spotsFrom list from n))
   taken-count {out} {i} r =
       ap (λ (k : ℕ). k + length (after i)) (r .counted) ∙ sym (length-append (held out) (after i)) ∙ ap (λ (l : List Spot). length l) (r .whole)
 

@@ -162,7 +162,7 @@ module _ (list : List ℕ) (from n fan b c : ℕ) (fs : List ℕ) (t₀ : List �
           }
 
     -- all children are built
-    pub children-left : {t : List ℕ} {es : Entries} {left j : ℕ} → Children t es left j → fan ≤ j → left ≡ 0
+    children-left : {t : List ℕ} {es : Entries} {left j : ℕ} → Children t es left j → fan ≤ j → left ≡ 0
     children-left {t} {es} {left} {j} r h =
         let z : fan - j ≡ 0 = omega arith in
         let m = subst (λ (k : ℕ). left ≤ 32 * leaves fs * k) z (r .most) in

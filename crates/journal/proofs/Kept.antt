@@ -55,7 +55,7 @@ module _ (t s map : List ℕ) (b : ℕ) where
   pub before-clear : bit map b ≡ false → before t s map b ≡ block t b
   before-clear e = ap (λ (m : Bool). cond m (block s b) (block t b)) e
 
-  pub before-same : (t′ s′ map′ : List ℕ) → bit map′ b ≡ bit map b → block s′ b ≡ block s b → block t′ b ≡ block t b
+  before-same : (t′ s′ map′ : List ℕ) → bit map′ b ≡ bit map b → block s′ b ≡ block s b → block t′ b ≡ block t b
       → before t′ s′ map′ b ≡ before t s map b
   before-same t′ s′ map′ m e f =
       ap (λ (x : Bool). cond x (block s′ b) (block t′ b)) m ∙ ap₂ (λ (x y : List ℕ). cond (bit map b) x y) e f

@@ -28,7 +28,7 @@ use borrow.Author.Tests.{le-leb}
 pub key-fits : (k : ℕ) → k < allKeys → keyFits k ≡ true
 key-fits k h = within-yes 0 allKeys k (omega arith) h
 
-pub spot-fits : (x : Spot) → x .key < allKeys → x .track < word → spotFits x ≡ true
+spot-fits : (x : Spot) → x .key < allKeys → x .track < word → spotFits x ≡ true
 unfolding unsigned32
 spot-fits x h g = and-both _ _ (key-fits (x .key) h) (le-leb (x .track) 4294967295 (omega arith))
 

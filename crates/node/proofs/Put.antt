@@ -26,7 +26,7 @@ use Rattle.node.specs.Bytes.{frontBytes, bytesUnless, entryBytes, laterB
 
 -- ---- one part behind the other
 
-pub number-bytes : (n : ℕ) (s : List ℕ) (i v : ℕ) → i + n ≤ length s → putBe n s i v ≡ putBytes s i (bytesOf n v)
+number-bytes : (n : ℕ) (s : List ℕ) (i v : ℕ) → i + n ≤ length s → putBe n s i v ≡ putBytes s i (bytesOf n v)
 unfolding putBytes
 number-bytes n s i v h = put-eq n s i v h ∙ ap (λ (k : ℕ). take i s ++ bytesOf n v ++ drop (i + k) s) (sym (length-bytesOf n v))
 
@@ -34,12 +34,12 @@ pub key-bytes : (s : List ℕ) (i k : ℕ) → i + 8 ≤ length s → putKey s i
 unfolding putBytes
 key-bytes s i k h = putKey-eq s i k h ∙ ap (λ (m : ℕ). take i s ++ keyBytes k ++ drop (i + m) s) (sym (length-keyBytes k))
 
-pub spot-bytes : (s : List ℕ) (i : ℕ) (x : Spot) → i + 12 ≤ length s → putSpot s i x ≡ putBytes s i (spotBytes x)
+spot-bytes : (s : List ℕ) (i : ℕ) (x : Spot) → i + 12 ≤ length s → putSpot s i x ≡ putBytes s i (spotBytes x)
 unfolding putBytes
 spot-bytes s i x h = putSpot-eq s i x h ∙ ap (λ (m : ℕ). take i s ++ spotBytes x ++ drop (i + m) s) (sym (length-spotBytes x))
 
 -- a number behind a
-pub number-behind : (n : ℕ) (s a : List ℕ) {t u : List ℕ} (i j v : ℕ) → i + length a ≡ j → j + n ≤ length s → t ≡ putBytes s i a → u ≡ putBe n t j v
+number-behind : (n : ℕ) (s a : List ℕ) {t u : List ℕ} (i j v : ℕ) → i + length a ≡ j → j + n ≤ length s → t ≡ putBytes s i a → u ≡ putBe n t j v
     → u ≡ putBytes s i (a ++ bytesOf n v)
 number-behind n s a {t} i j v e h p q =
     let l : length t ≡ length s = ap length p ∙ bytes-length s a i (omega arith) in
@@ -70,7 +70,7 @@ pub unused-bytes : (s : List ℕ) {t u : List ℕ} (i k : ℕ) → i + 8 ≤ len
 unfolding bytesUnless bytesOf
 unused-bytes s i k h p q = number-behind 4 s (bytesOf 4 0) i (i + 4) 0 refl (omega arith) (p ∙ number-bytes 4 s i 0 (omega arith)) q
 
-pub length-entry : (first : Bool) (e : Entry) → length (entryBytes first e) ≡ 28
+length-entry : (first : Bool) (e : Entry) → length (entryBytes first e) ≡ 28
 unfolding entryBytes bytesOf
 length-entry first e = simp (length-append, length-unless)
 
@@ -97,7 +97,7 @@ entry-written first e s {a} {b} {c} at h pa pb pc pd pf pg =
 
 module _ {A : Type 0} (E : List A → List ℕ) (enc : A → List ℕ) (w : ℕ) (nil : E [] ≡ []) (cons : (x : A) (xs : List A) → E (x ∷ xs) ≡ enc x ++ E xs) where
   -- the part that record i puts behind the first i
-  pub coded-split : (l : List A) (i : ℕ) (d : A) → i < length l → E l ≡ E (take i l) ++ (enc (getD l i d) ++ E (drop (suc i) l))
+  coded-split : (l : List A) (i : ℕ) (d : A) → i < length l → E l ≡ E (take i l) ++ (enc (getD l i d) ++ E (drop (suc i) l))
   coded-split l i d h =
       ap E (split-at l i d h) ∙ coded-append E enc w nil cons (take i l) (getD l i d ∷ drop (suc i) l)
       ∙ ap (λ (z : List ℕ). E (take i l) ++ z) (cons (getD l i d) (drop (suc i) l))
@@ -107,7 +107,7 @@ module _ {A : Type 0} (E : List A → List ℕ) (enc : A → List ℕ) (w : ℕ)
       ap E (rw (add-one, take-suc l i d)) ∙ coded-append E enc w nil cons (take i l) (getD l i d ∷ [])
       ∙ ap (λ (z : List ℕ). E (take i l) ++ z) (cons (getD l i d) [] ∙ ap (λ (z : List ℕ). enc (getD l i d) ++ z) nil ∙ append-nil (enc (getD l i d)))
 
-  pub record-behind : (wide : (x : A) → length (enc x) ≡ w) (s : List ℕ) {t u : List ℕ} (at : ℕ) (l : List A) (i : ℕ) (d : A) → i < length l → at + w * i ≤ length s
+  record-behind : (wide : (x : A) → length (enc x) ≡ w) (s : List ℕ) {t u : List ℕ} (at : ℕ) (l : List A) (i : ℕ) (d : A) → i < length l → at + w * i ≤ length s
       → t ≡ putBytes s at (E (take i l)) → u ≡ putBytes t (at + w * i) (enc (getD l i d)) → u ≡ putBytes s at (E (take (i + 1) l))
   record-behind wide s at l i d h k p q =
       let n : length (take i l) ≡ i = length-take-le i l (omega arith) in

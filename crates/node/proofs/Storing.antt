@@ -45,7 +45,7 @@ pub record Long (n : NodeValue) : Type 0 where
   pub inserts : length (n .inserts .spots) ≡ 80
   pub deletes : length (n .deletes .keys) ≡ 32
 
-pub parts-of : (n : NodeValue) → Storable n → Long n → every keysFit (entriesOf (n .entries)) ≡ true → every spotFits (held (n .points)) ≡ true
+parts-of : (n : NodeValue) → Storable n → Long n → every keysFit (entriesOf (n .entries)) ≡ true → every spotFits (held (n .points)) ≡ true
     → every spotFits (held (n .inserts)) ≡ true → every keyFits (named (n .deletes)) ≡ true
     → Parts (frontFor n) (entriesOf (n .entries)) (held (n .points)) (held (n .inserts)) (named (n .deletes))
 parts-of n s l fe fp fi fd =

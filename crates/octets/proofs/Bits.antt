@@ -25,7 +25,7 @@ use Rattle.octets.proofs.Digits.{digitAt, digit-lt, digit-or, digit-of-
 -- ---- a bit and its byte
 
 -- maps that agree in the byte of a bit agree in the bit
-pub bit-cong : (a b : List ℕ) (n : ℕ) → getD a (n / 8) 0 ≡ getD b (n / 8) 0 → bit a n ≡ bit b n
+bit-cong : (a b : List ℕ) (n : ℕ) → getD a (n / 8) 0 ≡ getD b (n / 8) 0 → bit a n ≡ bit b n
 unfolding bit
 bit-cong a b n e = ap (λ (x : ℕ). eqb (x / 2 ^ (n % 8) % 2) 1) e
 
@@ -161,13 +161,13 @@ unfolding onesBelow
 ones-le-bits m n = omega (arith, keep-length (bit m) (upTo 0 n), upTo-length 0 n)
 
 -- maps with the same bits below n
-pub ones-same : (a b : List ℕ) (n : ℕ) → ((k : ℕ) → k < n → bit a k ≡ bit b k) → onesBelow a n ≡ onesBelow b n
+ones-same : (a b : List ℕ) (n : ℕ) → ((k : ℕ) → k < n → bit a k ≡ bit b k) → onesBelow a n ≡ onesBelow b n
 ones-same a b zero h = ones-none a ∙ sym (ones-none b)
 ones-same a b (suc n) h =
     ones-suc a n ∙ rw (ones-same a b n (λ k l. h k (omega arith)), h n (omega arith)) (sym (ones-suc b n))
 
 -- maps with the same bits but at one number, which is clear in the first and set in the second
-pub ones-more : (a b : List ℕ) (i n : ℕ) → i < n → bit a i ≡ false → bit b i ≡ true → ((k : ℕ) → k ≢ i → bit a k ≡ bit b k) → onesBelow b n ≡ suc (onesBelow a n)
+ones-more : (a b : List ℕ) (i n : ℕ) → i < n → bit a i ≡ false → bit b i ≡ true → ((k : ℕ) → k ≢ i → bit a k ≡ bit b k) → onesBelow b n ≡ suc (onesBelow a n)
 ones-more a b i zero l p q h = absurd (omega arith)
 ones-more a b i (suc n) l p q h =
     ⊎-elim

@@ -14,7 +14,7 @@ maximum-ge [] k = absurd (List·Memᴰ·not-nil k)
 maximum-ge (y ∷ ys) {x} k = ⊎-elim (λ (e : x ≡ y). omega arith) (λ j. omega (arith, maximum-ge ys j)) (List·Memᴰ·cases-cons k)
 
 -- a bound of every number bounds the largest
-pub maximum-le : (t : ℕ) (xs : List ℕ) → ((x : ℕ) → List·Memᴰ x xs → x ≤ t) → maximum xs ≤ t
+maximum-le : (t : ℕ) (xs : List ℕ) → ((x : ℕ) → List·Memᴰ x xs → x ≤ t) → maximum xs ≤ t
 maximum-le t [] h = omega arith
 maximum-le t (y ∷ ys) h = let a = h y (List·Memᴰ·head refl) in let b = maximum-le t ys (λ x i. h x (List·Memᴰ·tail i)) in omega arith
 
@@ -37,7 +37,7 @@ pub minimum-le : (d : ℕ) (xs : List ℕ) {x : ℕ} → List·Memᴰ x xs → m
 minimum-le d [] k = absurd (List·Memᴰ·not-nil k)
 minimum-le d (y ∷ ys) {x} k = ⊎-elim (λ (e : x ≡ y). omega arith) (λ j. omega (arith, minimum-le d ys j)) (List·Memᴰ·cases-cons k)
 
-pub minimum-ge : (d t : ℕ) (xs : List ℕ) → t ≤ d → ((x : ℕ) → List·Memᴰ x xs → t ≤ x) → t ≤ minimum d xs
+minimum-ge : (d t : ℕ) (xs : List ℕ) → t ≤ d → ((x : ℕ) → List·Memᴰ x xs → t ≤ x) → t ≤ minimum d xs
 minimum-ge d t [] l h = l
 minimum-ge d t (y ∷ ys) l h = let a = h y (List·Memᴰ·head refl) in let b = minimum-ge d t ys l (λ x i. h x (List·Memᴰ·tail i)) in omega arith
 

@@ -33,7 +33,7 @@ module _ (a b c d e f g h : ℕ) (ha : a ≤ 1) (hb : b ≤ 1) (hc : c ≤ 1) (h
   byte-bit (suc (suc (suc (suc (suc (suc (suc zero))))))) l = omega arith
   byte-bit (suc (suc (suc (suc (suc (suc (suc (suc j)))))))) l = let z : ⊥ = omega arith in absurd z
 
-pub mark-bit : (f : ℕ → Bool) (b j : ℕ) → j < 8 → eqb (markByte f b / 2 ^ j % 2) 1 ≡ f (b + j)
+mark-bit : (f : ℕ → Bool) (b j : ℕ) → j < 8 → eqb (markByte f b / 2 ^ j % 2) 1 ≡ f (b + j)
 unfolding markByte
 mark-bit f b j l = ap (λ (x : ℕ). eqb x 1) (byte-bit _ _ _ _ _ _ _ _ (digit-small (f b)) (digit-small (f (b + 1))) (digit-small (f (b + 2))) (digit-small (f (b + 3))) (digit-small (f (b + 4))) (digit-small (f (b + 5))) (digit-small (f (b + 6))) (digit-small (f (b + 7))) j l) ∙ nth j l
   where

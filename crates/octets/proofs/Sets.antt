@@ -59,7 +59,7 @@ every-has f k xs h j = every-mem f xs h (has-mem k xs j)
 
 -- ---- nothing twice
 
-pub not-has : (x : ℕ) (xs : List ℕ) → distinct (x ∷ xs) ≡ true → has x xs ≡ false
+not-has : (x : ℕ) (xs : List ℕ) → distinct (x ∷ xs) ≡ true → has x xs ≡ false
 not-has x xs h = not-true (has x xs) (and-left (not (has x xs)) (distinct xs) h)
 
 pub distinct-head : (x : ℕ) (xs : List ℕ) → distinct (x ∷ xs) ≡ true → List·Memᴰ x xs → ⊥

@@ -36,7 +36,7 @@ upTo-more i (suc a) b =
     let f : suc a + b ≡ suc (a + b) = omega arith in
     rw (e, f) (ap (λ (l : List ℕ). i ∷ l) (upTo-more (suc i) a b))
 
-pub upTo-rises : (i n : ℕ) → risingFrom i (upTo i n) ≡ true
+upTo-rises : (i n : ℕ) → risingFrom i (upTo i n) ≡ true
 upTo-rises i zero = refl
 upTo-rises i (suc n) = rising-make i i (upTo (suc i) n) (omega arith) (upTo-rises (suc i) n)
 

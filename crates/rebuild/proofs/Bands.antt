@@ -49,7 +49,7 @@ unfolding band
 band-rises c t a ys h = keep-rises (λ s. within c t (rankKey (s .key))) a ys h
 
 -- what holds of all holds of a band
-pub band-every : (c t : ℕ) (g : ℕ → Bool) (ys : List Spot) → every g (keys ys) ≡ true → every g (keys (band c t ys)) ≡ true
+band-every : (c t : ℕ) (g : ℕ → Bool) (ys : List Spot) → every g (keys ys) ≡ true → every g (keys (band c t ys)) ≡ true
 unfolding band
 band-every c t g ys h = keep-every (λ s. within c t (rankKey (s .key))) g ys h
 

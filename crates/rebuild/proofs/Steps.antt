@@ -39,7 +39,7 @@ starts-more (x ∷ es) e [] zs h g = absurd h
 starts-more (x ∷ es) e (s ∷ ss) zs h g = h
 
 -- one child more
-pub shares-more : (g : ℕ → List Spot → Type 0) (m : Store) (w b : ℕ) (es : List Entry) (xs : List Spot) (e : Entry) (zs : List Spot) → Shares g m w b es xs
+shares-more : (g : ℕ → List Spot → Type 0) (m : Store) (w b : ℕ) (es : List Entry) (xs : List Spot) (e : Entry) (zs : List Spot) → Shares g m w b es xs
     → e .block ≡ b + length es * w
     → Starts (e ∷ []) zs
     → agrees (Child e) (m (e .block)) ≡ true
@@ -74,7 +74,7 @@ shares-more g m w b (x ∷ es) xs e zs sh at st ag built =
 
 module _ (fs : List ℕ) (room c : ℕ) (m m′ : Store) where
   -- the loop's step: the children before stay as they are, and the next is built
-  pub child-more : (b : ℕ) (es : List Entry) (xs : List Spot) (e : Entry) (zs : List Spot) → Shares (λ b′ ys. Built fs room m b′ ys c) m (nodes fs) b es xs
+  child-more : (b : ℕ) (es : List Entry) (xs : List Spot) (e : Entry) (zs : List Spot) → Shares (λ b′ ys. Built fs room m b′ ys c) m (nodes fs) b es xs
       → Alike m m′ b (length es * nodes fs)
       → e .block ≡ b + length es * nodes fs
       → Starts (e ∷ []) zs
@@ -117,7 +117,7 @@ module _ (fs : List ℕ) (room c : ℕ) (m m′ : Store) where
   open-low (e ∷ es) = refl
 
   -- the node, stored last, over all its children
-  pub inner-built : (f t b : ℕ) (es : List Entry) (ys : List Spot) → Shares (λ b′ zs. Built fs room m b′ zs c) m (nodes fs) (b + 1) es ys → length es ≡ f
+  inner-built : (f t b : ℕ) (es : List Entry) (ys : List Spot) → Shares (λ b′ zs. Built fs room m b′ zs c) m (nodes fs) (b + 1) es ys → length es ≡ f
       → Alike m m′ (b + 1) (f * nodes fs)
       → m′ b ≡ builtNode room (suc (length fs)) (firstOpen es) (band c t ys)
       → c ≤ t
@@ -144,7 +144,7 @@ module _ (fs : List ℕ) (room c : ℕ) (m m′ : Store) where
       }
 
 -- the first entry begins at the first spot
-pub starts-first : (e : Entry) (es : List Entry) (ys : List Spot) → isEmpty ys ≡ false → e .low ≡ firstKey ys → Starts (e ∷ es) ys
+starts-first : (e : Entry) (es : List Entry) (ys : List Spot) → isEmpty ys ≡ false → e .low ≡ firstKey ys → Starts (e ∷ es) ys
 starts-first e es [] h l = true≢false h
 starts-first e es (s ∷ ss) h l = l
 

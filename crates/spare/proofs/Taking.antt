@@ -40,7 +40,7 @@ between-at l a i n d h g k =
 
 -- ---- spare blocks
 
-pub taken-rest : (s : Spare) (left : ℕ) → left ≤ s .n → spareOf s (s .n) ≡ spareOf s left ++ takenOf s left
+taken-rest : (s : Spare) (left : ℕ) → left ≤ s .n → spareOf s (s .n) ≡ spareOf s left ++ takenOf s left
 taken-rest s left h = parts (s .blocks) left (s .n) h
 
 -- what was taken was spare
@@ -59,7 +59,7 @@ module _ (s : Spare) (left : ℕ) (h : left ≤ s .n) (once : distinct (spareOf 
       (taken-spare s left z i, λ j. distinct-split (spareOf s left) (takenOf s left) (ap distinct (sym (taken-rest s left h)) ∙ once) .off z j i)
 
   -- the spare blocks that are left, none twice
-  pub left-once : distinct (spareOf s left) ≡ true
+  left-once : distinct (spareOf s left) ≡ true
   left-once = distinct-left (spareOf s left) (takenOf s left) (ap distinct (sym (taken-rest s left h)) ∙ once)
 
 -- the last of the blocks that are left is taken

@@ -75,7 +75,7 @@ keys-small s w (suc n) at {k} i =
 pub spots-small : (s : List ℕ) (w n at : ℕ) {x : Spot} → List·Memᴰ x (records (spotAt s) w n at) → x .key < allKeys
 spots-small s w n at i = keys-small s w n at (mem-same (keys-records s w n at) (keys-mem (records (spotAt s) w n at) i))
 
-pub keys-within : (s : List ℕ) (w n at : ℕ) → every (within 0 allKeys) (records (keyAt s) w n at) ≡ true
+keys-within : (s : List ℕ) (w n at : ℕ) → every (within 0 allKeys) (records (keyAt s) w n at) ≡ true
 keys-within s w n at = every-make (within 0 allKeys) (records (keyAt s) w n at) (λ k i. within-yes 0 allKeys k (omega arith) (keys-small s w n at i))
 
 pub spots-within : (s : List ℕ) (w n at : ℕ) → every (within 0 allKeys) (keys (records (spotAt s) w n at)) ≡ true
@@ -139,7 +139,7 @@ keep-pass g ss = every-make g (keys (only g ss)) (λ k i. only-mem g ss i .1)
 
 -- ---- the spots that pass a test
 
-pub kept-key : (f : Spot → Bool) (ss : List Spot) {k : ℕ} → List·Memᴰ k (keys (keep f ss)) → List·Memᴰ k (keys ss)
+kept-key : (f : Spot → Bool) (ss : List Spot) {k : ℕ} → List·Memᴰ k (keys (keep f ss)) → List·Memᴰ k (keys ss)
 kept-key f ss i = let r = keys-from (keep f ss) i in Memᴰ·cast (r .2) (keys-mem ss (keep-in f ss (r .1)))
 
 pub keep-every : (f : Spot → Bool) (g : ℕ → Bool) (ss : List Spot) → every g (keys ss) ≡ true → every g (keys (keep f ss)) ≡ true
@@ -156,7 +156,7 @@ keep-distinct f (s ∷ ss) h = go (f s) (keep-distinct f ss (distinct-tail (s .k
 -- ---- a spot put in, and several
 
 -- what is put into a list is new, or was there
-pub put-from : (s : Spot) (xs : List Spot) {x : Spot} → List·Memᴰ x (put s xs) → (x ≡ s) ⊎ List·Memᴰ x xs
+put-from : (s : Spot) (xs : List Spot) {x : Spot} → List·Memᴰ x (put s xs) → (x ≡ s) ⊎ List·Memᴰ x xs
 put-from s [] k = List·Memᴰ·cases-cons k
 put-from s (y ∷ ys) k =
     ⊎-elim (λ c. List·Memᴰ·cases-cons (c .1))

@@ -24,7 +24,7 @@ find-here k s ss e = rw (eq-eqb k (s .key) e)
 pub find-past : (k : ℕ) (s : Spot) (ss : List Spot) → (k ≡ s .key → ⊥) → find k (s ∷ ss) ≡ find k ss
 find-past k s ss e = rw (ne-eqb k (s .key) e)
 
-pub absent : (a k : ℕ) (ss : List Spot) → risingFrom a (keys ss) ≡ true → k < a → find k ss ≡ none
+absent : (a k : ℕ) (ss : List Spot) → risingFrom a (keys ss) ≡ true → k < a → find k ss ≡ none
 absent a k [] h l = refl
 absent a k (s ∷ ss) h l =
     find-past k s ss (λ e. omega (arith, rising-first a (s .key) (keys ss) h)) ∙ absent (suc (s .key)) k ss (rising-rest a (s .key) (keys ss) h) (omega (arith, rising-first a (s .key) (keys ss) h))

@@ -34,7 +34,7 @@ unfolding keyAt
 keyAt-lt s i = pair-small (turned (be 4 s i)) (turned (be 4 s (i + 4))) (turned-lt (be 4 s i)) (turned-lt (be 4 s (i + 4)))
 
 -- equal bytes, equal keys and spots, wherever they stand
-pub key-cong : (s t : List ℕ) (i j : ℕ) → ((k : ℕ) → k < 8 → getD s (i + k) 0 ≡ getD t (j + k) 0) → keyAt s i ≡ keyAt t j
+key-cong : (s t : List ℕ) (i j : ℕ) → ((k : ℕ) → k < 8 → getD s (i + k) 0 ≡ getD t (j + k) 0) → keyAt s i ≡ keyAt t j
 unfolding keyAt
 key-cong s t i j h =
     ap₂ (λ (x y : ℕ). turned x * word + turned y) (be-cong 4 s t i j (λ k l. h k (omega arith)))
@@ -74,13 +74,13 @@ spotAt-right a b i = spot-cong (a ++ b) b (length a + i) i (λ k l. right-byte a
 
 -- ---- a key written
 
-pub putKey-length : (s : List ℕ) (i k : ℕ) → length (putKey s i k) ≡ length s
+putKey-length : (s : List ℕ) (i k : ℕ) → length (putKey s i k) ≡ length s
 unfolding putKey
 putKey-length s i k =
     put-length 4 (putBe 4 s i (turned (k / word))) (i + 4) (turned (k % word)) ∙ put-length 4 s i (turned (k / word))
 
 -- a byte outside the eight is as it was
-pub putKey-other : (s : List ℕ) (i k j : ℕ) → (j < i) ⊎ (i + 8 ≤ j) → getD (putKey s i k) j 0 ≡ getD s j 0
+putKey-other : (s : List ℕ) (i k j : ℕ) → (j < i) ⊎ (i + 8 ≤ j) → getD (putKey s i k) j 0 ≡ getD s j 0
 unfolding putKey
 putKey-other s i k j h =
     put-other 4 (putBe 4 s i (turned (k / word))) (i + 4) (turned (k % word)) j
@@ -93,7 +93,7 @@ halves k l =
     ap₂ (λ (x y : ℕ). x * word + y) (turned-turned (k / word) (high k l)) (turned-turned (k % word) (low k)) ∙ div-add-mod' k word
 
 -- reading back the key that was written
-pub keyAt-put-same : (s : List ℕ) (i k : ℕ) → i + 8 ≤ length s → k < allKeys → keyAt (putKey s i k) i ≡ k
+keyAt-put-same : (s : List ℕ) (i k : ℕ) → i + 8 ≤ length s → k < allKeys → keyAt (putKey s i k) i ≡ k
 unfolding putKey keyAt
 keyAt-put-same s i k h l =
     let a : ℕ = turned (k / word) in
@@ -160,7 +160,7 @@ unfolding putSpot
 putSpot-length s i x = put-length 4 (putKey s i (x .key)) (i + 8) (x .track) ∙ putKey-length s i (x .key)
 
 -- a byte outside the twelve is as it was
-pub putSpot-other : (s : List ℕ) (i : ℕ) (x : Spot) (j : ℕ) → (j < i) ⊎ (i + 12 ≤ j) → getD (putSpot s i x) j 0 ≡ getD s j 0
+putSpot-other : (s : List ℕ) (i : ℕ) (x : Spot) (j : ℕ) → (j < i) ⊎ (i + 12 ≤ j) → getD (putSpot s i x) j 0 ≡ getD s j 0
 unfolding putSpot
 putSpot-other s i x j h =
     put-other 4 (putKey s i (x .key)) (i + 8) (x .track) j (⊎-elim (λ l. inl (omega arith)) (λ l. inr (omega arith)) h)

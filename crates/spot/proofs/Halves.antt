@@ -64,11 +64,11 @@ unfolding rankKey
 rank-small k h = pair-small (k % word) (k / word) (low k) (high k h)
 
 -- the halves of a rank key
-pub rank-high : (k : ℕ) → k < allKeys → rankKey k / word ≡ k % word
+rank-high : (k : ℕ) → k < allKeys → rankKey k / word ≡ k % word
 unfolding rankKey
 rank-high k h = digits-div (k % word) (high k h)
 
-pub rank-low : (k : ℕ) → k < allKeys → rankKey k % word ≡ k / word
+rank-low : (k : ℕ) → k < allKeys → rankKey k % word ≡ k / word
 unfolding rankKey
 rank-low k h = digits-mod (k % word) (high k h)
 

@@ -29,10 +29,10 @@ module _ (p r : ℤ) (fr : Fits r) where
   pub key-rank : key p r % word ≡ biased r
   key-rank = digits-mod (biased p) (biased-lt r fr)
 
-  pub rank-first : rankKey (key p r) ≡ biased r * word + biased p
+  rank-first : rankKey (key p r) ≡ biased r * word + biased p
   rank-first = rank-is (key p r) ∙ ap₂ (λ (x y : ℕ). x * word + y) key-rank key-place
 
-  pub rank-of : Fits p → rankOf (key p r) ≡ biased r
+  rank-of : Fits p → rankOf (key p r) ≡ biased r
   rank-of fp = ap (λ (x : ℕ). x / word) rank-first ∙ digits-div (biased r) (biased-lt p fp)
 
   pub place-of-key : Fits p → placeOf (key p r) ≡ p

@@ -104,11 +104,11 @@ cuts-small q lo hi = omega (arith, cut-small (q .from) lo hi, cut-small (suc (q 
 
 -- ---- the places
 
-pub placed-yes : (q : Query) (k : ℕ) → q .from ≤ k → k ≤ q .last → placed q k ≡ true
+placed-yes : (q : Query) (k : ℕ) → q .from ≤ k → k ≤ q .last → placed q k ≡ true
 unfolding placed
 placed-yes q k a b = all-cons _ _ (le-leb (q .from) k a) (all-cons _ _ (le-leb k (q .last) b) all-nil)
 
-pub placed-from : (q : Query) (k : ℕ) → placed q k ≡ true → q .from ≤ k
+placed-from : (q : Query) (k : ℕ) → placed q k ≡ true → q .from ≤ k
 unfolding placed
 placed-from q k h = leb-true (q .from) k (all-at _ h 0)
 

@@ -23,7 +23,7 @@ use Rattle.text.proofs.Decimal.{decimal-unspaced}
 use Rattle.text.proofs.Words.{joined-front, joined-behind, joined-first}
 use Rattle.text.proofs.Numbers.{decimal-value, value-lt, integer-signed, integer-fits, signed-unspaced}
 
-pub unsigned-lt : (n : ℕ) → unsigned32 n ≡ true → n < word
+unsigned-lt : (n : ℕ) → unsigned32 n ≡ true → n < word
 unfolding unsigned32
 unsigned-lt n h = omega (arith, leb-true n 4294967295 h)
 
@@ -34,10 +34,10 @@ lt-unsigned n h = le-leb n 4294967295 (omega arith)
 -- ---- the words of a line of three words, and of more
 
 module _ (a b c : List ℕ) (ws : List (List ℕ)) (ha : has 32 a ≡ false) (hb : has 32 b ≡ false) (hc : has 32 c ≡ false) where
-  pub word-two : front (behind (joined (a ∷ b ∷ c ∷ ws))) ≡ b
+  word-two : front (behind (joined (a ∷ b ∷ c ∷ ws))) ≡ b
   word-two = ap front (joined-behind a b (c ∷ ws) ha) ∙ joined-front b (c ∷ ws) hb
 
-  pub word-three : front (behind (behind (joined (a ∷ b ∷ c ∷ ws)))) ≡ c
+  word-three : front (behind (behind (joined (a ∷ b ∷ c ∷ ws)))) ≡ c
   word-three = ap (λ (l : List ℕ). front (behind l)) (joined-behind a b (c ∷ ws) ha) ∙ ap front (joined-behind b c ws hb) ∙ joined-front c ws hc
 
 word-four : (a b c d : List ℕ) (ws : List (List ℕ)) → has 32 a ≡ false → has 32 b ≡ false → has 32 c ≡ false → has 32 d ≡ false
@@ -94,7 +94,7 @@ all-three a b c h =
     let g = and-right a (b && c) h in
     record { one = and-left a (b && c) h; two = and-left b c g; three = and-right b c g }
 
-pub guess-text : (c : Command) → fits c ≡ true → guess (commandText c) ≡ c
+guess-text : (c : Command) → fits c ≡ true → guess (commandText c) ≡ c
 unfolding commandOf
 guess-text (Add x y n) f =
     let a = all-three (signed32 x) (signed32 y) (unsigned32 n) f in
@@ -110,7 +110,7 @@ guess-text (Top x y n) f =
 guess-text Bad f = let z : _≡_ {A = ℕ} 0 1 = cc in absurd (omega arith)
 
 -- two commands with the same text are the same
-pub text-one : (c d : Command) → fits c ≡ true → fits d ≡ true → commandText c ≡ commandText d → c ≡ d
+text-one : (c d : Command) → fits c ≡ true → fits d ≡ true → commandText c ≡ commandText d → c ≡ d
 text-one c d f g e = sym (guess-text c f) ∙ ap guess e ∙ guess-text d g
 
 -- ---- what is made of a line is within 32 bits
@@ -178,7 +178,7 @@ bad-or-not (Top x y n) = inr (λ (e : Top x y n ≡ Bad). let z : _≡_ {A = ℕ
 bad-or-not Bad = inl refl
 
 -- the answer is the inverse of printing: it is the command that the line says
-pub parse-whole : (line : List ℕ) (r c : Command) → Parsed line r → fits c ≡ true → line ≡ commandText c → r ≡ c
+parse-whole : (line : List ℕ) (r c : Command) → Parsed line r → fits c ≡ true → line ≡ commandText c → r ≡ c
 parse-whole line r c p f t =
     ⊎-elim (λ (e : r ≡ Bad). absurd (p .none e c f t)) (λ (h : r ≡ Bad → ⊥). text-one r c (p .command h .0) f (sym (p .command h .1) ∙ t))
     (bad-or-not r)

@@ -216,7 +216,7 @@ module _ (t : List ℕ) (x1 x2 : ℤ) (k : ℕ) (unread : List Pending) (found g
         whole-at .finds f ∙ sums (onSpots f (storeOf t) (topQuery x1 x2 y)) ∙ sum-same _ _ (g .read) (part-spots f) ∙
         sym (g .spots (counted (ofRank y) f))
 
-    pub many-at : length (whole-at .found) ≡ sum (counted (ofRank y) one) found + sum (counted (ofRank y) one) given
+    many-at : length (whole-at .found) ≡ sum (counted (ofRank y) one) found + sum (counted (ofRank y) one) given
     many-at = sym (sum-length (whole-at .found)) ∙ spots-at one
 
     -- too few are found

@@ -127,7 +127,7 @@ entry-small s i = go (eqb (be 1 s (i + 2)) 0)
     go false = lt-ltb (keyAt s (i + 12)) allKeys (keyAt-lt s (i + 12))
 
 -- so has the highest key that an entry names
-pub top-small : (t : List ℕ) (b : ℕ) {e : Entry} → List·Memᴰ e (storeOf t b .entries) → e .top < allKeys
+top-small : (t : List ℕ) (b : ℕ) {e : Entry} → List·Memᴰ e (storeOf t b .entries) → e .top < allKeys
 unfolding storeOf nodeOf nodeFrom
 top-small t b {e} i =
     let s = block t b in
@@ -154,7 +154,7 @@ module _ (l : ℕ) (e : Entry) (n : Node) (ok : nodeOk l (Child e) n ≡ true) (
 
 module _ (t : List ℕ) (q : Query) (l b : ℕ) where
   -- a spot of a node is of no higher rank than its entry promises
-  pub held-under : (a : Asked) → nodeOk l a (storeOf t b) ≡ true → topped q a ≡ true → (s : Spot) → List·Memᴰ s (storeOf t b .points ++ storeOf t b .inserts)
+  held-under : (a : Asked) → nodeOk l a (storeOf t b) ≡ true → topped q a ≡ true → (s : Spot) → List·Memᴰ s (storeOf t b .points ++ storeOf t b .inserts)
       → rankOf (s .key) ≤ promise a
   held-under (Root r) ok h s i = let z = rank-word (s .key) (held-small t b i) in omega arith
   held-under (Child e) ok h s i = let z = held-below l e (storeOf t b) ok (topped-size q e h) s i in omega arith

@@ -36,7 +36,7 @@ abbrev pub NoneRanks : ℕ → List Spot → Type 0
 NoneRanks r ss = (s : Spot) → List·Memᴰ s ss → rankOf (s .key) ≤ r
 
 -- rank keys compare ranks first
-pub none-ranks : (k r : ℕ) (ss : List Spot) → NoneAbove (rankKey k) ss → rankOf k ≤ r → NoneRanks r ss
+none-ranks : (k r : ℕ) (ss : List Spot) → NoneAbove (rankKey k) ss → rankOf k ≤ r → NoneRanks r ss
 none-ranks k r ss h l s i = let z = h s i in omega arith
 
 abbrev pub numbers : List Pending → List ℕ

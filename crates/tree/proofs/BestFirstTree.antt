@@ -45,7 +45,7 @@ sum-known f named l [] = refl
 sum-known f named l (c ∷ cs) = omega (arith, sum-known f named l cs)
 
 -- a part known of is made of its three fields
-pub pending-is : (u : Pending) (l : ℕ) → u .levels ≡ l → pending l (u .named) (u .part) ≡ u
+pending-is : (u : Pending) (l : ℕ) → u .levels ≡ l → pending l (u .named) (u .part) ≡ u
 pending-is u l e = λ i. record { levels = sym e i; named = u .named; part = u .part }
 
 -- a node with its children

@@ -80,7 +80,7 @@ module _ (from : ℕ) (e : Entry) (es : List Entry) (n : Node) (agree : agrees (
       (rank-strict (e .bottom) (e .top) (key (e .bottom) (b .0)) (key (e .top) (t .0)) (λ q. let few = alone t b q in omega arith) (b .1 (e .top) (t .0)))))
       (same-or-not (e .size) 1)
 
-  pub credible-by : entryCredible from e es ≡ true
+  credible-by : entryCredible from e es ≡ true
   unfolding entryCredible
   credible-by =
       ⊎-elim (λ (z : e .size ≡ 0). rw (eq-eqb (e .size) 0 z))

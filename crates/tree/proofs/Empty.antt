@@ -14,7 +14,7 @@ use Rattle.spot.specs.Spots.{keys}
 
 module _ {A : Type 0} where
   -- the test by the length
-  pub empty-is : (xs : List A) → isEmpty xs ≡ eqb (length xs) 0
+  empty-is : (xs : List A) → isEmpty xs ≡ eqb (length xs) 0
   empty-is [] = refl
   empty-is (x ∷ xs) = sym (ne-eqb (suc (length xs)) 0 (λ e. omega arith))
 

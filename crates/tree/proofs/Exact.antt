@@ -101,7 +101,7 @@ module _ (t : List ℕ) (s : sound t ≡ true) (q : Query) where
   visited = visits (headOf t .levels) (storeOf t) q (whole (headOf t))
 
   -- the blocks read are those of 01's words
-  pub blocks-exact : (b : ℕ) → List·Memᴰ b bs ↔ KeyReadBlock t q b
+  blocks-exact : (b : ℕ) → List·Memᴰ b bs ↔ KeyReadBlock t q b
   unfolding visited
   blocks-exact b = (
     λ k. visits-read (headOf t .levels) (storeOf t) q (whole (headOf t)) (sound-tree t s) b (mem-onto visited (rw (table-reads t s q) at k)),

@@ -279,7 +279,7 @@ module _ (q : Query) (named : List ℕ) (p : Part) (n : Node) (ru : Node· p n) 
       (λ w c. r .apart k w c))
 
 -- a node that keeps the rules is entered
-pub enter-ok : (ok : Bool) (f : Step) (ps : List Part) (ss : List Spot) (b : ℕ) (acc : List Spot) (bs : List ℕ) → ok ≡ true
+enter-ok : (ok : Bool) (f : Step) (ps : List Part) (ss : List Spot) (b : ℕ) (acc : List Spot) (bs : List ℕ) → ok ≡ true
     → enter ok f ps ss b (walked acc bs) ≡ through f ps (walked (putAll ss acc) (b ∷ bs))
 unfolding enter
 enter-ok true f ps ss b acc bs h = refl

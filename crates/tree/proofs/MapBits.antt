@@ -108,12 +108,12 @@ marked-length m [] = refl
 marked-length m (b ∷ bs) = marked-length (setBit m b) bs ∙ setBit-length m b
 
 -- the bytes
-pub marked-bytes : (m bs : List ℕ) → Bytes m → Bytes (marked m bs)
+marked-bytes : (m bs : List ℕ) → Bytes m → Bytes (marked m bs)
 marked-bytes m [] f = f
 marked-bytes m (b ∷ bs) f = marked-bytes (setBit m b) bs (setBit-bytes m b f)
 
 -- and the bits
-pub bit-marked : (m bs : List ℕ) → Fit bs (length m) → (k : ℕ) → bit (marked m bs) k ≡ bit m k || has k bs
+bit-marked : (m bs : List ℕ) → Fit bs (length m) → (k : ℕ) → bit (marked m bs) k ≡ bit m k || has k bs
 bit-marked m [] h k = sym (or-false (bit m k))
 bit-marked m (b ∷ bs) h k =
     bit-marked (setBit m b) bs (fit-rest b bs m h) k ∙ ap (λ (a : Bool). a || has k bs) (bit-setBit m b k (h b (List·Memᴰ·head refl))) ∙
@@ -142,15 +142,15 @@ freshMarks n bs = setBit (marked (zeros n) bs) 0
 
 module _ (n : ℕ) (bs : List ℕ) where
   -- its length
-  pub fresh-length : length (freshMarks n bs) ≡ n
+  fresh-length : length (freshMarks n bs) ≡ n
   fresh-length = setBit-length (marked (zeros n) bs) 0 ∙ marked-length (zeros n) bs ∙ length-replicate n 0
 
   -- its bytes
-  pub fresh-bytes : Bytes (freshMarks n bs)
+  fresh-bytes : Bytes (freshMarks n bs)
   fresh-bytes = setBit-bytes (marked (zeros n) bs) 0 (marked-bytes (zeros n) bs (zeros-bytes n))
 
   -- its bits are those of the map of blocks read
-  pub fresh-bit : 0 < n → Fit bs n → (k : ℕ) → bit (freshMarks n bs) k ≡ isRead bs k
+  fresh-bit : 0 < n → Fit bs n → (k : ℕ) → bit (freshMarks n bs) k ≡ isRead bs k
   unfolding isRead
   fresh-bit z h k =
       bit-setBit (marked (zeros n) bs) 0 k (omega (arith, marked-length (zeros n) bs, length-replicate {A = ℕ} n 0)) ∙

@@ -51,7 +51,7 @@ inside-child m blocks l p d c v k f = go (v .left) (v .sound-there) (v .within-a
         record { left = i; sound-there = u; within-all = λ b j. w b (f i u b j) }
 
 -- every node is one, as to the blocks reached
-pub node-reached : (l : ℕ) (m : Store) (p : Part) → soundAt l m p ≡ true → {c : Part} → NodeOf m p c → Inside m (λ i x. reach i m x) l p c
+node-reached : (l : ℕ) (m : Store) (p : Part) → soundAt l m p ≡ true → {c : Part} → NodeOf m p c → Inside m (λ i x. reach i m x) l p c
 unfolding reach
 node-reached l m p s (start e) = inside-all m (λ i x. reach i m x) l p s e
 node-reached l m p s (child {d = d} {c = c} r k) =

@@ -16,7 +16,7 @@ abbrev pub onto : List ℕ → List ℕ → List ℕ
 onto xs acc = reverseAux xs acc
 
 -- what stands there was put there, or was there before
-pub onto-from : (xs acc : List ℕ) {b : ℕ} → List·Memᴰ b (onto xs acc) → List·Memᴰ b xs ⊎ List·Memᴰ b acc
+onto-from : (xs acc : List ℕ) {b : ℕ} → List·Memᴰ b (onto xs acc) → List·Memᴰ b xs ⊎ List·Memᴰ b acc
 onto-from [] acc k = inr k
 onto-from (x ∷ xs) acc k =
     ⊎-elim (λ j. inl (List·Memᴰ·tail j)) (λ j. ⊎-elim (λ e. inl (List·Memᴰ·head e)) inr (List·Memᴰ·cases-cons j)) (onto-from xs (x ∷ acc) k)
@@ -35,7 +35,7 @@ has-onto b xs =
     bool-ext (has b (onto xs [])) (has b xs) (λ h. mem-has b xs (mem-onto xs (has-mem b (onto xs []) h))) (λ h. mem-has b (onto xs []) (onto-mem xs (has-mem b xs h)))
 
 -- no block twice
-pub onto-once : (xs acc : List ℕ) → Once xs → Once acc → Apart xs acc → Once (onto xs acc)
+onto-once : (xs acc : List ℕ) → Once xs → Once acc → Apart xs acc → Once (onto xs acc)
 onto-once [] acc a b h = b
 onto-once (x ∷ xs) acc a b h =
     onto-once xs (x ∷ acc) (a .1) (λ k. h x (List·Memᴰ·head refl) k, b)

@@ -44,7 +44,7 @@ abbrev Small : Node → Type 0
 Small n = (s : Spot) → List·Memᴰ s (n .points) → s .key < allKeys
 
 -- those of a table are so
-pub points-small : (t : List ℕ) (b : ℕ) → Small (storeOf t b)
+points-small : (t : List ℕ) (b : ℕ) → Small (storeOf t b)
 unfolding storeOf nodeOf nodeFrom
 points-small t b s i = spots-small (block t b) (version1 .spot) (be 1 (block t b) 4) (pointsFrom version1 (be 1 (block t b) 7)) i
 
@@ -146,7 +146,7 @@ module _ (x1 x2 y : ℤ) (f1 : Fits x1) (f2 : Fits x2) (fy : Fits y) where
         })
 
 -- the same blocks, on every table
-pub read-words : (t : List ℕ) (x1 x2 y : ℤ) → signed32 x1 ≡ true → signed32 x2 ≡ true → signed32 y ≡ true
+read-words : (t : List ℕ) (x1 x2 y : ℤ) → signed32 x1 ≡ true → signed32 x2 ≡ true → signed32 y ≡ true
     → (b : ℕ) → KeyReadBlock t (query x1 x2 y) b ↔ ReadBlock t x1 x2 y b
 read-words t x1 x2 y h1 h2 hy b = (
   λ r. (r .0, to-words x1 x2 y (signed-fits x1 h1) (signed-fits x2 h2) (signed-fits y hy) t (r .1), r .2),

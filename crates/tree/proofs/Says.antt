@@ -19,12 +19,12 @@ use Rattle.block.specs.NodeRules.{names}
 use Rattle.tree.specs.Lookup.{orElse, isLive}
 
 -- a second choice by the same test changes nothing
-pub cond-twice : (b : Bool) (x y z : Option ℕ) → cond b x (cond b y z) ≡ cond b x z
+cond-twice : (b : Bool) (x y z : Option ℕ) → cond b x (cond b y z) ≡ cond b x z
 cond-twice true x y z = refl
 cond-twice false x y z = refl
 
 -- nothing is said
-pub not-live : (o : Option ℕ) → isLive o ≡ false → o ≡ none
+not-live : (o : Option ℕ) → isLive o ≡ false → o ≡ none
 not-live none h = refl
 not-live (some a) h = absurd (true≢false h)
 

@@ -60,7 +60,7 @@ finds-source m q named b bs s i k =
     record { wanted = all-at _ (r .1) 0; block = b; read = i; held = r .0 }
 
 -- every spot of a walk comes from a block that it visits, or was there before
-pub gains-from : (l : ℕ) (m : Store) (q : Query) (named : List ℕ) (p : Part) (found : List Spot) (s : Spot) → List·Memᴰ s (gains l m q named p found)
+gains-from : (l : ℕ) (m : Store) (q : Query) (named : List ℕ) (p : Part) (found : List Spot) (s : Spot) → List·Memᴰ s (gains l m q named p found)
     → Source m q (visits l m q p) s ⊎ List·Memᴰ s found
 unfolding gains visits
 gains-from zero m q named p found s k = inr k
@@ -137,12 +137,12 @@ module _ (r : ℕ) (m : Store) (room : (b : ℕ) → m b .room ≡ r) (P : ℕ �
       (List·Memᴰ·cases-cons k)
 
 -- a block that a node may stand in is one of the table
-pub block-low : (r b : ℕ) → blockOk r b ≡ true → b < r
+block-low : (r b : ℕ) → blockOk r b ≡ true → b < r
 unfolding blockOk
 block-low r b h = ltb-true b r (all-at _ h 1)
 
 -- and not block 0
-pub block-some : (r b : ℕ) → blockOk r b ≡ true → 1 ≤ b
+block-some : (r b : ℕ) → blockOk r b ≡ true → 1 ≤ b
 unfolding blockOk
 block-some r b h = leb-true 1 b (all-at _ h 0)
 
@@ -229,7 +229,7 @@ module _ (t : List ℕ) (q : Query) where
   read-in-table b = by-trace (λ xs. List·Memᴰ b xs → InTable t b) (λ k. absurd (List·Memᴰ·not-nil k)) (λ h o d k. table-visits t h q o b (mem-onto _ k))
 
   -- it has a bit in the map
-  pub read-few : (b : ℕ) → List·Memᴰ b bs → b < 4096
+  read-few : (b : ℕ) → List·Memᴰ b bs → b < 4096
   read-few b =
       by-trace (λ xs. List·Memᴰ b xs → b < 4096) (λ k. absurd (List·Memᴰ·not-nil k))
       (λ h o d k. omega (arith, header-few t h, table-visits t h q o b (mem-onto _ k) .low))

@@ -113,7 +113,7 @@ module _ (t : List ℕ) (g : Shaped t) where
   tree-finds k = rw live-is (found everything .found k ∙ taken everything k ∙ everything-wants k)
 
   -- a Report finds the live spots that it wants, in place order
-  pub tree-report : (q : Query) → Finds (walkTable t q) (keep (wants q) (liveSpots t))
+  tree-report : (q : Query) → Finds (walkTable t q) (keep (wants q) (liveSpots t))
   tree-report q = (found q .blocks, found q .is ∙ ap (λ (ss : List Spot). walked ss (found q .blocks)) same)
     where
       same : found q .after ≡ keep (wants q) (liveSpots t)

@@ -73,7 +73,7 @@ module _ (f : Part → Walk → Walk) (ok : Part → Bool) (g : Part → List Sp
   through-broken (p ∷ ps) = ap (through f ps) (h .stays p) ∙ through-broken ps
 
   -- such steps one after the other
-  pub through-trace : (ps : List Part) (found : List Spot) (blocks : List ℕ)
+  through-trace : (ps : List Part) (found : List Spot) (blocks : List ℕ)
       → through f ps (walked found blocks) ≡ wholeIf (every ok ps) (pour g ps found) (onto (gather v ps) blocks)
   through-trace [] found blocks = refl
   through-trace (p ∷ ps) found blocks =
@@ -119,7 +119,7 @@ once-trace true found xs = ap (λ (b : Bool). wholeIf b found (onto xs [])) (dis
 once-trace false found xs = refl
 
 -- from the root, where no block is read twice
-pub from-trace : (h : Header) (m : Store) (q : Query)
+from-trace : (h : Header) (m : Store) (q : Query)
     → walkFrom h m q
     ≡ cond (obeys (h .levels) m q (whole h) && distinct (visits (h .levels) m q (whole h)))
     (walked (gains (h .levels) m q [] (whole h) []) (onto (visits (h .levels) m q (whole h)) []))
@@ -154,7 +154,7 @@ whole-reads t q h =
 -- ---- how many are found
 
 -- through a list of parts
-pub pour-length : (g : Part → List Spot → List Spot) (f : Part → ℕ) → ((p : Part) (found : List Spot) → length (g p found) ≡ length found + f p)
+pour-length : (g : Part → List Spot → List Spot) (f : Part → ℕ) → ((p : Part) (found : List Spot) → length (g p found) ≡ length found + f p)
     → (ps : List Part) (found : List Spot) → length (pour g ps found) ≡ length found + total f ps
 pour-length g f h [] found = omega arith
 pour-length g f h (p ∷ ps) found = pour-length g f h ps (g p found) ∙ omega (arith, h p found)
@@ -178,7 +178,7 @@ names-same : (a b : List ℕ) (n : Node) → SameKeys a b → SameKeys (names n 
 names-same a b n h k = rw (has-append k (names n) a, has-append k (names n) b, h k)
 
 -- what a node gives
-pub finds-same : (q : Query) (a b : List ℕ) (n : Node) → SameKeys a b → finds q a n ≡ finds q b n
+finds-same : (q : Query) (a b : List ℕ) (n : Node) → SameKeys a b → finds q a n ≡ finds q b n
 unfolding finds takesKey
 finds-same q a b n h = keep-same (takes q a) (takes q b) (n .points ++ n .inserts) (λ s i. rw (h (s .key)))
 

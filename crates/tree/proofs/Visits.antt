@@ -19,13 +19,13 @@ use Rattle.tree.proofs.Onto.{onto, distinct-onto}
 use Rattle.tree.proofs.Traces.{walk-traced, walk-trace, whole-blocks}
 
 -- a walk that is whole reads the blocks of `visits`
-pub walk-reads : (l : ℕ) (m : Store) (q : Query) (named : List ℕ) (p : Part) (w : Walk) → isBroken (walk l m q named p w) ≡ false
+walk-reads : (l : ℕ) (m : Store) (q : Query) (named : List ℕ) (p : Part) (w : Walk) → isBroken (walk l m q named p w) ≡ false
     → blocksRead (walk l m q named p w) ≡ onto (visits l m q p) (blocksRead w)
 walk-reads l m q named p broken h = absurd (true≢false (sym (ap isBroken (walk-traced l m q named .stays p)) ∙ h))
 walk-reads l m q named p (walked found blocks) h = whole-blocks (obeys l m q p) (gains l m q named p found) _ (walk-trace l m q named p found blocks) h
 
 -- blocks read are reached
-pub visits-reach : (l : ℕ) (m : Store) (q : Query) (p : Part) (k : ℕ) → List·Memᴰ k (visits l m q p) → List·Memᴰ k (reach l m p)
+visits-reach : (l : ℕ) (m : Store) (q : Query) (p : Part) (k : ℕ) → List·Memᴰ k (visits l m q p) → List·Memᴰ k (reach l m p)
 unfolding visits reach
 visits-reach zero m q p k j = j
 visits-reach (suc l) m q p k j =
@@ -34,7 +34,7 @@ visits-reach (suc l) m q p k j =
     (List·Memᴰ·cases-cons j)
 
 -- reached once, so read once
-pub visits-once : (l : ℕ) (m : Store) (q : Query) (p : Part) → Once (reach l m p) → Once (visits l m q p)
+visits-once : (l : ℕ) (m : Store) (q : Query) (p : Part) → Once (reach l m p) → Once (visits l m q p)
 unfolding visits reach
 visits-once zero m q p a = tt
 visits-once (suc l) m q p a = (

@@ -29,7 +29,7 @@ Nth [] i c = ⊥
 Nth (p ∷ ps) zero c = c ≡ p
 Nth (p ∷ ps) (suc i) c = Nth ps i c
 
-pub nth-mem : (ps : List Part) (i : ℕ) {c : Part} → Nth ps i c → List·Memᴰ c ps
+nth-mem : (ps : List Part) (i : ℕ) {c : Part} → Nth ps i c → List·Memᴰ c ps
 nth-mem [] i k = absurd k
 nth-mem (p ∷ ps) zero k = List·Memᴰ·head k
 nth-mem (p ∷ ps) (suc i) k = List·Memᴰ·tail (nth-mem ps i k)
@@ -108,7 +108,7 @@ module _ (lo hi : ℕ) (es : List Entry) (i : ℕ) (c : Part) (k : ChildAt lo hi
   child-is = sym (λ j. record { block = k .stands j; asked = k .asked j; lo = child-lo j; hi = child-hi j })
 
   -- it is the part at that place
-  pub child-nth : Nth (parts lo hi es) i c
+  child-nth : Nth (parts lo hi es) i c
   child-nth =
       subst (λ (l : List Entry). Nth (parts lo hi l) i c) (sym (k .among))
       (subst (λ (j : ℕ). Nth (parts lo hi (k .before ++ (k .entry ∷ k .after))) j c) (k .placed)
@@ -160,7 +160,7 @@ child-later lo hi e es i c k =
     begin = child-lo (nextLow es hi) hi es i c k ∙ own (k .before) (k .among)
 
 -- and the part at a place is a child
-pub nth-child : (lo hi : ℕ) (es : List Entry) (i : ℕ) {c : Part} → Nth (parts lo hi es) i c → ChildAt lo hi es i c
+nth-child : (lo hi : ℕ) (es : List Entry) (i : ℕ) {c : Part} → Nth (parts lo hi es) i c → ChildAt lo hi es i c
 nth-child lo hi [] i k = absurd k
 nth-child lo hi (e ∷ es) zero k = child-first lo hi e es k
 nth-child lo hi (e ∷ es) (suc i) {c} k = child-later lo hi e es i c (nth-child (nextLow es hi) hi es i k)
@@ -186,7 +186,7 @@ module _ (m : Store) where
   first-step (step {d = d} k r) = (d, k, r)
 
   -- a step more
-  pub step-on : {p d c : Part} {way : List ℕ} {i : ℕ} → Leads m p way d → ChildOf m d i c → Leads m p (way ++ (i ∷ [])) c
+  step-on : {p d c : Part} {way : List ℕ} {i : ℕ} → Leads m p way d → ChildOf m d i c → Leads m p (way ++ (i ∷ [])) c
   step-on {p} {d} {c} {i = i} (here e) k = step (subst (λ (x : Part). ChildOf m x i c) e k) (here refl)
   step-on (step j r) k = step j (step-on r k)
 

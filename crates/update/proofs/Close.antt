@@ -47,7 +47,7 @@ pub record Shape (l b : ℕ) (a : Asked) (lo hi : ℕ) (n : Node) : Type 0 where
   pub full : hi ≤ allKeys
 
 -- then it keeps the rules, if its block is none of those below it
-pub closed-node : (l : ℕ) (m : Store) (b : ℕ) (a : Asked) (lo hi r : ℕ) (n : Node) (f : ℕ → Option ℕ) → Open l m lo hi r (n .entries) (heldOf n) f → Shape l b a lo hi n
+closed-node : (l : ℕ) (m : Store) (b : ℕ) (a : Asked) (lo hi r : ℕ) (n : Node) (f : ℕ → Option ℕ) → Open l m lo hi r (n .entries) (heldOf n) f → Shape l b a lo hi n
     → (List·Memᴰ b (reaches l m (parts lo hi (n .entries))) → ⊥)
     → (nodeOk l a n ≡ true) × (inRange (part b a lo hi) n ≡ true)
 unfolding nodeOk inRange

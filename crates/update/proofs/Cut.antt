@@ -99,20 +99,20 @@ relow-node l n e e′ o a b c d h =
     lower ks q = every-imp _ _ ks (λ k i. le-leb (e′ .low) k (let z = leb-true (e .low) k i in omega arith)) q
 
 -- the same of a part
-pub sound-relow : (l : ℕ) (m : Store) (b lo hi : ℕ) (e e′ : Entry) → e′ .block ≡ e .block → e′ .size ≡ e .size → e′ .top ≡ e .top → e′ .bottom ≡ e .bottom → e′ .low ≤ e .low
+sound-relow : (l : ℕ) (m : Store) (b lo hi : ℕ) (e e′ : Entry) → e′ .block ≡ e .block → e′ .size ≡ e .size → e′ .top ≡ e .top → e′ .bottom ≡ e .bottom → e′ .low ≤ e .low
     → soundAt l m (part b (Child e) lo hi) ≡ true → soundAt l m (part b (Child e′) lo hi) ≡ true
 unfolding soundAt inRange
 sound-relow zero m b lo hi e e′ o p q r d h = absurd (false≢true h)
 sound-relow (suc l) m b lo hi e e′ o p q r d h = all-cons _ _ (relow-node l (m b) e e′ o p q r d (all-at _ h 0)) (all-cons _ _ (all-at _ h 1) (all-cons _ _ (all-at _ h 2) all-nil))
 
 -- reach and lookup don't ask what leads to a part
-pub reach-asked : (l : ℕ) (m : Store) (b lo hi : ℕ) (a a′ : Asked) → reach l m (part b a lo hi) ≡ reach l m (part b a′ lo hi)
+reach-asked : (l : ℕ) (m : Store) (b lo hi : ℕ) (a a′ : Asked) → reach l m (part b a lo hi) ≡ reach l m (part b a′ lo hi)
 unfolding reach
 reach-asked zero m b lo hi a a′ = refl
 reach-asked (suc l) m b lo hi a a′ = refl
 
 -- nor does lookup
-pub lookup-asked : (l : ℕ) (m : Store) (k b lo hi : ℕ) (a a′ : Asked) → lookup l m k (part b a lo hi) ≡ lookup l m k (part b a′ lo hi)
+lookup-asked : (l : ℕ) (m : Store) (k b lo hi : ℕ) (a a′ : Asked) → lookup l m k (part b a lo hi) ≡ lookup l m k (part b a′ lo hi)
 unfolding lookup
 lookup-asked zero m k b lo hi a a′ = refl
 lookup-asked (suc l) m k b lo hi a a′ = refl
@@ -120,15 +120,15 @@ lookup-asked (suc l) m k b lo hi a a′ = refl
 -- the first of some entries with its low put to 0, as it stands in a block
 module _ (l : ℕ) (m : Store) (lo hi : ℕ) (v : Entry) (vs : List Entry) where
   -- finds the same
-  pub under-open : (k : ℕ) → under l m lo hi (openBelow v ∷ vs) k ≡ under l m lo hi (v ∷ vs) k
+  under-open : (k : ℕ) → under l m lo hi (openBelow v ∷ vs) k ≡ under l m lo hi (v ∷ vs) k
   under-open k = ap (λ (q : Option ℕ). cond (within lo (nextLow vs hi) k) q (under l m (nextLow vs hi) hi vs k)) (lookup-asked l m k (v .block) lo (nextLow vs hi) (Child (openBelow v)) (Child v))
 
   -- reaches the same
-  pub reaches-open : reaches l m (parts lo hi (openBelow v ∷ vs)) ≡ reaches l m (parts lo hi (v ∷ vs))
+  reaches-open : reaches l m (parts lo hi (openBelow v ∷ vs)) ≡ reaches l m (parts lo hi (v ∷ vs))
   reaches-open = ap (λ (q : List ℕ). q ++ reaches l m (parts (nextLow vs hi) hi vs)) (reach-asked l m (v .block) lo (nextLow vs hi) (Child (openBelow v)) (Child v))
 
   -- and is sound
-  pub sounds-open : every (soundAt l m) (parts lo hi (v ∷ vs)) ≡ true → every (soundAt l m) (parts lo hi (openBelow v ∷ vs)) ≡ true
+  sounds-open : every (soundAt l m) (parts lo hi (v ∷ vs)) ≡ true → every (soundAt l m) (parts lo hi (openBelow v ∷ vs)) ≡ true
   sounds-open h =
       let a = part (v .block) (Child v) lo (nextLow vs hi) in
       let r = every (soundAt l m) (parts (nextLow vs hi) hi vs) in
@@ -158,7 +158,7 @@ module _ (l : ℕ) (m : Store) (lo hi r : ℕ) (es : List Entry) (b : Held) (f :
       }
 
   -- the side below sep
-  pub open-low : (sep : ℕ) (es′ : List Entry) → sep ≤ hi → Sound l m (parts lo sep es′) → Steps lo sep es′
+  open-low : (sep : ℕ) (es′ : List Entry) → sep ≤ hi → Sound l m (parts lo sep es′) → Steps lo sep es′
       → ((k : ℕ) → within lo sep k ≡ true → under l m lo hi es k ≡ under l m lo sep es′ k)
       → Open l m lo sep r es′ (halfOf (λ k. ltb k sep) b) f
   open-low sep es′ h s st same =
@@ -167,7 +167,7 @@ module _ (l : ℕ) (m : Store) (lo hi r : ℕ) (es : List Entry) (b : Held) (f :
       same
 
   -- the side from sep on
-  pub open-high : (sep : ℕ) (es′ : List Entry) → lo ≤ sep → Sound l m (parts sep hi es′) → Steps sep hi es′
+  open-high : (sep : ℕ) (es′ : List Entry) → lo ≤ sep → Sound l m (parts sep hi es′) → Steps sep hi es′
       → ((k : ℕ) → within sep hi k ≡ true → under l m lo hi es k ≡ under l m sep hi es′ k)
       → Open l m sep hi r es′ (halfOf (λ k. leb sep k) b) f
   open-high sep es′ h s st same =
@@ -210,11 +210,11 @@ module _ (l : ℕ) (m : Store) (lo hi r : ℕ) (u : Entry) (us : List Entry) (v 
   steps-C = steps-split lo hi (u ∷ us) (v ∷ vs) (o .steps) .1
 
   -- the cut lies in the range
-  pub low-sep : lo ≤ sep
+  low-sep : lo ≤ sep
   low-sep = steps-le lo sep u us steps-A
 
   -- below its end
-  pub sep-high : sep ≤ hi
+  sep-high : sep ≤ hi
   sep-high = steps-le sep hi v vs steps-C
 
   whole : (k : ℕ) → under l m lo hi ((u ∷ us) ++ (v ∷ vs)) k ≡ cond (covers k A) (under l m lo sep (u ∷ us) k) (under l m sep hi (v ∷ vs) k)

@@ -35,7 +35,7 @@ going-held l lo hi x s es₀ y s′ r r′ es b b′ f g a o = record { node = o
 module _ (l lo hi : ℕ) (x : Store) (s : List ℕ) (es₀ : List Entry) (y : Store) (s′ : List ℕ) (r : ℕ) (us vs : List Entry) (e : Entry) (b : Held) (f : ℕ → Option ℕ)
     (a : Going l lo hi x s es₀ y s′ r (us ++ (e ∷ vs)) b f) where
   -- the spare blocks left aren't reached
-  pub going-spare : Apart s′ (reaches l y (parts lo hi (us ++ (e ∷ vs))))
+  going-spare : Apart s′ (reaches l y (parts lo hi (us ++ (e ∷ vs))))
   going-spare = spare-left l s s′ x (parts lo hi es₀) y (parts lo hi (us ++ (e ∷ vs))) (under l y lo hi (us ++ (e ∷ vs))) (a .less) (a .spare) (a .changed)
 
   going-parts : parts lo hi (us ++ (e ∷ vs)) ≡ parts lo (e .low) us ++ ((childAt lo hi us vs e ∷ []) ++ parts (nextLow vs hi) hi vs)

@@ -47,7 +47,7 @@ unfolding nodeOk inRange
 rules-of l p n a b = record { rises = all-at _ a 3; once = all-at _ a 4; above = all-at _ a 6; inside = λ k i. every-mem _ _ (all-at _ b 0) i }
 
 -- an entry leads to a part
-pub entry-part : (lo hi : ℕ) (es : List Entry) {e : Entry} → List·Memᴰ e es → (c : Part) × List·Memᴰ c (parts lo hi es) × (c .asked ≡ Child e)
+entry-part : (lo hi : ℕ) (es : List Entry) {e : Entry} → List·Memᴰ e es → (c : Part) × List·Memᴰ c (parts lo hi es) × (c .asked ≡ Child e)
 entry-part lo hi [] i = absurd (List·Memᴰ·not-nil i)
 entry-part lo hi (x ∷ es) {e} i =
     ⊎-elim (λ h. (part (x .block) (Child x) lo (nextLow es hi), List·Memᴰ·head refl, ap Child (sym h)))
@@ -80,7 +80,7 @@ top-of l m c e a s z =
     record { point = i; inside = v .1; track = v .0 .0; live = v .0 .1 }
 
 -- the top of an entry with points is live below
-pub top-live : (l : ℕ) (m : Store) (p : Part) (n : Node) → Steps (p .lo) (p .hi) (n .entries) → every (soundAt l m) (children p n) ≡ true
+top-live : (l : ℕ) (m : Store) (p : Part) (n : Node) → Steps (p .lo) (p .hi) (n .entries) → every (soundAt l m) (children p n) ≡ true
     → (e : Entry) → List·Memᴰ e (n .entries) → (e .size ≡ 0 → ⊥) → (a : ℕ) × (beneath l m p n (e .top) ≡ some a)
 top-live l m p n st s e i z =
     let c = entry-part (p .lo) (p .hi) (n .entries) i in
@@ -123,7 +123,7 @@ module _ (l : ℕ) (m : Store) (p : Part) (n : Node) (s : every (soundAt l m) (c
       omega (arith, u, t .3))
 
   -- nothing below: any rank will do as the lowest, 0 too
-  pub nothing-below : lowest n ≡ true → (k : ℕ) → beneath l m p n k ≡ none
+  nothing-below : lowest n ≡ true → (k : ℕ) → beneath l m p n k ≡ none
   unfolding lowest
   nothing-below h k = sizes-none l m (p .lo) (p .hi) (n .entries) s (λ e i. eqb-true (e .size) 0 (every-mem _ _ (all-at _ h 3) i)) k
 

@@ -61,7 +61,7 @@ pub open-held : (l : ℕ) (m : Store) (lo hi r r′ : ℕ) (es : List Entry) (b 
 open-held l m lo hi r r′ es b b′ f g o a e = record { kids = o .kids; steps = o .steps; ready = a; found = e }
 
 -- the store changes elsewhere
-pub ready-ext : (lo hi r : ℕ) (P I : List Spot) (D : List ℕ) (below below′ : ℕ → Option ℕ) → ((k : ℕ) → below′ k ≡ below k) → Ready lo hi r P I D below → Ready lo hi r P I D below′
+ready-ext : (lo hi r : ℕ) (P I : List Spot) (D : List ℕ) (below below′ : ℕ → Option ℕ) → ((k : ℕ) → below′ k ≡ below k) → Ready lo hi r P I D below → Ready lo hi r P I D below′
 ready-ext lo hi r P I D below below′ e h = ready-fewer h (h .upP) (h .upI) (h .upD) (λ k i. i) (λ k i. i) (λ k i. i) (λ k a i. h .deep k a (sym (e k) ∙ i))
 
 -- the node in memory stays what it was

@@ -65,16 +65,16 @@ module _ (lo hi : ℕ) (full : hi ≤ allKeys) where
 
   module _ (r : ℕ) (P I : List Spot) (D : List ℕ) (below : ℕ → Option ℕ) (h : Ready lo hi r P I D below) where
     -- where a key of P, of I, of D isn't
-    pub P-not-I : (k : ℕ) → r ≤ rankKey k → find k I ≡ none
+    P-not-I : (k : ℕ) → r ≤ rankKey k → find k I ≡ none
     P-not-I k g = find-none k I (λ i. let z = h .underI k i in omega arith)
 
-    pub P-not-D : (k : ℕ) → r ≤ rankKey k → has k D ≡ false
+    P-not-D : (k : ℕ) → r ≤ rankKey k → has k D ≡ false
     P-not-D k g = has-not k D (λ i. let z = h .underD k i in omega arith)
 
-    pub not-P : (k : ℕ) → rankKey k < r → find k P ≡ none
+    not-P : (k : ℕ) → rankKey k < r → find k P ≡ none
     not-P k g = find-none k P (λ i. let z = h .above k i in omega arith)
 
-    pub P-not-below : (k : ℕ) → r ≤ rankKey k → below k ≡ none
+    P-not-below : (k : ℕ) → r ≤ rankKey k → below k ≡ none
     P-not-below k g = too-high r below (h .deep) k g
 
     -- 5. FILL, one round. t is the highest of I and of what is live below; `below′` is what is found below afterwards: t is no longer there.

@@ -39,13 +39,13 @@ use Rattle.update.proofs.Node.{Top, top-of}
 use Rattle.update.proofs.Going.{going-held, going-child, going-fresh, going-on}
 
 -- one entry for another of the same block
-pub blocks-same : (us vs : List Entry) (e e′ : Entry) → e′ .block ≡ e .block → childBlocks (us ++ ((e′ ∷ []) ++ vs)) ≡ childBlocks (us ++ (e ∷ vs))
+blocks-same : (us vs : List Entry) (e e′ : Entry) → e′ .block ≡ e .block → childBlocks (us ++ ((e′ ∷ []) ++ vs)) ≡ childBlocks (us ++ (e ∷ vs))
 blocks-same [] vs e e′ h = ap (λ (b : ℕ). b ∷ childBlocks vs) h
 blocks-same (u ∷ us) vs e e′ h = ap (λ (r : List ℕ). u .block ∷ r) (blocks-same us vs e e′ h)
 
 module _ (ni nd l lo hi : ℕ) (full : hi ≤ allKeys) (x : Store) (es₀ : List Entry) (f : ℕ → Option ℕ) where
   -- a round that takes the highest of I, which isn't below
-  pub round-alone : (y : Store) (r : ℕ) (es : List Entry) (b : Held) → Loop ni nd l lo hi x es₀ y r es b f → length (b .points) < 32
+  round-alone : (y : Store) (r : ℕ) (es : List Entry) (b : Held) → Loop ni nd l lo hi x es₀ y r es b f → length (b .points) < 32
       → (s : Spot) → List·Memᴰ (s .key) (keys (b .inserts)) → find (s .key) (b .inserts) ≡ some (s .track) → ((k : ℕ) → List·Memᴰ k (keys (b .inserts)) → rankKey k ≤ rankKey (s .key))
       → ((k a : ℕ) → under l y lo hi es k ≡ some a → rankKey k ≤ rankKey (s .key)) → under l y lo hi es (s .key) ≡ none
       → Loop ni nd l lo hi x es₀ y (rankKey (s .key)) es (record { points = put s (b .points); inserts = only (but (s .key)) (b .inserts); deletes = keep (lower (s .key)) (b .deletes) }) f
@@ -109,7 +109,7 @@ module _ (ni nd l lo hi : ℕ) (full : hi ≤ allKeys) (x : Store) (es₀ : List
     child-low = first-low lo us vs e (ap zeroFirst (p .sameLows) ∙ zero₀)
 
     -- its top
-    pub child-top : Top l y (childAt lo hi us vs e) (e .top)
+    child-top : Top l y (childAt lo hi us vs e) (e .top)
     child-top = top-of l y c e refl (and-left (soundAt l y c) true (child-sound .each)) some-points
 
     pub top-within : within lo hi (e .top) ≡ true

@@ -50,7 +50,7 @@ parts-append lo hi (u ∷ us) vs =
     rw (nextLow-append us vs hi, parts-append (nextLow us (nextLow vs hi)) hi us vs, start-next us (nextLow vs hi))
 
 -- their ranges rise together
-pub steps-join : (lo hi : ℕ) (us vs : List Entry) → Steps lo (nextLow vs hi) us → Steps (start lo us (nextLow vs hi)) hi vs → Steps lo hi (us ++ vs)
+steps-join : (lo hi : ℕ) (us vs : List Entry) → Steps lo (nextLow vs hi) us → Steps (start lo us (nextLow vs hi)) hi vs → Steps lo hi (us ++ vs)
 steps-join lo hi [] vs a b = b
 steps-join lo hi (u ∷ us) vs a b =
     rw (nextLow-append us vs hi) (a .0, steps-join (nextLow us (nextLow vs hi)) hi us vs (a .1) (rw (start-next us (nextLow vs hi)) b))
@@ -83,7 +83,7 @@ module _ (l : ℕ) (New : ℕ → Type 0) (x y : Store) (lo hi : ℕ) (us vs : L
   parts-one = parts-append lo hi us (e ∷ vs)
 
   -- and what it became
-  pub parts-more : f .low ≡ e .low
+  parts-more : f .low ≡ e .low
       → parts lo hi (us ++ ((f ∷ fs) ++ vs)) ≡ parts lo (e .low) us ++ (parts (start lo us (e .low)) (nextLow vs hi) (f ∷ fs) ++ parts (nextLow vs hi) hi vs)
   parts-more h =
       parts-append lo hi us ((f ∷ fs) ++ vs) ∙ ap (λ (b : ℕ). parts lo b us ++ parts (start lo us b) hi ((f ∷ fs) ++ vs)) h ∙
