@@ -131,7 +131,10 @@ module _ (list : List ℕ) (from n fan b c : ℕ) (fs : List ℕ) (t₀ : List �
           let some = below .some in
           let count = r .count in
           let at : b + 1 + j * w ≡ b + 1 + length (entriesOf es) * nodes fs = omega (arith, ap (λ (k : ℕ). b + 1 + j * k) we, ap (λ (k : ℕ). b + 1 + k * nodes fs) (r .long)) in
-          let post : BuildPost room fs (b + 1 + length (entriesOf es) * nodes fs) (spotsFrom list (from + (n - left)) share) c t u e = subst (λ (k : ℕ). BuildPost room fs k (spotsFrom list (from + (n - left)) share) c t u e) at (subst (λ (k : ℕ). BuildPost k fs (b + 1 + j * w) (spotsFrom list (from + (n - left)) share) c t u e) (ap blocksOf (r .sized)) (subst (λ (k : ℕ). BuildPost (blocksOf (length t)) fs (b + 1 + j * w) (spotsFrom list (from + (n - left)) share) k t u e) xc p)) in
+          let post : BuildPost room fs (b + 1 + length (entriesOf es) * nodes fs) (spotsFrom list (from + (n - left)) share) c t u e =
+          subst (λ (k : ℕ). BuildPost room fs k (spotsFrom list (from + (n - left)) share) c t u e) at
+          (subst (λ (k : ℕ). BuildPost k fs (b + 1 + j * w) (spotsFrom list (from + (n - left)) share) c t u e) (ap blocksOf (r .sized))
+          (subst (λ (k : ℕ). BuildPost (blocksOf (length t)) fs (b + 1 + j * w) (spotsFrom list (from + (n - left)) share) k t u e) xc p)) in
           let together : spotsFrom list from (n - left) ++ spotsFrom list (from + (n - left)) share ≡ spotsFrom list from (n - (left - share)) =
           let k : n - left + share ≡ n - (left - share) = omega arith in
           sym (spots-join list from (n - left) share) ∙ ap (spotsFrom list from) k in

@@ -140,7 +140,10 @@ module _ (t list : List ℕ) (from n f g h b : ℕ) (r : Buildable t list from n
         let is : storeOf u b ≡ builtNode (blocksOf (length t)) (suc (length fs)) (firstOpen (entriesOf es)) (band c x ys) =
         p .is ∙ ap (λ (y : ℕ). builtNode (blocksOf y) h (firstOpen (entriesOf es)) (band c x ys)) (k .sized)
         ∙ ap (λ (y : ℕ). builtNode (blocksOf (length t)) y (firstOpen (entriesOf es)) (band c x ys)) high in
-        let built : Built (f ∷ fs) (blocksOf (length t)) (storeOf u) b ys x = node-built (blocksOf (length t)) fs c f x b t₁ u (entriesOf es) ys (children-shares list from n f b c fs t ready k done) long (p .sized) (p .else) is (subst (λ (y : ℕ). c ≤ y) (sym q) (cut .under)) (subst (λ (y : ℕ). length (band c y ys) ≤ 64) (sym q) (cut .most)) (subst (λ (y : ℕ). (32 ≤ length (band c y ys)) ⊎ (c ≡ 0)) (sym q) (cut .least)) in
+        let built : Built (f ∷ fs) (blocksOf (length t)) (storeOf u) b ys x =
+        node-built (blocksOf (length t)) fs c f x b t₁ u (entriesOf es) ys (children-shares list from n f b c fs t ready k done) long (p .sized) (p .else)
+        is (subst (λ (y : ℕ). c ≤ y) (sym q) (cut .under)) (subst (λ (y : ℕ). length (band c y ys) ≤ 64) (sym q) (cut .most))
+        (subst (λ (y : ℕ). (32 ≤ length (band c y ys)) ⊎ (c ≡ 0)) (sym q) (cut .least)) in
         let w : j * nodes fs ≡ f * nodes fs = ap (λ (y : ℕ). y * nodes fs) (omega arith) in (
           subst (λ (s : List ℕ). BuildPost (blocksOf (length t)) s b ys x t u e) (sym shape-is)
               (own-post (f ∷ fs) b x ys t t₁ (k .sized) (λ z o. k .other z (⊎-elim (λ (y : z < b). inl (omega arith)) (λ (y : b + suc (f * nodes fs) ≤ z). inr (omega arith)) o)) p built),

@@ -110,7 +110,10 @@ start t x1 x2 k h =
 
 -- ---- a part is read
 
-module _ (t : List ℕ) (x1 x2 : ℤ) (k : ℕ) (us : List Pending) (p : Pending) (vs : List Pending) (found given : List Spot) (blocks : List ℕ) (g : Progress t x1 x2 k (us ++ (p ∷ vs)) found given blocks) (most : NonePromises (promised p) (us ++ vs)) (low : NoneRanks (promised p) found) (room : length given < k) (l : ℕ) (e : p .levels ≡ suc l) (ok : nodeOk l (p .part .asked) (storeOf t (p .part .block)) ≡ true) (new : has (p .part .block) blocks ≡ false) where
+module _ (t : List ℕ) (x1 x2 : ℤ) (k : ℕ) (us : List Pending) (p : Pending) (vs : List Pending)
+    (found given : List Spot) (blocks : List ℕ) (g : Progress t x1 x2 k (us ++ (p ∷ vs)) found given blocks)
+    (most : NonePromises (promised p) (us ++ vs)) (low : NoneRanks (promised p) found) (room : length given < k)
+    (l : ℕ) (e : p .levels ≡ suc l) (ok : nodeOk l (p .part .asked) (storeOf t (p .part .block)) ≡ true) (new : has (p .part .block) blocks ≡ false) where
   fitting : Fit t (topQuery x1 x2 0) p
   fitting = g .fit p (mem-here us p vs)
 

@@ -355,8 +355,20 @@ module _ (t : List ℕ) (s : sound t ≡ true) (q : Query) where
   pub report-bound : ones (readMap (blocksRead (walkTable t q))) ≤ 1 + 36 * (headOf t .levels) + 9 * (length (spots (walkTable t q)) / 16)
   unfolding live
   report-bound =
-      omega
-      (arith, ones-few (blocksRead (walkTable t q)), ap length table-reads, length-reverseAux (visits (headOf t .levels) (storeOf t) q (whole (headOf t))) [], b .read, b .paid, b .few, counted, length-append (keys (spots (walkTable t q))) (b .ds), keys-length (spots (walkTable t q)), mul-le-mul-right (headOf t .levels) (cuts-small q 0 allKeys), levels-some (headOf t .levels) (storeOf t) (whole (headOf t)) (sound-tree t s))
+      omega (
+        arith,
+        ones-few (blocksRead (walkTable t q)),
+        ap length table-reads,
+        length-reverseAux (visits (headOf t .levels) (storeOf t) q (whole (headOf t))) [],
+        b .read,
+        b .paid,
+        b .few,
+        counted,
+        length-append (keys (spots (walkTable t q))) (b .ds),
+        keys-length (spots (walkTable t q)),
+        mul-le-mul-right (headOf t .levels) (cuts-small q 0 allKeys),
+        levels-some (headOf t .levels) (storeOf t) (whole (headOf t)) (sound-tree t s),
+      )
     where
       b : Bill q 0 allKeys (λ k. lookup (headOf t .levels) (storeOf t) k (whole (headOf t))) (λ k. Under k (storeOf t (headOf t .root))) (headOf t .levels) 1
           (length (visits (headOf t .levels) (storeOf t) q (whole (headOf t))))

@@ -166,7 +166,16 @@ module _ (l : ℕ) (New : ℕ → Type 0) (x y : Store) (us ps qs vs : List Part
   changed-among =
       let e = every-right (soundAt l x) us (ps ++ vs) (s .each) in
       record {
-        sound = record { each = every-join (soundAt l y) us (qs ++ vs) (sounds-same x y l us same-as ∙ every-left (soundAt l x) us (ps ++ vs) (s .each)) (every-join (soundAt l y) qs vs (c .sound .each) (sounds-same x y l vs same-bs ∙ every-right (soundAt l x) ps vs e)); once = once-after; led = every-join leads us (qs ++ vs) (every-left leads us (ps ++ vs) (s .led)) (every-join leads qs vs (c .sound .led) (every-right leads ps vs (every-right leads us (ps ++ vs) (s .led)))) };
+        sound =
+            record {
+              each =
+                  every-join (soundAt l y) us (qs ++ vs) (sounds-same x y l us same-as ∙ every-left (soundAt l x) us (ps ++ vs) (s .each))
+                  (every-join (soundAt l y) qs vs (c .sound .each) (sounds-same x y l vs same-bs ∙ every-right (soundAt l x) ps vs e));
+              once = once-after;
+              led =
+                  every-join leads us (qs ++ vs) (every-left leads us (ps ++ vs) (s .led))
+                  (every-join leads qs vs (c .sound .led) (every-right leads ps vs (every-right leads us (ps ++ vs) (s .led))));
+            };
         span = λ k. covers-append k us (qs ++ vs) ∙ rw (covers-append k qs vs, c .span k, ← (covers-append k ps vs)) (sym (covers-append k us (ps ++ vs)));
         found = λ k i. found-after k;
         reached = reached-after;

@@ -26,8 +26,11 @@ put-node-requires c κs =
     let at-take-band = at-open-first .before in
     let start = at-take-band .before .before .before in
     let a = start .args in
-    let p = start .pre in
-    (p .inside, own-storable (a .level) (a .es) (at-open-first .open-first .result) (at-take-band .take-band .result) (c .before .before .empty .result) (c .before .empty-keys .result) (at-open-first .open-first .ensures .0) (at-open-first .open-first .ensures .1) (c .before .before .empty .ensures .0) (c .before .empty-keys .ensures .0) (p .shallow) (p .entries) (at-take-band .take-band .ensures .2))
+    let p = start .pre in (
+      p .inside,
+      own-storable (a .level) (a .es) (at-open-first .open-first .result) (at-take-band .take-band .result) (c .before .before .empty .result) (c .before .empty-keys .result)
+          (at-open-first .open-first .ensures .0) (at-open-first .open-first .ensures .1) (c .before .before .empty .ensures .0) (c .before .empty-keys .ensures .0) (p .shallow) (p .entries) (at-take-band .take-band .ensures .2),
+    )
 
 first-key-requires : tie.Need-first-key-requires
 first-key-requires c κs = search needs
@@ -47,7 +50,9 @@ returns c =
     let at-take-band = at-open-first .before in
     let start = at-take-band .before .before .before in
     let a = start .args in
-    own-put (a .level) (a .es) (at-open-first .open-first .result) (at-take-band .take-band .result) (at-empty .empty .result) (at-empty-keys .empty-keys .result) (at-open-first .open-first .ensures .0) (at-open-first .open-first .ensures .1) (at-empty .empty .ensures .0) (at-empty-keys .empty-keys .ensures .0) {ps = band (a .cut) (limitOf (a .limit)) (spotsFrom (a .list .now) (a .from) (a .n))} (at-put-node .put-node .ensures) (at-take-band .take-band .ensures .1) (c .before .first-key .ensures) (c .entry-for .ensures)
+    own-put (a .level) (a .es) (at-open-first .open-first .result) (at-take-band .take-band .result) (at-empty .empty .result) (at-empty-keys .empty-keys .result)
+    (at-open-first .open-first .ensures .0) (at-open-first .open-first .ensures .1) (at-empty .empty .ensures .0) (at-empty-keys .empty-keys .ensures .0)
+    {ps = band (a .cut) (limitOf (a .limit)) (spotsFrom (a .list .now) (a .from) (a .n))} (at-put-node .put-node .ensures) (at-take-band .take-band .ensures .1) (c .before .first-key .ensures) (c .entry-for .ensures)
 
 pub put-own-spec : {M : Type 1} → statement M
 put-own-spec =

@@ -35,7 +35,9 @@ returns c =
     let at-zero = at-write32 .before .before .before .before in
     let start = at-zero .before .before .before in
     let p = start .pre in
-    numbers-are _ _ _ (p .1) (p .2) (p .3) (start .args .s .now) (at-zero .zero .last .0) (at-write32 .write32 .last .0) (at-write8 .write8 .last .0) (at-write82 .write82 .last .0) (at-write16 .write16 .last .0) (c .before .before .write322 .last .0) (p .0) (at-zero .zero .ensures) (at-write32 .write32 .ensures) (at-write8 .write8 .ensures) (at-write82 .write82 .ensures) (at-write16 .write16 .ensures) (c .before .before .write322 .ensures)
+    numbers-are _ _ _ (p .1) (p .2) (p .3) (start .args .s .now)
+    (at-zero .zero .last .0) (at-write32 .write32 .last .0) (at-write8 .write8 .last .0) (at-write82 .write82 .last .0) (at-write16 .write16 .last .0) (c .before .before .write322 .last .0)
+    (p .0) (at-zero .zero .ensures) (at-write32 .write32 .ensures) (at-write8 .write8 .ensures) (at-write82 .write82 .ensures) (at-write16 .write16 .ensures) (c .before .before .write322 .ensures)
 
 pub write-numbers-spec : {M : Type 1} → statement M
 write-numbers-spec =
