@@ -22,7 +22,7 @@
  *   spot_count      reads block 0 and every node block that has spots.
  *   spot_check      reads block 0 and every node block.
  *   spot_report     reads at most 1 + 36h + 9 * (spots div 16) blocks on a sound table, and marks exactly those; each twice, to count and to write.
- *   spot_top        reads the blocks of the report from the lowest rank that it gives; once up to 1,024 spots, twice above.
+ *   spot_top        reads the blocks of the report from the lowest rank that it gives; once up to 512 spots, twice above.
  *   spot_add        reads block 0 and the h blocks on the way down, and writes block 0 and the root where the root has room. Where it has none, changes go down in batches:
  *   spot_withdraw   some more blocks a level. Rarely, where no block is spare, all is laid out anew as by spot_rebuild. Both zero as much of the work area as the table is
  *                   long, which is most of their time on a large table. A withdrawal that finds nothing writes nothing to the table.

@@ -171,13 +171,13 @@ module _ (x1 x2 : ℤ) (k : ℕ) (t out map : List ℕ) where
         }
 
     -- few spots, from a buffer of 12,288 bytes
-    pub top-few : (r : Answer) (n : ℕ) (base few seen out′ map′ : List ℕ) → Ended t x1 x2 k 1024 base seen few n → n ≤ 1024 → n ≤ length out / 12 → r ≡ answer 0 n
+    pub top-few : (r : Answer) (n : ℕ) (base few seen out′ map′ : List ℕ) → Ended t x1 x2 k 512 base seen few n → n ≤ 512 → n ≤ length out / 12 → r ≡ answer 0 n
         → out′ ≡ take (12 * n) few ++ drop (12 * n) out → map′ ≡ seen
         → TopPost x1 x2 k t out map r out′ map′
     top-few r n base few seen out′ map′ v small l a o w =
         let g = v .given in
         let c : n ≡ length g = v .counted in
-        let all : take 1024 g ≡ g = take-all 1024 g (omega arith) in
+        let all : take 512 g ≡ g = take-all 512 g (omega arith) in
         let front : take (12 * n) few ≡ spotsBytes g =
         ap (take (12 * n)) (v .output ∙ ap (λ (ss : List Spot). spotsBytes ss ++ drop (12 * length ss) base) all)
         ∙ take-at (spotsBytes g) (drop (12 * length g) base) (12 * n) (length-spotsBytes g ∙ ap (λ (i : ℕ). 12 * i) (sym c)) in

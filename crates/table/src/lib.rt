@@ -133,8 +133,8 @@ pub fn top(
     }
     let q = spot::top_query(x1, x2, 0);
     let mut read = [0u8; 512];
-    let mut few = [0u8; 12288];
-    let all = top::top_run(table, &mut read, q, k as usize, &mut few, 1024);
+    let mut few = [0u8; 6144];
+    let all = top::top_run(table, &mut read, q, k as usize, &mut few, 512);
     if !all.ok {
         return refuse(3);
     }
@@ -145,7 +145,7 @@ pub fn top(
             detail: n as u32,
         };
     }
-    if n <= 1024 {
+    if n <= 512 {
         octets::copy(&few, output, 12 * n);
         octets::copy(&read, read_map, 512);
         return block::Answer {

@@ -58,7 +58,7 @@ top-run-requires c κs =
       sized = (sym (c .before .before .before .before .before .before .sized .ensures) ∙ not-false _ (c .before .before .before .before .before .if1 .left));
       clear = refl;
       some = omega (arith, c .before .before .before .if3 .left);
-      fits = omega (arith, length-replicate 12288 zero);
+      fits = omega (arith, length-replicate 6144 zero);
     }
 
 refuse-requires-3 : tie.Need-refuse-requires-3
@@ -85,7 +85,7 @@ mul-copy : tie.Need-mul-copy
 mul-copy c = omega (arith, c .before .before .if6 .taken)
 
 copy-requires : tie.Need-copy-requires
-copy-requires c κs = (omega (arith, c .before .before .before .before .before .before .before .before .top-run .kept .1 .1 .1 .1 .0, length-replicate 12288 zero, c .before .before .if6 .taken), omega (arith, c .before .before .before .if5 .left))
+copy-requires c κs = (omega (arith, c .before .before .before .before .before .before .before .before .top-run .kept .1 .1 .1 .1 .0, length-replicate 6144 zero, c .before .before .if6 .taken), omega (arith, c .before .before .before .if5 .left))
 
 slice-aggregate-copy-2 : tie.Need-slice-aggregate-copy-2
 slice-aggregate-copy-2 c = search needs
