@@ -50,10 +50,10 @@ extern "C" {
 
 /* Bytes of stack that suffice for a call on any table, return address included. measure/stack computes them from the built archive and fails where one is too low. */
 #define SPOT_STACK_FORMAT 8192
-#define SPOT_STACK_COUNT 8192
-#define SPOT_STACK_CHECK 8192
-#define SPOT_STACK_REPORT 8192
-#define SPOT_STACK_TOP 1236992
+#define SPOT_STACK_COUNT 16384
+#define SPOT_STACK_CHECK 16384
+#define SPOT_STACK_REPORT 16384
+#define SPOT_STACK_TOP 163840
 #define SPOT_STACK_ADD 409600
 #define SPOT_STACK_WITHDRAW 409600
 #define SPOT_STACK_REBUILD 32768
