@@ -2,7 +2,7 @@
 -- should of every key. Where the part was sound they never answer `broken` (`whole`). Whatever they answer, the journal can still tell what was.
 -- Assumes nothing.
 use mathlib.Core.Path.{_≡_}
-use Prim.Native.Nat.{ℕ, suc, _+_, _≤_, _<_}
+use Prim.Native.Nat.{ℕ, suc, _+_, _-_, _≤_, _<_}
 use mathlib.Core.Bool.{Bool, true, false, cond}
 use mathlib.Core.List.{List, [], _∷_, _++_, List·Memᴰ}
 use mathlib.Core.Option.{Option, none, some}
@@ -26,10 +26,11 @@ use Rattle.update.specs.Open.{Open}
 use Rattle.update.specs.Rounds.{Loop, Full}
 use Rattle.node.specs.Memory.{entriesOf, EntriesFit, EntryFits, EntryAt}
 use Rattle.node.specs.declared.NodeValue.{NodeValue}
-use Rattle.edit.specs.Edits.{heldIn, Tidy, BestChild}
+use Rattle.edit.specs.Edits.{heldIn, Tidy, Edited, BestChild}
 use Rattle.journal.specs.Journal.{Undoable}
 use Rattle.fill.specs.declared.Took.{Took}
 use Rattle.fill.specs.declared.Filled.{Filled}
+use Rattle.fill.specs.declared.Turn.{Turn}
 use Rattle.fill.specs.declared.Turned.{Turned}
 
 -- the entries lead to blocks of the table
@@ -156,3 +157,52 @@ pub record BothHighest (n : NodeValue) (c : ℕ) (s : Spot) : Type 0 where
   pub best : BestChild (entriesOf (n .entries)) c
   pub highest : Highest (held (n .inserts)) s
   pub same : (e : Entry) → EntryAt (entriesOf (n .entries)) c e → s .key ≡ e .top
+
+-- nothing waits in I, and no child has points
+pub record NothingLeft (n : NodeValue) (c : ℕ) : Type 0 where
+  pub bare : n .inserts .n ≡ 0
+  pub best : BestChild (entriesOf (n .entries)) c
+  pub outside : n .entries .n ≤ c
+
+-- the highest of I is higher than every child's top
+pub record InsertHighest (n : NodeValue) (s : Spot) : Type 0 where
+  pub highest : Highest (held (n .inserts)) s
+  pub tops : (d : Entry) → List·Memᴰ d (entriesOf (n .entries)) → (d .size ≡ 0 → ⊥) → rankKey (d .top) < rankKey (s .key)
+
+-- what a round takes is the highest there is
+pub record Planned (n : NodeValue) (p : Turn) : Type 0 where
+  pub at : p .below ≡ true → EntryAt (entriesOf (n .entries)) (p .child) (p .entry)
+  pub child : p .below ≡ true → p .waits ≡ false → ChildHighest n (p .child)
+  pub both : p .below ≡ true → p .waits ≡ true → BothHighest n (p .child) (p .high)
+  pub insert : p .below ≡ false → p .waits ≡ true → InsertHighest n (p .high)
+  pub over : p .below ≡ false → p .waits ≡ false → NothingLeft n (p .child)
+
+-- the child's block is of the table
+abbrev pub Fetchable : List ℕ → Turn → Type 0
+Fetchable t p = p .below ≡ true → (1 ≤ p .entry .block) × (p .entry .block < blocksOf (length t))
+
+-- the child's top was taken out where one was asked for; else nothing changed
+pub record FetchPost (t s map t′ s′ map′ : List ℕ) (level : ℕ) (p : Turn) (r : Took) : Type 0 where
+  pub none : p .below ≡ false → (t′ ≡ t) × (s′ ≡ s) × (map′ ≡ map) × (r .ok ≡ true)
+  pub leaf : p .below ≡ true → level ≡ 0 → (r .ok ≡ false) × (r .broken ≡ false)
+  pub taken : p .below ≡ true → (level ≡ 0 → ⊥) → TakePost t t′ s′ map′ (level - 1) (p .entry) r
+
+-- the child's new entry is in the node, and then the spot moves
+pub record TakenUp (n : NodeValue) (p : Turn) (took : Took) (Up : NodeValue → Type 0) : Type 0 where
+  pub next : NodeValue
+  pub replaced : Replaced n (p .child) (took .entry) next
+  pub up : Up next
+
+-- the last round
+pub record Ended (n : NodeValue) (r : Turned) : Type 0 where
+  pub node : NodeValue
+  pub is : r ≡ record { ok = true; broken = false; over = true; node = node }
+  pub edited : Edited n node (record { points = held (n .points); inserts = held (n .inserts); deletes = [] }) (n .points .n) (n .inserts .n) 0
+
+-- the node after a round
+pub record CarryPost (n : NodeValue) (p : Turn) (took : Took) (r : Turned) : Type 0 where
+  pub failed : took .ok ≡ false → (r .ok ≡ false) × (r .node ≡ n) × (r .broken ≡ took .broken)
+  pub child : took .ok ≡ true → p .below ≡ true → p .waits ≡ false → TakenUp n p took (λ m. ChildUp m (took .spot) r)
+  pub both : took .ok ≡ true → p .below ≡ true → p .waits ≡ true → TakenUp n p took (λ m. InsertUp m (p .high) r)
+  pub insert : took .ok ≡ true → p .below ≡ false → p .waits ≡ true → InsertUp n (p .high) r
+  pub over : took .ok ≡ true → p .below ≡ false → p .waits ≡ false → Ended n r

@@ -1,6 +1,6 @@
 // fill and take_top (source section 4, step v): P is filled up from I and from the children's highest points, a level lower each time.
 ghost use mathlib.Core.Path.{_≡_};
-ghost use mathlib.Core.Bool.{false};
+ghost use mathlib.Core.Bool.{true, false};
 ghost use mathlib.Core.List.{[]};
 ghost use Prim.Native.Nat.{_≤_, _<_};
 ghost use lib.ListN.{length};
@@ -9,7 +9,7 @@ ghost use Rattle.block.specs.Table.{blocksOf};
 ghost use Rattle.buffer.specs.Buffer.{held, named};
 ghost use Rattle.edit.specs.Edits.{Tidy, Edited};
 ghost use Rattle.journal.specs.Journal.{Undoable, Kept};
-ghost use Rattle.fill.specs.Filling.{Workable, FillPost, TakePost, RoundPost, Replaced, InsertUp, ChildUp, ChildHighest, BothHighest};
+ghost use Rattle.fill.specs.Filling.{Workable, FillPost, TakePost, Replaced, InsertUp, ChildUp, Planned, Fetchable, FetchPost, CarryPost};
 
 // The highest point of a child, taken out: the child's entry then, and the spot. Where it is not ok, `broken` says that a block that was read breaks a rule;
 // else there was no room. So it is in the two below.
@@ -24,6 +24,15 @@ pub struct Filled {
     pub ok: bool,
     pub broken: bool,
     pub node: node::NodeValue,
+}
+
+// What a round takes: the highest of the child at `child`, where `below`, and of I, where it `waits`; both where they have one key. With neither nothing is left.
+pub struct Turn {
+    pub below: bool,
+    pub waits: bool,
+    pub child: usize,
+    pub entry: block::Entry,
+    pub high: spot::Spot,
 }
 
 // One round of fill: whether it went well, whether nothing is left, and the node then.
@@ -42,6 +51,19 @@ fn not_taken(e: block::Entry, broken: bool) -> Took
     Took {
         ok: false,
         broken,
+        entry,
+        spot,
+    }
+}
+
+fn nothing_taken(e: block::Entry) -> Took
+    ensures { λ r. ⌜ (r .ok ≡ true) × (r .broken ≡ false) ⌝ }
+{
+    let entry = e;
+    let spot = spot::Spot { key: 0, track: 0 };
+    Took {
+        ok: true,
+        broken: false,
         entry,
         spot,
     }
@@ -116,115 +138,70 @@ fn without_deletes(n: node::NodeValue) -> node::NodeValue
     }
 }
 
-// Takes the highest point out of the child that an entry leads to, and fills the child again.
-pub fn take_top(t: &mut [u8], s: &mut [u8], map: &mut [u8], e: block::Entry, level: usize) -> Took
-    requires { ⌜ Undoable (now t) (now s) (now map) × (1 ≤ e .block) × (e .block < blocksOf (length (now t))) × (level ≤ 6) ⌝ }
-    ensures kept { λ r. ⌜ Kept (now (t .entry)) (now (s .entry)) (now (map .entry)) (now (t .exit)) (now (s .exit)) (now (map .exit)) ⌝ }
-    ensures took { λ r. ⌜ TakePost (now (t .entry)) (now (t .exit)) (now (s .exit)) (now (map .exit)) level e r ⌝ }
+// Nothing of a child.
+fn turn_above(waits: bool, child: usize, high: spot::Spot) -> Turn
+    ensures { λ r. ⌜ (r .below ≡ false) × (r .waits ≡ waits) × (r .child ≡ child) × (r .high ≡ high) ⌝ }
 {
-    let b = e.block;
-    if !block::block_ok(t, b, level, block::Asked::Child(e)) {
-        return not_taken(e, true);
+    let none = block::Entry {
+        block: 0,
+        size: 0,
+        low: 0,
+        top: 0,
+        bottom: 0,
+    };
+    Turn {
+        below: false,
+        waits,
+        child,
+        entry: none,
+        high,
     }
-    let n = node::load(t, b);
-    let size = n.points.n;
-    if size == 0 {
-        return not_taken(e, false);
-    }
-    let spot = buffer::highest(n.points);
-    let open = without_point(n, spot.key);
-    let f = fill(t, s, map, open, level);
-    if !f.ok {
-        return not_taken(e, f.broken);
-    }
-    let full = f.node;
-    journal::write_node(t, s, map, b, full);
-    let entry = edit::entry_for(b, e.low, full);
-    Took {
-        ok: true,
-        broken: false,
+}
+
+// The top of a child.
+fn turn_below(waits: bool, child: usize, entry: block::Entry, high: spot::Spot) -> Turn
+    ensures { λ r. ⌜ r ≡ record { below = true; waits = waits; child = child; entry = entry; high = high } ⌝ }
+{
+    Turn {
+        below: true,
+        waits,
+        child,
         entry,
-        spot,
+        high,
     }
 }
 
-// Fills P up to 32, as long as anything is left. After 128 rounds it gives up: not ok, and the caller undoes.
-pub fn fill(t: &mut [u8], s: &mut [u8], map: &mut [u8], n: node::NodeValue, level: usize) -> Filled
-    requires { ⌜ Workable (now t) (now s) (now map) n level ⌝ }
-    ensures kept { λ r. ⌜ Kept (now (t .entry)) (now (s .entry)) (now (map .entry)) (now (t .exit)) (now (s .exit)) (now (map .exit)) ⌝ }
-    ensures filled { λ r. ⌜ FillPost (now (t .entry)) (now (t .exit)) (now (s .exit)) (now (map .exit)) level n r ⌝ }
+// What the next round takes: the highest in rank order of I and of the children's tops.
+fn next_turn(n: node::NodeValue) -> Turn
+    requires { ⌜ Tidy n × (n .entries .n ≤ 8) ⌝ }
+    ensures { λ r. ⌜ Planned n r ⌝ }
 {
-    let mut node = n;
-    let mut rounds: usize = 0;
-    while node.points.n < 32 {
-        if 128 <= rounds {
-            return Filled {
-                ok: false,
-                broken: false,
-                node,
-            };
-        }
-        let r = round(t, s, map, node, level);
-        node = r.node;
-        if !r.ok {
-            return Filled {
-                ok: false,
-                broken: r.broken,
-                node,
-            };
-        }
-        if r.over {
-            return Filled {
-                ok: true,
-                broken: false,
-                node,
-            };
-        }
-        rounds += 1;
-    }
-    Filled {
-        ok: true,
-        broken: false,
-        node,
-    }
-}
-
-// The highest of I and of the children's tops goes to P; deletes at or above it are done with.
-pub fn round(t: &mut [u8], s: &mut [u8], map: &mut [u8], n: node::NodeValue, level: usize) -> Turned
-    requires { ⌜ Workable (now t) (now s) (now map) n level × (n .points .n < 32) ⌝ }
-    ensures kept { λ r. ⌜ Kept (now (t .entry)) (now (s .entry)) (now (map .entry)) (now (t .exit)) (now (s .exit)) (now (map .exit)) ⌝ }
-    ensures turned { λ r. ⌜ RoundPost (now (t .entry)) (now (t .exit)) (now (s .exit)) (now (map .exit)) level n r ⌝ }
-{
-    let c = edit::best_child(n.entries);
+    let child = edit::best_child(n.entries);
     let count = n.entries.n;
     let waiting = n.inserts.n;
+    let none = spot::Spot { key: 0, track: 0 };
     if waiting == 0 {
-        if count <= c {
-            let node = without_deletes(n);
-            return Turned {
-                ok: true,
-                broken: false,
-                over: true,
-                node,
-            };
+        if count <= child {
+            return turn_above(false, child, none);
         }
-        return from_child(t, s, map, n, level, c);
+        let e = node::entry(n.entries, child);
+        return turn_below(false, child, e, none);
     }
     let high = buffer::highest(n.inserts);
-    if count <= c {
-        return from_inserts(n, high);
+    if count <= child {
+        return turn_above(true, child, high);
     }
-    let e = node::entry(n.entries, c);
+    let e = node::entry(n.entries, child);
     if spot::rank_key(high.key) < spot::rank_key(e.top) {
-        return from_child(t, s, map, n, level, c);
+        return turn_below(false, child, e, high);
     }
     if high.key == e.top {
-        return from_both(t, s, map, n, level, c, high);
+        return turn_below(true, child, e, high);
     }
-    from_inserts(n, high)
+    turn_above(true, child, high)
 }
 
-// From I alone.
+// From I: the spot goes to P.
 fn from_inserts(n: node::NodeValue, high: spot::Spot) -> Turned
     requires { ⌜ Tidy n × (n .points .n < 32) ⌝ }
     ensures { λ r. ⌜ InsertUp n high r ⌝ }
@@ -268,53 +245,120 @@ fn from_top(n: node::NodeValue, top: spot::Spot) -> Turned
     }
 }
 
-// From I, where a child's top is an older copy of the same key, which goes.
-fn from_both(
-    t: &mut [u8],
-    s: &mut [u8],
-    map: &mut [u8],
-    n: node::NodeValue,
-    level: usize,
-    c: usize,
-    high: spot::Spot,
-) -> Turned
-    requires { ⌜ Workable (now t) (now s) (now map) n level × (n .points .n < 32) × BothHighest n c high ⌝ }
-    ensures kept { λ r. ⌜ Kept (now (t .entry)) (now (s .entry)) (now (map .entry)) (now (t .exit)) (now (s .exit)) (now (map .exit)) ⌝ }
-    ensures turned { λ r. ⌜ RoundPost (now (t .entry)) (now (t .exit)) (now (s .exit)) (now (map .exit)) level n r ⌝ }
+// The node after a round: with the child's new entry, and the spot in P, or dropped with the delete that names it. Where nothing was left, no delete is needed.
+fn carry_out(n: node::NodeValue, p: Turn, took: Took) -> Turned
+    requires { ⌜ Tidy n × (n .points .n < 32) × (n .entries .n ≤ 8) × Planned n p ⌝ }
+    ensures { λ r. ⌜ CarryPost n p took r ⌝ }
 {
-    if level == 0 {
-        return failed(n, false);
-    }
-    let e = node::entry(n.entries, c);
-    let took = take_top(t, s, map, e, level - 1);
     if !took.ok {
         return failed(n, took.broken);
     }
-    let next = with_child(n, c, took.entry);
-    from_inserts(next, high)
+    if p.below {
+        let next = with_child(n, p.child, took.entry);
+        if p.waits {
+            return from_inserts(next, p.high);
+        }
+        return from_top(next, took.spot);
+    }
+    if p.waits {
+        return from_inserts(n, p.high);
+    }
+    let node = without_deletes(n);
+    Turned {
+        ok: true,
+        broken: false,
+        over: true,
+        node,
+    }
 }
 
-// From the child with the highest top.
-fn from_child(
-    t: &mut [u8],
-    s: &mut [u8],
-    map: &mut [u8],
-    n: node::NodeValue,
-    level: usize,
-    c: usize,
-) -> Turned
-    requires { ⌜ Workable (now t) (now s) (now map) n level × (n .points .n < 32) × ChildHighest n c ⌝ }
+// Takes the highest point out of the child that an entry leads to, and fills the child again.
+pub fn take_top(t: &mut [u8], s: &mut [u8], map: &mut [u8], e: block::Entry, level: usize) -> Took
+    requires { ⌜ Undoable (now t) (now s) (now map) × (1 ≤ e .block) × (e .block < blocksOf (length (now t))) × (level ≤ 6) ⌝ }
     ensures kept { λ r. ⌜ Kept (now (t .entry)) (now (s .entry)) (now (map .entry)) (now (t .exit)) (now (s .exit)) (now (map .exit)) ⌝ }
-    ensures turned { λ r. ⌜ RoundPost (now (t .entry)) (now (t .exit)) (now (s .exit)) (now (map .exit)) level n r ⌝ }
+    ensures took { λ r. ⌜ TakePost (now (t .entry)) (now (t .exit)) (now (s .exit)) (now (map .exit)) level e r ⌝ }
 {
+    let b = e.block;
+    if !block::block_ok(t, b, level, block::Asked::Child(e)) {
+        return not_taken(e, true);
+    }
+    let n = node::load(t, b);
+    let size = n.points.n;
+    if size == 0 {
+        return not_taken(e, false);
+    }
+    let spot = buffer::highest(n.points);
+    let open = without_point(n, spot.key);
+    let f = fill(t, s, map, open, level);
+    if !f.ok {
+        return not_taken(e, f.broken);
+    }
+    journal::write_node(t, s, map, b, f.node);
+    let entry = edit::entry_for(b, e.low, f.node);
+    Took {
+        ok: true,
+        broken: false,
+        entry,
+        spot,
+    }
+}
+
+// Fills P up to 32, as long as anything is left: a round moves one spot. Only the node lives here while a child is worked on, and no copy of it.
+// After 128 rounds it gives up: not ok, and the caller undoes.
+pub fn fill(t: &mut [u8], s: &mut [u8], map: &mut [u8], n: node::NodeValue, level: usize) -> Filled
+    requires { ⌜ Workable (now t) (now s) (now map) n level ⌝ }
+    ensures kept { λ r. ⌜ Kept (now (t .entry)) (now (s .entry)) (now (map .entry)) (now (t .exit)) (now (s .exit)) (now (map .exit)) ⌝ }
+    ensures filled { λ r. ⌜ FillPost (now (t .entry)) (now (t .exit)) (now (s .exit)) (now (map .exit)) level n r ⌝ }
+{
+    let mut node = n;
+    let mut rounds: usize = 0;
+    while node.points.n < 32 {
+        if 128 <= rounds {
+            return Filled {
+                ok: false,
+                broken: false,
+                node,
+            };
+        }
+        let p = next_turn(node);
+        let took = fetch(t, s, map, p, level);
+        let r = carry_out(node, p, took);
+        node = r.node;
+        if !r.ok {
+            return Filled {
+                ok: false,
+                broken: r.broken,
+                node,
+            };
+        }
+        if r.over {
+            return Filled {
+                ok: true,
+                broken: false,
+                node,
+            };
+        }
+        rounds += 1;
+    }
+    Filled {
+        ok: true,
+        broken: false,
+        node,
+    }
+}
+
+// Takes out the child's top that a round asks for.
+fn fetch(t: &mut [u8], s: &mut [u8], map: &mut [u8], p: Turn, level: usize) -> Took
+    requires { ⌜ Undoable (now t) (now s) (now map) × (level ≤ 6) × Fetchable (now t) p ⌝ }
+    ensures kept { λ r. ⌜ Kept (now (t .entry)) (now (s .entry)) (now (map .entry)) (now (t .exit)) (now (s .exit)) (now (map .exit)) ⌝ }
+    ensures fetched { λ r. ⌜ FetchPost (now (t .entry)) (now (s .entry)) (now (map .entry)) (now (t .exit)) (now (s .exit)) (now (map .exit)) level p r ⌝ }
+{
+    let e = p.entry;
+    if !p.below {
+        return nothing_taken(e);
+    }
     if level == 0 {
-        return failed(n, false);
+        return not_taken(e, false);
     }
-    let e = node::entry(n.entries, c);
-    let took = take_top(t, s, map, e, level - 1);
-    if !took.ok {
-        return failed(n, took.broken);
-    }
-    let next = with_child(n, c, took.entry);
-    from_top(next, took.spot)
+    take_top(t, s, map, e, level - 1)
 }
