@@ -1,7 +1,7 @@
 -- A node cut in two: the separating key of a leaf, and the entries of one that has none.
 -- Assumes nothing.
 use mathlib.Core.Path.{_≡_}
-use mathlib.Core.Logic.{⊎-elim}
+use mathlib.Core.Logic.{_⊎_, ⊎-elim}
 use mathlib.Core.List.{List, List·Memᴰ}
 use Prim.Native.Nat.{ℕ, _/_, _≤_, _<_}
 use native.Mathlib.Omega.{arith}
@@ -16,6 +16,17 @@ use Rattle.buffer.proofs.Laws.{held-length, held-keys, key-in}
 use Rattle.buffer.proofs.Counts.{below-at}
 use Rattle.buffer.proofs.Keyed.{spots, named-at}
 use Rattle.choose.proofs.Shares.{below-up}
+
+-- a node that can be cut in two: without entries it has two points, and else it has eight entries
+module _ (k p : ℕ) (cuts : ((k ≡ 0) × (2 ≤ p)) ⊎ (k ≡ 8)) where
+  pub leaf-points : k ≡ 0 → 2 ≤ p
+  leaf-points z = ⊎-elim (λ (h : (k ≡ 0) × (2 ≤ p)). h .1) (λ (h : k ≡ 8). absurd (omega arith)) cuts
+
+  pub inner-eight : (k ≡ 0 → ⊥) → k ≡ 8
+  inner-eight z = ⊎-elim (λ (h : (k ≡ 0) × (2 ≤ p)). absurd (z (h .0))) (λ (h : k ≡ 8). h) cuts
+
+  pub cut-few : k ≤ 8
+  cut-few = ⊎-elim (λ (h : (k ≡ 0) × (2 ≤ p)). let z = h .0 in omega arith) (λ (h : k ≡ 8). omega arith) cuts
 
 -- where there are no entries there are none on the right
 module _ (l : List Entry) (m : ℕ) (e : m ≡ 0) where

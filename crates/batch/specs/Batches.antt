@@ -2,7 +2,7 @@
 -- Assumes nothing.
 use mathlib.Core.Path.{_≡_}
 use Prim.Native.Nat.{ℕ, suc, _+_, _/_, _≤_, _<_}
-use mathlib.Core.Bool.{Bool, cond, not}
+use mathlib.Core.Bool.{Bool, true, false, cond, not}
 use mathlib.Core.List.{List, [], _++_, List·Memᴰ}
 use mathlib.Core.Option.{Option, none}
 use lib.ListN.{length, take, drop}
@@ -23,7 +23,6 @@ use Rattle.update.specs.Held.{insertAll, deleteAll}
 use Rattle.edit.specs.Edits.{heldIn, Tidy, Threshold, Spilled, SpillPost, Half}
 use Rattle.choose.specs.Choices.{ChildFor}
 use Rattle.batch.specs.declared.Picked.{Picked}
-use Rattle.batch.specs.declared.Halves.{Halves}
 
 -- what a batch says of a key, where d is said below: deletes come after inserts
 abbrev pub batchSays : List Spot → List ℕ → ℕ → Option ℕ → Option ℕ
@@ -114,9 +113,18 @@ pub record PutBack (n : NodeValue) (c : ℕ) (es : List Entry) (r : NodeValue) :
   pub inserts : r .inserts ≡ n .inserts
   pub deletes : r .deletes ≡ n .deletes
 
--- a node cut in two: a leaf between two of its points, an inner node of eight entries in the middle
-pub record Halved (n : NodeValue) (at : ℕ) (h : Halves) : Type 0 where
-  pub left : Half n (h .left) (λ j. ltb j (h .sep)) (take at (entriesOf (n .entries)))
-  pub right : Half n (h .right) (λ j. leb (h .sep) j) (firstOpen (drop at (entriesOf (n .entries))))
-  pub leaf : n .entries .n ≡ 0 → List·Memᴰ (h .sep) (keys (held (n .points))) × ((k : ℕ) × List·Memᴰ k (keys (held (n .points))) × (k < h .sep))
-  pub inner : n .entries .n ≡ 8 → (e : Entry) × EntryAt (entriesOf (n .entries)) 4 e × (h .sep ≡ e .low)
+-- where a node is cut in two: a leaf between two of its points, an inner node of eight entries in the middle
+pub record CutKey (n : NodeValue) (sep : ℕ) : Type 0 where
+  pub leaf : n .entries .n ≡ 0 → List·Memᴰ sep (keys (held (n .points))) × ((k : ℕ) × List·Memᴰ k (keys (held (n .points))) × (k < sep))
+  pub inner : n .entries .n ≡ 8 → (e : Entry) × EntryAt (entriesOf (n .entries)) 4 e × (sep ≡ e .low)
+
+-- the keys below, and the others
+abbrev pub Lower : NodeValue → ℕ → NodeValue → Type 0
+Lower n sep x = Half n x (λ j. ltb j sep) (take (n .entries .n / 2) (entriesOf (n .entries)))
+
+abbrev pub Upper : NodeValue → ℕ → NodeValue → Type 0
+Upper n sep x = Half n x (λ j. leb sep j) (firstOpen (drop (n .entries .n / 2) (entriesOf (n .entries))))
+
+pub record HalfOf (n : NodeValue) (sep : ℕ) (upper : Bool) (x : NodeValue) : Type 0 where
+  pub below : upper ≡ false → Lower n sep x
+  pub above : upper ≡ true → Upper n sep x

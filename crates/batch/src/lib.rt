@@ -14,7 +14,7 @@ ghost use Rattle.block.specs.NodeRules.{lows};
 ghost use Rattle.buffer.specs.Buffer.{held, named};
 ghost use Rattle.node.specs.Memory.{entriesOf};
 ghost use Rattle.edit.specs.Edits.{Tidy, Half};
-ghost use Rattle.batch.specs.Batches.{Receives, SpilledInner, TakenIn, Picking, Bound, EntriesBack, PutBack, Halved};
+ghost use Rattle.batch.specs.Batches.{Receives, SpilledInner, TakenIn, Picking, Bound, EntriesBack, PutBack, CutKey, HalfOf};
 
 // What is handed down to a child, and the node without it.
 pub struct Picked {
@@ -22,13 +22,6 @@ pub struct Picked {
     pub node: node::NodeValue,
     pub inserts: buffer::SpotBuffer,
     pub deletes: buffer::KeyBuffer,
-}
-
-// The keys below sep, and the others.
-pub struct Halves {
-    pub sep: u64,
-    pub left: node::NodeValue,
-    pub right: node::NodeValue,
 }
 
 // P over 64 spills into I, but at a leaf, which splits.
@@ -205,38 +198,31 @@ fn upper_leaf(n: node::NodeValue, sep: u64) -> node::NodeValue
     }
 }
 
-// A node without entries cut at its middle point.
-fn halve_leaf(n: node::NodeValue) -> Halves
-    requires { ⌜ Tidy n × (n .entries .n ≡ 0) × (2 ≤ n .points .n) ⌝ }
-    ensures { λ h. ⌜ Halved n 0 h ⌝ }
-{
-    let middle = buffer::get(n.points, n.points.n / 2);
-    let sep = middle.key;
-    let left = edit::left_half(n, 0, sep);
-    let right = upper_leaf(n, sep);
-    Halves { sep, left, right }
-}
-
-// A node of eight entries cut at the fifth.
-fn halve_inner(n: node::NodeValue) -> Halves
-    requires { ⌜ Tidy n × (n .entries .n ≡ 8) ⌝ }
-    ensures { λ h. ⌜ Halved n 4 h ⌝ }
-{
-    let fifth = node::entry(n.entries, 4);
-    let sep = fifth.low;
-    let left = edit::left_half(n, 4, sep);
-    let right = edit::right_half(n, 4, sep);
-    Halves { sep, left, right }
-}
-
-// The node cut in two: at its middle point where it has no entries, at the fifth of its eight entries else.
-pub fn halve(n: node::NodeValue) -> Halves
+// Where a node is cut in two: at its middle point where it has no entries, at the fifth of its eight entries else.
+pub fn cut_key(n: node::NodeValue) -> u64
     requires { ⌜ Tidy n × (((n .entries .n ≡ 0) × (2 ≤ n .points .n)) ⊎ (n .entries .n ≡ 8)) ⌝ }
-    ensures { λ h. ⌜ Halved n (n .entries .n / 2) h ⌝ }
+    ensures { λ sep. ⌜ CutKey n sep ⌝ }
 {
     let count = n.entries.n;
     if count == 0 {
-        return halve_leaf(n);
+        let middle = buffer::get(n.points, n.points.n / 2);
+        return middle.key;
     }
-    halve_inner(n)
+    let fifth = node::entry(n.entries, 4);
+    fifth.low
+}
+
+// The keys below the separating key, with the first half of the entries; or the others. Two calls, since a function called once would lie in the caller's frame.
+pub fn half(n: node::NodeValue, sep: u64, upper: bool) -> node::NodeValue
+    requires { ⌜ Tidy n × (((n .entries .n ≡ 0) × (2 ≤ n .points .n)) ⊎ (n .entries .n ≡ 8)) ⌝ }
+    ensures { λ x. ⌜ HalfOf n sep upper x ⌝ }
+{
+    let count = n.entries.n;
+    if !upper {
+        return edit::left_half(n, count / 2, sep);
+    }
+    if count == 0 {
+        return upper_leaf(n, sep);
+    }
+    edit::right_half(n, count / 2, sep)
 }

@@ -1,5 +1,6 @@
 pub mod Stores
 pub mod Halves
+pub mod Aside
 pub mod Lows
 pub mod Storing
 pub mod Splitting
@@ -7,3 +8,4 @@ pub mod Pushing
 pub mod Refining
 pub mod Readying
 pub mod Ways
+pub mod Finishing

@@ -29,11 +29,10 @@ use Rattle.journal.specs.Journal.{Kept}
 use Rattle.fill.specs.Filling.{Inside}
 use Rattle.fill.proofs.Works.{work-kept}
 use Rattle.spare.specs.declared.Spare.{Spare}
-use Rattle.batch.specs.declared.Halves.{Halves}
-use Rattle.batch.specs.Batches.{TakenIn, Halved}
+use Rattle.batch.specs.Batches.{TakenIn}
 use Rattle.settle.specs.Settling.{Settleable, Standing, SplitWhen, Cuttable, Pushable}
 use Rattle.settle.proofs.Lows.{rise-left, rise-right}
-use Rattle.settle.proofs.Splitting.{bareL, bareR, halfL, halfR, fours}
+use Rattle.settle.proofs.Splitting.{Halves, Halved, bareL, bareR, halfL, halfR, fours}
 
 -- ---- the node that was read and took in a batch
 
@@ -120,7 +119,7 @@ abbrev Fine : List Entry → Type 0
 Fine es = (zeroFirst (lows es) ≡ true) × (rising (rest (lows es)) ≡ true) × (length es ≤ 8)
 
 module _ {t s map : List ℕ} {b level : ℕ} {asked : Asked} {n : NodeValue} {h : Halves} {spare : Spare} {left : ℕ} (st : Standing t s map b level asked n spare left) (cuts : Cuttable level n)
-    (hv : Halved n (n .entries .n / 2) h) where
+    (hv : Halved n h) where
   -- a half with some of the entries
   half-push : {x : NodeValue} {g : ℕ → Bool} {es : List Entry} → Half n x g es → x .points .n ≤ 64 → Fine (entriesOf (x .entries)) → ((d : Entry) → List·Memᴰ d es → EntryFits d) → Inside t es
       → Pushable t s map x level spare (left - 1)

@@ -2,14 +2,15 @@
 -- Assumes nothing.
 use mathlib.Core.Path.{_≡_, refl, ap, sym, _∙_, subst, subst⁻¹}
 use mathlib.Core.Logic.{_⊎_, inl, inr, ⊎-elim}
-use mathlib.Core.Bool.{Bool, true, false, cond}
-use mathlib.Core.List.{List, [], _∷_, _++_, List·Memᴰ, List·Memᴰ·head, List·Memᴰ·tail, Memᴰ·append-left}
+use mathlib.Core.Bool.{true, false}
+use mathlib.Core.List.{List, [], _∷_, _++_, List·Memᴰ, List·Memᴰ·head, List·Memᴰ·tail, Memᴰ·append-left, Memᴰ·append-right}
 use mathlib.Core.Option.{Option}
 use Prim.Native.Nat.{ℕ, zero, suc, _-_, _/_, _≤_, _<_}
 use native.Mathlib.Omega.{arith}
 use lib.ListN.{length, take, drop}
 use lib.Dec.{ltb, leb}
 use Rattle.octets.specs.Sets.{Apart}
+use Rattle.octets.proofs.Order.{same-or-not}
 use Rattle.spot.proofs.Places.{within-from, within-to}
 use Rattle.block.specs.declared.Entry.{Entry}
 use Rattle.block.specs.declared.Asked.{Asked}
@@ -19,6 +20,7 @@ use Rattle.block.specs.Node.{Store, storeOf, openBelow, firstOpen}
 use Rattle.block.specs.NodeRules.{fewest, standsIn}
 use Rattle.tree.specs.Part.{Part, parts, lowOf}
 use Rattle.tree.specs.Reach.{reach}
+use Rattle.tree.proofs.Frame.{Same, reaches-same}
 use Rattle.tree.proofs.Gather.{gather-append}
 use Rattle.update.specs.Held.{Held}
 use Rattle.update.specs.Change.{part, reaches, Sound, Changed}
@@ -28,22 +30,34 @@ use Rattle.update.proofs.Change.{changed-refl, changed-trans}
 use Rattle.update.proofs.Close.{settle-two}
 use Rattle.update.proofs.Open.{open-frame}
 use Rattle.update.proofs.Cut.{halfOf, leaf-cut, open-left, open-right, cut-changed}
-use Rattle.update.proofs.Loose.{reach-step}
-use Rattle.node.specs.Memory.{entriesOf, nodeIn, EntryAt}
+use Rattle.update.proofs.Loose.{opened, reach-step}
+use Rattle.node.specs.Memory.{entriesOf, nodeIn, EntryAt, Stored}
 use Rattle.node.specs.declared.NodeValue.{NodeValue}
-use Rattle.edit.specs.Edits.{heldIn}
+use Rattle.node.proofs.Laws.{stored-else}
+use Rattle.edit.specs.Edits.{heldIn, EntryFor}
 use Rattle.fill.proofs.Onward.{same-at}
 use Rattle.spare.specs.declared.Spare.{Spare}
 use Rattle.spare.specs.Spares.{spareOf}
 use Rattle.spare.proofs.Taking.{spare-less, last-new, spare-step}
-use Rattle.batch.specs.declared.Halves.{Halves}
-use Rattle.batch.specs.Batches.{Halved}
-use Rattle.settle.specs.declared.Settled.{Settled}
+use Rattle.batch.specs.Batches.{CutKey, Lower, Upper}
 use Rattle.settle.specs.declared.Worked.{Worked}
-use Rattle.settle.specs.Settling.{again, became, LowsFit, Opened, WorkedTo, RefinePost, Standing, Cuttable, PlacedTo, PlacePost, StoredTwo}
+use Rattle.settle.specs.Settling.{LowsFit, Opened, WorkedTo, RefinePost, Standing, Cuttable, PlacedTo, PlacePost}
+use Rattle.settle.proofs.Aside.{instead, instead-here, instead-else, changed-aside}
 use Rattle.settle.proofs.Halves.{right-same, right-free, left-same, within-both, halves}
 use Rattle.settle.proofs.Lows.{lows-left, lows-right, cut-high, cut-low}
 use Rattle.settle.proofs.Storing.{Ground, refined-shape, block-few}
+
+-- ---- a node and its halves
+
+pub record Halves : Type 0 where
+  pub sep : ℕ
+  pub left : NodeValue
+  pub right : NodeValue
+
+pub record Halved (n : NodeValue) (h : Halves) : Type 0 where
+  pub key : CutKey n (h .sep)
+  pub left : Lower n (h .sep) (h .left)
+  pub right : Upper n (h .sep) (h .right)
 
 -- ---- eight entries, four and four
 
@@ -137,7 +151,7 @@ cut-as {x} {level} {lo} {sep} {hi} {s} {es} {es₁} {es₂} {ds} {ds₁} {ds₂}
 
 -- the halves that were made
 module _ {t s map : List ℕ} {b level : ℕ} {asked : Asked} {n : NodeValue} {h : Halves} {spare : Spare} {left : ℕ} (st : Standing t s map b level asked n spare left)
-    (hv : Halved n (n .entries .n / 2) h) where
+    (hv : Halved n h) where
   -- a leaf
   module _ (none : n .entries .n ≡ 0) where
     bare : entriesOf (n .entries) ≡ []
@@ -152,7 +166,7 @@ module _ {t s map : List ℕ} {b level : ℕ} {asked : Asked} {n : NodeValue} {h
     leaf-cuts : (x : Store) (lo hi : ℕ) (f : ℕ → Option ℕ) (free : List ℕ) → Opened x level lo hi n spare left f
         → CutIn x level lo (h .sep) hi free (entriesOf (n .entries)) (entriesOf (h .left .entries)) (entriesOf (h .right .entries)) (heldIn (h .left)) (heldIn (h .right)) f
     leaf-cuts x lo hi f free o =
-        let l = hv .leaf none in
+        let l = hv .key .leaf none in
         let i = o .node .ready .inP (h .sep) (l .0) in
         let j = o .node .ready .inP (l .1 .0) (l .1 .1) in
         let a = within-from lo hi (l .1 .0) j in
@@ -167,7 +181,7 @@ module _ {t s map : List ℕ} {b level : ℕ} {asked : Asked} {n : NodeValue} {h
     fours = eight (entriesOf (n .entries)) (st .counted ∙ full)
 
     sep-is : h .sep ≡ fours .v .low
-    sep-is = let i = hv .inner full in i .2 ∙ ap (λ (d : Entry). d .low) (same-at (entriesOf (n .entries)) 4 (i .0) (fours .v) (i .1) (fours .at))
+    sep-is = let i = hv .key .inner full in i .2 ∙ ap (λ (d : Entry). d .low) (same-at (entriesOf (n .entries)) 4 (i .0) (fours .v) (i .1) (fours .at))
 
     pub halfL : entriesOf (h .left .entries) ≡ take 4 (entriesOf (n .entries))
     halfL = hv .left .entries ∙ ap (λ (k : ℕ). take (k / 2) (entriesOf (n .entries))) full
@@ -212,7 +226,7 @@ module _ {t s map : List ℕ} {b level : ℕ} {asked : Asked} {n : NodeValue} {h
 
 -- ---- both halves worked on, the left first
 module _ {t s map : List ℕ} {b level : ℕ} {asked : Asked} {n : NodeValue} {h : Halves} {spare : Spare} {left : ℕ}
-    (st : Standing t s map b level asked n spare left) (cuts : Cuttable level n) (hv : Halved n (n .entries .n / 2) h)
+    (st : Standing t s map b level asked n spare left) (cuts : Cuttable level n) (hv : Halved n h)
     (lo hi : ℕ) (f : ℕ → Option ℕ) (o : Opened (storeOf t) level lo hi n spare left f) where
   abbrev sep : ℕ
   sep = h .sep
@@ -251,7 +265,9 @@ module _ {t s map : List ℕ} {b level : ℕ} {asked : Asked} {n : NodeValue} {h
   pub left-whole : {t₁ s₁ map₁ : List ℕ} {w₁ : Worked} → RefinePost t t₁ s₁ map₁ level (h .left) spare (left - 1) w₁ → w₁ .broken ≡ false
   left-whole p₁ = p₁ .work .whole lo sep f left-open
 
-  module _ {t₁ s₁ map₁ : List ℕ} {w₁ : Worked} (p₁ : RefinePost t t₁ s₁ map₁ level (h .left) spare (left - 1) w₁) (ok₁ : w₁ .ok ≡ true) where
+  -- it is stored in the old block, which no child of either half reaches
+  module _ {t₁ s₁ map₁ t₂ : List ℕ} {w₁ : Worked} (p₁ : RefinePost t t₁ s₁ map₁ level (h .left) spare (left - 1) w₁) (ok₁ : w₁ .ok ≡ true) (q₁ : Stored t₁ t₂ b (w₁ .node))
+      (sound : Sound (suc level) (storeOf t) (part b asked lo hi ∷ [])) (apart : Apart (spareOf spare left) (reaches (suc level) (storeOf t) (part b asked lo hi ∷ []))) where
     abbrev S₁ : List ℕ
     S₁ = spareOf spare (w₁ .left)
 
@@ -264,27 +280,51 @@ module _ {t s map : List ℕ} {b level : ℕ} {asked : Asked} {n : NodeValue} {h
     one : WorkedTo (storeOf t) (storeOf t₁) level lo sep (h .left) (w₁ .node) spare (left - 1) (w₁ .left) f
     one = p₁ .work .done ok₁ lo sep f left-open
 
+    right-kept : Same (storeOf t) (storeOf t₁) (reaches level (storeOf t) C)
+    right-kept = right-same level S S₁ (storeOf t) (storeOf t₁) A A′ C _ (u .cut .sound) free less₁ (one .going .changed)
+
+    own : List·Memᴰ b (spareOf spare left) → ⊥
+    own i = apart b i (Memᴰ·append-left [] (subst⁻¹ (λ (bs : List ℕ). List·Memᴰ b bs) (reach-step level (storeOf t) (part b asked lo hi)) (List·Memᴰ·head refl)))
+
+    off : List·Memᴰ b (reaches level (storeOf t) C) → ⊥
+    off i =
+        ⊎-elim
+        (λ j. opened level (storeOf t) (part b asked lo hi) sound .off (subst (λ (es : List Entry). List·Memᴰ b (reaches level (storeOf t) (parts lo hi es))) (st .same) j))
+        (λ v. v .1 (v .0)) (u .cut .reached b (rw (gather-append (reach level (storeOf t)) A C) (Memᴰ·append-right (reaches level (storeOf t) A) i)))
+
+    not-own : (z : ℕ) → List·Memᴰ z (reaches level (storeOf t) C) → z ≡ b → ⊥
+    not-own z i e = off (subst (λ (v : ℕ). List·Memᴰ v (reaches level (storeOf t) C)) e i)
+
+    else₁ : (z : ℕ) → (z ≡ b → ⊥) → storeOf t₂ z ≡ storeOf t₁ z
+    else₁ = stored-else t₁ t₂ b (w₁ .node) q₁
+
     -- then the right one
-    right-open : Opened (storeOf t₁) level sep hi (h .right) spare (w₁ .left) f
+    right-stays : Same (storeOf t) (storeOf t₂) (reaches level (storeOf t) C)
+    right-stays z i = else₁ z (not-own z i) ∙ right-kept z i
+
+    reaches₂ : reaches level (storeOf t₂) C ≡ reaches level (storeOf t) C
+    reaches₂ = reaches-same (storeOf t) (storeOf t₂) level C right-stays
+
+    right-open : Opened (storeOf t₂) level sep hi (h .right) spare (w₁ .left) f
     right-open =
         record {
           order = let z = u .high in omega arith;
           full = o .full;
           rank = u .rank;
-          node = open-frame level (storeOf t) (storeOf t₁) sep hi (u .rank) (entriesOf (h .right .entries)) (heldIn (h .right)) f
-              (right-same level S S₁ (storeOf t) (storeOf t₁) A A′ C _ (u .cut .sound) free less₁ (one .going .changed)) (u .openR);
+          node = open-frame level (storeOf t) (storeOf t₂) sep hi (u .rank) (entriesOf (h .right .entries)) (heldIn (h .right)) f right-stays (u .openR);
           lowsFit = u .lowsR;
-          free = right-free level S S₁ (storeOf t) (storeOf t₁) A A′ C _ (u .cut .sound) free less₁ (one .going .changed);
+          free = λ z i j.
+              right-free level S S₁ (storeOf t) (storeOf t₁) A A′ C _ (u .cut .sound) free less₁ (one .going .changed) z i
+              (subst⁻¹ (λ (bs : List ℕ). List·Memᴰ z bs) (reaches-same (storeOf t) (storeOf t₁) level C right-kept) (subst (λ (bs : List ℕ). List·Memᴰ z bs) reaches₂ j));
         }
 
-    pub right-whole : {t₂ s₂ map₂ : List ℕ} {w₂ : Worked} → RefinePost t₁ t₂ s₂ map₂ level (h .right) spare (w₁ .left) w₂ → w₂ .broken ≡ false
+    pub right-whole : {t₃ s₃ map₃ : List ℕ} {w₂ : Worked} → RefinePost t₂ t₃ s₃ map₃ level (h .right) spare (w₁ .left) w₂ → w₂ .broken ≡ false
     right-whole p₂ = p₂ .work .whole sep hi f right-open
 
-    -- and stored: the right one in the last of the spare blocks
-    module _ {t₂ s₂ map₂ t₃ : List ℕ} {c : ℕ} {w₂ : Worked} {r : Settled} (some : 0 < left) (last : spareOf spare left ≡ spareOf spare (left - 1) ++ (c ∷ []))
-        (p₂ : RefinePost t₁ t₂ s₂ map₂ level (h .right) spare (w₁ .left) w₂) (ok₂ : w₂ .ok ≡ true) (k₂ : length t₂ ≡ length t₁)
-        (q : StoredTwo t₂ t₃ b (lowOf asked) c (h .sep) (w₁ .node) (w₂ .node) (w₂ .left) r) (low : lowOf asked ≤ lo) (sound : Sound (suc level) (storeOf t) (part b asked lo hi ∷ []))
-        (apart : Apart (spareOf spare left) (reaches (suc level) (storeOf t) (part b asked lo hi ∷ []))) where
+    -- and it is stored in the last of the spare blocks
+    module _ {t₃ s₃ map₃ t₄ : List ℕ} {c : ℕ} {d e : Entry} {w₂ : Worked} (some : 0 < left) (last : spareOf spare left ≡ spareOf spare (left - 1) ++ (c ∷ []))
+        (p₂ : RefinePost t₂ t₃ s₃ map₃ level (h .right) spare (w₁ .left) w₂) (ok₂ : w₂ .ok ≡ true) (q₂ : Stored t₃ t₄ c (w₂ .node))
+        (d₁ : EntryFor b (lowOf asked) (w₁ .node) d) (d₂ : EntryFor c (h .sep) (w₂ .node) e) (low : lowOf asked ≤ lo) where
       abbrev S₂ : List ℕ
       S₂ = spareOf spare (w₂ .left)
 
@@ -297,71 +337,93 @@ module _ {t s map : List ℕ} {b level : ℕ} {asked : Asked} {n : NodeValue} {h
       less₂ : Within (spareOf spare (w₂ .left)) (spareOf spare (w₁ .left))
       less₂ = spare-less spare (w₂ .left) (w₁ .left) (p₂ .work .fewer)
 
-      two : WorkedTo (storeOf t₁) (storeOf t₂) level sep hi (h .right) (w₂ .node) spare (w₁ .left) (w₂ .left) f
+      two : WorkedTo (storeOf t₂) (storeOf t₃) level sep hi (h .right) (w₂ .node) spare (w₁ .left) (w₂ .left) f
       two = p₂ .work .done ok₂ sep hi f right-open
 
-      stays : Open level (storeOf t₂) lo sep (one .rank) (entriesOf (w₁ .node .entries)) (heldIn (w₁ .node)) f
+      not-taken : Taken S₁ S₂ b → ⊥
+      not-taken v = own (less₀ b (less₁ b (v .0)))
+
+      off₂ : List·Memᴰ b (reaches level (storeOf t₂) C) → ⊥
+      off₂ i = off (subst (λ (bs : List ℕ). List·Memᴰ b bs) reaches₂ i)
+
+      off₃ : (z : ℕ) → List·Memᴰ z (reaches level (storeOf t₃) C′) → z ≡ b → ⊥
+      off₃ z i q = ⊎-elim off₂ not-taken (two .going .changed .reached b (subst (λ (v : ℕ). List·Memᴰ v (reaches level (storeOf t₃) C′)) q i))
+
+      -- the last store, as if the old block had not been written
+      abbrev W : Store
+      W = instead b (storeOf t₁ b) (storeOf t₃)
+
+      same₃ : Same (storeOf t₃) W (reaches level (storeOf t₃) C′)
+      same₃ z i = instead-else b (storeOf t₁ b) (storeOf t₃) z (off₃ z i)
+
+      aside : Changed level (Taken S₁ S₂) (storeOf t₁) C W C′ (under level (storeOf t₃) sep hi (entriesOf (w₂ .node .entries)))
+      aside =
+          changed-aside level (Taken S₁ S₂) (storeOf t₂) (storeOf t₃) C C′ _ (two .going .changed) (storeOf t₁) W
+          (λ z i. sym (else₁ z (not-own z (subst (λ (bs : List ℕ). List·Memᴰ z bs) reaches₂ i)))) same₃
+          (λ z i j. ⊎-elim
+          (λ (q : z ≡ b). subst⁻¹ (λ (v : ℕ). W v ≡ storeOf t₁ v) q (instead-here b (storeOf t₁ b) (storeOf t₃)))
+          (λ (q : z ≡ b → ⊥). instead-else b (storeOf t₁ b) (storeOf t₃) z q ∙ two .going .changed .kept z i j ∙ else₁ z q) (same-or-not z b))
+
+      stays : Open level W lo sep (one .rank) (entriesOf (w₁ .node .entries)) (heldIn (w₁ .node)) f
       stays =
-          open-frame level (storeOf t₁) (storeOf t₂) lo sep (one .rank) (entriesOf (w₁ .node .entries)) (heldIn (w₁ .node)) f
-          (left-same level S S₁ (storeOf t) (storeOf t₁) A A′ C _ (u .cut .sound) free less₁ (one .going .changed) S₂ (storeOf t₂) C′ _ less₂ (two .going .changed)) (one .going .node)
+          open-frame level (storeOf t₁) W lo sep (one .rank) (entriesOf (w₁ .node .entries)) (heldIn (w₁ .node)) f
+          (left-same level S S₁ (storeOf t) (storeOf t₁) A A′ C _ (u .cut .sound) free less₁ (one .going .changed) S₂ W C′ _ less₂ aside) (one .going .node)
+
+      opens : Open level W sep hi (two .rank) (entriesOf (w₂ .node .entries)) (heldIn (w₂ .node)) f
+      opens = open-frame level (storeOf t₃) W sep hi (two .rank) (entriesOf (w₂ .node .entries)) (heldIn (w₂ .node)) f same₃ (two .going .node)
 
       -- the children of both
       abbrev word : ℕ → Option ℕ
-      word = within-both level S S₁ (storeOf t) (storeOf t₁) A A′ C (under level (storeOf t₁) lo sep (entriesOf (w₁ .node .entries))) (u .cut .sound) free less₁ (one .going .changed) S₂ (storeOf t₂) C′
-          (under level (storeOf t₂) sep hi (entriesOf (w₂ .node .entries))) less₂ (two .going .changed)
+      word = within-both level S S₁ (storeOf t) (storeOf t₁) A A′ C (under level (storeOf t₁) lo sep (entriesOf (w₁ .node .entries))) (u .cut .sound) free less₁ (one .going .changed) S₂ W C′
+          (under level (storeOf t₃) sep hi (entriesOf (w₂ .node .entries))) less₂ aside
 
-      kids : Changed level (Taken S S₂) (storeOf t) (parts lo hi (storeOf t b .entries)) (storeOf t₂) (A′ ++ C′) word
+      kids : Changed level (Taken S S₂) (storeOf t) (parts lo hi (storeOf t b .entries)) W (A′ ++ C′) word
       kids =
-          subst (λ (es : List Entry). Changed level (Taken S S₂) (storeOf t) (parts lo hi es) (storeOf t₂) (A′ ++ C′) word) (st .same)
-          (changed-trans level (Taken S S) (Taken S S₂) (Taken S S₂) (storeOf t) (parts lo hi (entriesOf (n .entries))) (storeOf t) (A ++ C) (storeOf t₂) (A′ ++ C′) (u .word) word
+          subst (λ (es : List Entry). Changed level (Taken S S₂) (storeOf t) (parts lo hi es) W (A′ ++ C′) word) (st .same)
+          (changed-trans level (Taken S S) (Taken S S₂) (Taken S S₂) (storeOf t) (parts lo hi (entriesOf (n .entries))) (storeOf t) (A ++ C) W (A′ ++ C′) (u .word) word
           (λ z v. absurd (v .1 (v .0))) (λ z v. v) (λ z v. inr v) (u .cut)
-          (halves level S S₁ (storeOf t) (storeOf t₁) A A′ C _ (u .cut .sound) free less₁ (one .going .changed) S₂ (storeOf t₂) C′ _ less₂ (two .going .changed)))
+          (halves level S S₁ (storeOf t) (storeOf t₁) A A′ C _ (u .cut .sound) free less₁ (one .going .changed) S₂ W C′ _ less₂ aside))
 
       -- the new block is not the old
       other : b ≡ c → ⊥
-      other e =
-          apart c (new .0)
-          (Memᴰ·append-left [] (subst⁻¹ (λ (bs : List ℕ). List·Memᴰ c bs) (reach-step level (storeOf t) (part b asked lo hi)) (List·Memᴰ·head (sym e))))
+      other q = own (subst⁻¹ (λ (v : ℕ). List·Memᴰ v (spareOf spare left)) q (new .0))
 
-      changed : Changed (suc level) (Taken (spareOf spare left) S₂) (storeOf t) (part b asked lo hi ∷ []) (storeOf t₃) (part b (Child (r .first)) lo sep ∷ part c (Child (r .second)) sep hi ∷ []) f
+      changed : Changed (suc level) (Taken (spareOf spare left) S₂) (storeOf t) (part b asked lo hi ∷ []) (storeOf t₄) (part b (Child d) lo sep ∷ part c (Child e) sep hi ∷ []) f
       unfolding standsIn
       changed =
-          settle-two level (Taken S S₂) (Taken (spareOf spare left) S₂) (storeOf t) (storeOf t₂) (storeOf t₃) (part b asked lo hi) (Child (r .first)) (Child (r .second)) (one .rank) (two .rank)
-          (nodeIn (blocksOf (length t₁)) (w₁ .node)) (nodeIn (blocksOf (length t₂)) (w₂ .node)) c sep f word sound
+          settle-two level (Taken S S₂) (Taken (spareOf spare left) S₂) (storeOf t) W (storeOf t₄) (part b asked lo hi) (Child d) (Child e) (one .rank) (two .rank)
+          (nodeIn (blocksOf (length t₁)) (w₁ .node)) (nodeIn (blocksOf (length t₃)) (w₂ .node)) c sep f word sound
           (λ z v i. apart z (v .0) (Memᴰ·append-left [] i)) (λ z v. (less₀ z (v .0), v .1)) (λ z v. ⊎-elim (λ j. inl (j, v .1)) inr (spare-step spare left c some (st .less) (st .spares .once) last z (v .0)))
           (new .0, λ i. new .1 (less₁ c (less₂ c i))) (λ v. new .1 (v .0)) (let z = u .low in omega arith) (let z = u .high in omega arith) kids
           stays
-          (refined-shape (Child (r .first)) (ground-left st hv cuts (r .first)) p₁ ok₁ b lo sep (q .first .block) (left-open .full) (one .lowsFit) (p₁ .full ok₁ lo sep f left-open) (let z = q .first .low in omega arith) (q .first .agree (blocksOf (length t₁))))
-          (two .going .node)
-          (refined-shape (Child (r .second)) (ground-right st hv cuts (r .second)) p₂ ok₂ c sep hi (q .second .block) (o .full) (two .lowsFit) (p₂ .full ok₂ sep hi f right-open) (let z = q .second .low in omega arith) (q .second .agree (blocksOf (length t₂))))
-          (q .here other ∙ ap (λ (v : ℕ). nodeIn (blocksOf v) (w₁ .node)) k₂)
-          (q .there)
-          (q .else)
+          (refined-shape (Child d) (ground-left st hv cuts d) p₁ ok₁ b lo sep (d₁ .block) (left-open .full) (one .lowsFit) (p₁ .full ok₁ lo sep f left-open) (let z = d₁ .low in omega arith) (d₁ .agree (blocksOf (length t₁))))
+          opens
+          (refined-shape (Child e) (ground-right st hv cuts e) p₂ ok₂ c sep hi (d₂ .block) (o .full) (two .lowsFit) (p₂ .full ok₂ sep hi f right-open) (let z = d₂ .low in omega arith) (d₂ .agree (blocksOf (length t₃))))
+          (stored-else t₃ t₄ c (w₂ .node) q₂ b other ∙ two .going .changed .kept b off₂ not-taken ∙ q₁ .here)
+          (q₂ .here)
+          (λ z i j. stored-else t₃ t₄ c (w₂ .node) q₂ z j ∙ sym (instead-else b (storeOf t₁ b) (storeOf t₃) z i))
 
-      placed : PlacedTo (storeOf t) (storeOf t₃) level b asked lo hi spare left r f
+      placed : PlacedTo (storeOf t) (storeOf t₄) level b asked lo hi spare left (record { ok = true; broken = false; two = true; first = d; second = e; left = w₂ .left }) f
       placed =
           record {
-            changed = subst⁻¹ (λ (v : ℕ). Changed (suc level) (Taken (spareOf spare left) (spareOf spare v)) (storeOf t) (part b asked lo hi ∷ []) (storeOf t₃) (became b asked lo hi r) f) (q .spare)
-                (subst⁻¹ (λ (d : Bool). Changed (suc level) (Taken (spareOf spare left) S₂) (storeOf t) (part b asked lo hi ∷ []) (storeOf t₃)
-                (cond d (part b (Child (r .first)) lo (r .second .low) ∷ part (r .second .block) (Child (r .second)) (r .second .low) hi ∷ []) (part b (again asked (r .first)) lo hi ∷ [])) f) (q .two)
-                (subst⁻¹ (λ (v : ℕ). Changed (suc level) (Taken (spareOf spare left) S₂) (storeOf t) (part b asked lo hi ∷ []) (storeOf t₃) (part b (Child (r .first)) lo v ∷ part (r .second .block) (Child (r .second)) v hi ∷ []) f) (q .second .low)
-                (subst⁻¹ (λ (v : ℕ). Changed (suc level) (Taken (spareOf spare left) S₂) (storeOf t) (part b asked lo hi ∷ []) (storeOf t₃) (part b (Child (r .first)) lo sep ∷ part v (Child (r .second)) sep hi ∷ []) f) (q .second .block) changed)));
-            apart = λ e. let z = q .second .low in (let a = u .low in omega arith, let a = u .high in omega arith);
+            changed = subst⁻¹ (λ (v : ℕ). Changed (suc level) (Taken (spareOf spare left) S₂) (storeOf t) (part b asked lo hi ∷ []) (storeOf t₄) (part b (Child d) lo v ∷ part (e .block) (Child e) v hi ∷ []) f) (d₂ .low)
+                (subst⁻¹ (λ (v : ℕ). Changed (suc level) (Taken (spareOf spare left) S₂) (storeOf t) (part b asked lo hi ∷ []) (storeOf t₄) (part b (Child d) lo sep ∷ part v (Child e) sep hi ∷ []) f) (d₂ .block) changed);
+            apart = λ q. let z = d₂ .low in (let a = u .low in omega arith, let a = u .high in omega arith);
           }
 
-pub place-two : {t s map t₁ s₁ map₁ t₂ s₂ map₂ t₃ : List ℕ} {b level : ℕ} {asked : Asked} {n : NodeValue} {h : Halves} {spare : Spare} {left c : ℕ} {w₁ w₂ : Worked} {r : Settled}
-    → Standing t s map b level asked n spare left → Cuttable level n → Halved n (n .entries .n / 2) h
-    → RefinePost t t₁ s₁ map₁ level (h .left) spare (left - 1) w₁ → w₁ .ok ≡ true → 0 < left → spareOf spare left ≡ spareOf spare (left - 1) ++ (c ∷ [])
-    → RefinePost t₁ t₂ s₂ map₂ level (h .right) spare (w₁ .left) w₂ → w₂ .ok ≡ true → length t₂ ≡ length t₁
-    → StoredTwo t₂ t₃ b (lowOf asked) c (h .sep) (w₁ .node) (w₂ .node) (w₂ .left) r → PlacePost t t₃ level b asked n spare left r
-place-two {spare = spare} {left = left} {c = c} st cuts hv p₁ ok₁ some last p₂ ok₂ k₂ q =
+pub place-two : {t s map t₁ s₁ map₁ t₂ t₃ s₃ map₃ t₄ : List ℕ} {b level : ℕ} {asked : Asked} {n : NodeValue} {h : Halves} {spare : Spare} {left c : ℕ} {d e : Entry} {w₁ w₂ : Worked}
+    → Standing t s map b level asked n spare left → Cuttable level n → Halved n h
+    → RefinePost t t₁ s₁ map₁ level (h .left) spare (left - 1) w₁ → w₁ .ok ≡ true → Stored t₁ t₂ b (w₁ .node) → 0 < left → spareOf spare left ≡ spareOf spare (left - 1) ++ (c ∷ [])
+    → RefinePost t₂ t₃ s₃ map₃ level (h .right) spare (w₁ .left) w₂ → w₂ .ok ≡ true → Stored t₃ t₄ c (w₂ .node) → EntryFor b (lowOf asked) (w₁ .node) d → EntryFor c (h .sep) (w₂ .node) e
+    → PlacePost t t₄ level b asked n spare left (record { ok = true; broken = false; two = true; first = d; second = e; left = w₂ .left })
+place-two {spare = spare} {left = left} {c = c} st cuts hv p₁ ok₁ q₁ some last p₂ ok₂ q₂ d₁ d₂ =
     let i = st .spares .inside c (spare-less spare left (spare .n) (st .less) c (last-new spare left c some (st .less) (st .spares .once) last .0)) in
     record {
-      fewer = let z = q .spare in omega (arith, p₁ .work .fewer, p₂ .work .fewer);
-      block = λ e. q .first .block;
-      low = λ e. q .first .low;
-      fits = λ e. q .first .fits (block-few (st .undoable) (st .inside));
-      second = λ e g. let z = q .second .block in (omega (arith, i .0), omega (arith, i .1), q .second .fits (block-few (st .undoable) (i .1)));
-      done = λ e lo hi f low sound apart o. placed st cuts hv lo hi f o p₁ ok₁ some last p₂ ok₂ k₂ q low sound apart;
-      whole = λ lo hi f low sound apart o. q .whole;
+      fewer = omega (arith, p₁ .work .fewer, p₂ .work .fewer);
+      block = λ v. d₁ .block;
+      low = λ v. d₁ .low;
+      fits = λ v. d₁ .fits (block-few (st .undoable) (st .inside));
+      second = λ v g. let z = d₂ .block in (omega (arith, i .0), omega (arith, i .1), d₂ .fits (block-few (st .undoable) (i .1)));
+      done = λ v lo hi f low sound apart o. placed st cuts hv lo hi f o p₁ ok₁ q₁ sound apart some last p₂ ok₂ q₂ d₁ d₂ low;
+      whole = λ lo hi f low sound apart o. refl;
     }

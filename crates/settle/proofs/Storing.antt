@@ -45,7 +45,8 @@ use Rattle.spare.specs.Spares.{spareOf}
 use Rattle.batch.specs.Batches.{batchSays}
 use Rattle.settle.specs.declared.Settled.{Settled}
 use Rattle.settle.specs.declared.Worked.{Worked}
-use Rattle.settle.specs.Settling.{again, became, LowsFit, Opened, WorkedTo, RefinePost, Standing, PlacedTo, OnOpen, PlacePost, StoredOne, SettlePost}
+use Rattle.settle.proofs.Stores.{StoredOne}
+use Rattle.settle.specs.Settling.{again, became, LowsFit, Opened, WorkedTo, RefinePost, Standing, PlacedTo, OnOpen, PlacePost, SettlePost}
 
 -- ---- the shape of a node that was worked on
 

@@ -19,7 +19,7 @@ use Rattle.block.specs.declared.Asked.{Asked}
 use Rattle.block.specs.declared.Asked.the-variants.{Root, Child}
 use Rattle.block.specs.Table.{blocksOf}
 use Rattle.block.specs.Node.{Store, storeOf}
-use Rattle.block.specs.NodeRules.{zeroFirst, lows, fewest}
+use Rattle.block.specs.NodeRules.{zeroFirst, lows, fewest, ValidBlock}
 use Rattle.tree.specs.Part.{Part, parts, lowOf}
 use Rattle.tree.specs.Lookup.{lookup}
 use Rattle.update.specs.Change.{part, reaches, Sound, Changed}
@@ -27,16 +27,17 @@ use Rattle.update.specs.Spare.{Taken}
 use Rattle.update.specs.Open.{Open}
 use Rattle.update.specs.Going.{Going}
 use Rattle.update.specs.Rounds.{Full}
-use Rattle.node.specs.Memory.{entriesOf, nodeIn, EntriesFit, EntryFits, Stored}
+use Rattle.node.specs.Memory.{entriesOf, EntriesFit, EntryFits, Loaded, Stored}
 use Rattle.node.specs.declared.NodeValue.{NodeValue}
 use Rattle.edit.specs.Edits.{heldIn, Tidy, EntryFor}
 use Rattle.journal.specs.Journal.{Undoable}
 use Rattle.fill.specs.Filling.{Inside, Workable}
 use Rattle.spare.specs.declared.Spare.{Spare}
 use Rattle.spare.specs.Spares.{spareOf, SpareFits}
-use Rattle.batch.specs.Batches.{batchSays}
+use Rattle.batch.specs.Batches.{batchSays, TakenIn}
 use Rattle.settle.specs.declared.Settled.{Settled}
 use Rattle.settle.specs.declared.Worked.{Worked}
+use Rattle.settle.specs.declared.Finished.{Finished}
 
 -- what leads to a part that was settled as one: the root stays the root
 abbrev pub again : Asked → Entry → Asked
@@ -113,7 +114,7 @@ pub record Pushable (t s map : List ℕ) (n : NodeValue) (level : ℕ) (spare : 
   pub zero : zeroFirst (lows (entriesOf (n .entries))) ≡ true
   pub rise : rising (rest (lows (entriesOf (n .entries)))) ≡ true
 
--- push, relieve: the node again, over the store as it is then
+-- push: the node again, over the store as it is then
 pub record WorkPost (t t′ s′ map′ : List ℕ) (level : ℕ) (n : NodeValue) (spare : Spare) (left : ℕ) (r : Worked) : Type 0 where
   pub works : Workable t′ s′ map′ (r .node) level
   pub fewer : r .left ≤ left
@@ -126,7 +127,7 @@ pub record WorkPost (t t′ s′ map′ : List ℕ) (level : ℕ) (n : NodeValue
       → WorkedTo (storeOf t) (storeOf t′) level lo hi n (r .node) spare left (r .left) f
   pub whole : (lo hi : ℕ) (f : ℕ → Option ℕ) → Opened (storeOf t) level lo hi n spare left f → r .broken ≡ false
 
--- refine: the sizes are right then, and P is filled, or nothing is left below
+-- the push and the filling of one node: the sizes are right then, and P is filled, or nothing is left below
 pub record RefinePost (t t′ s′ map′ : List ℕ) (level : ℕ) (n : NodeValue) (spare : Spare) (left : ℕ) (r : Worked) : Type 0 where
   pub work : WorkPost t t′ s′ map′ level n spare left r
   pub fewI : r .ok ≡ true → r .node .inserts .n ≤ 64
@@ -186,23 +187,30 @@ pub record PlacePost (t t′ : List ℕ) (level b : ℕ) (asked : Asked) (n : No
   pub done : r .ok ≡ true → OnOpen t level b asked n spare left (λ lo hi f. PlacedTo (storeOf t) (storeOf t′) level b asked lo hi spare left r f)
   pub whole : OnOpen t level b asked n spare left (λ lo hi f. r .broken ≡ false)
 
--- a node was stored in block b, and this is its entry
-pub record StoredOne (t t′ : List ℕ) (b floor : ℕ) (n : NodeValue) (left : ℕ) (r : Settled) : Type 0 where
-  pub ok : r .ok ≡ true
-  pub whole : r .broken ≡ false
-  pub one : r .two ≡ false
-  pub spare : r .left ≡ left
-  pub first : EntryFor b floor n (r .first)
-  pub stored : Stored t t′ b n
+-- A node was worked on and stored in block b, and this is its entry: what it was between, and the tables then, nobody is handed.
+pub record FinishPost (t t′ : List ℕ) (b floor level : ℕ) (n : NodeValue) (spare : Spare) (left : ℕ) (r : Finished) : Type 0 where
+  pub table : List ℕ
+  pub scratch : List ℕ
+  pub marks : List ℕ
+  pub work : Worked
+  pub refined : RefinePost t table scratch marks level n spare left work
+  pub same : r .left ≡ work .left
+  pub whole : r .ok ≡ false → r .broken ≡ work .broken
+  pub went : r .ok ≡ true → work .ok ≡ true
+  pub stored : r .ok ≡ true → Stored table t′ b (work .node)
+  pub entry : r .ok ≡ true → EntryFor b floor (work .node) (r .entry)
 
--- two were stored, in the blocks b and c
-pub record StoredTwo (t t′ : List ℕ) (b floor c sep : ℕ) (n m : NodeValue) (left : ℕ) (r : Settled) : Type 0 where
-  pub ok : r .ok ≡ true
-  pub whole : r .broken ≡ false
-  pub two : r .two ≡ true
-  pub spare : r .left ≡ left
-  pub first : EntryFor b floor n (r .first)
-  pub second : EntryFor c sep m (r .second)
-  pub here : (b ≡ c → ⊥) → storeOf t′ b ≡ nodeIn (blocksOf (length t)) n
-  pub there : storeOf t′ c ≡ nodeIn (blocksOf (length t)) m
-  pub else : (z : ℕ) → (z ≡ b → ⊥) → (z ≡ c → ⊥) → storeOf t′ z ≡ storeOf t z
+-- a block that keeps the rules, and a batch for it
+pub record Arriving (t : List ℕ) (b ni nd : ℕ) : Type 0 where
+  pub valid : ValidBlock t b
+  pub fewI : ni ≤ 16
+  pub fewD : nd ≤ 16
+
+-- its node was read, and took the batch in
+pub record Arrived (t : List ℕ) (b : ℕ) (ss : List Spot) (ks : List ℕ) (ni nd : ℕ) (r : NodeValue) : Type 0 where
+  pub node : NodeValue
+  pub loaded : Loaded t b node
+  pub taken : TakenIn node ss ks ni nd r
+  pub longE : length (node .entries .list) ≡ 8
+  pub longI : length (node .inserts .spots) ≡ 80
+  pub longD : length (node .deletes .keys) ≡ 32

@@ -1,6 +1,6 @@
 // Pushing a batch down and settling the child that overflows call for each other, a level lower each time (source section 4, steps i to v).
 ghost use mathlib.Core.Path.{_≡_};
-ghost use mathlib.Core.Bool.{false};
+ghost use mathlib.Core.Bool.{true, false};
 ghost use Prim.Native.Nat.{_<_};
 ghost use lib.ListN.{length};
 ghost use Rattle.block.specs.Table.{blocksOf};
@@ -9,7 +9,7 @@ ghost use Rattle.buffer.specs.Buffer.{held, named};
 ghost use Rattle.node.specs.Memory.{Storable};
 ghost use Rattle.edit.specs.Edits.{Tidy};
 ghost use Rattle.journal.specs.Journal.{Undoable, Kept};
-ghost use Rattle.settle.specs.Settling.{Settleable, SettlePost, Pushable, WorkPost, RefinePost, SplitWhen, Standing, Cuttable, PlacePost, StoredOne, StoredTwo};
+ghost use Rattle.settle.specs.Settling.{Settleable, SettlePost, Pushable, WorkPost, SplitWhen, Standing, Cuttable, PlacePost, FinishPost, Arriving, Arrived};
 
 // A part after settling: one entry, or two, and how many spare blocks are left. Where it is not ok, `broken` says that a block that was read breaks a rule;
 // else there was no room. So it is below.
@@ -27,6 +27,14 @@ pub struct Worked {
     pub ok: bool,
     pub broken: bool,
     pub node: node::NodeValue,
+    pub left: usize,
+}
+
+// A node that was worked on and stored: its entry, and how many spare blocks are left.
+pub struct Finished {
+    pub ok: bool,
+    pub broken: bool,
+    pub entry: block::Entry,
     pub left: usize,
 }
 
@@ -50,6 +58,24 @@ fn not_settled(broken: bool, left: usize) -> Settled
     }
 }
 
+fn not_finished(broken: bool, left: usize) -> Finished
+    ensures { λ r. ⌜ (r .ok ≡ false) × (r .left ≡ left) × (r .broken ≡ broken) ⌝ }
+{
+    let entry = block::Entry {
+        block: 0,
+        size: 0,
+        low: 0,
+        top: 0,
+        bottom: 0,
+    };
+    Finished {
+        ok: false,
+        broken,
+        entry,
+        left,
+    }
+}
+
 fn handed(ok: bool, broken: bool, n: node::NodeValue, left: usize) -> Worked
     ensures { λ r. ⌜ r ≡ record { ok = ok; broken = broken; node = n; left = left } ⌝ }
 {
@@ -58,6 +84,20 @@ fn handed(ok: bool, broken: bool, n: node::NodeValue, left: usize) -> Worked
         ok,
         broken,
         node,
+        left,
+    }
+}
+
+// The two parts that a part became.
+fn both(first: block::Entry, second: block::Entry, left: usize) -> Settled
+    ensures { λ r. ⌜ r ≡ record { ok = true; broken = false; two = true; first = first; second = second; left = left } ⌝ }
+{
+    Settled {
+        ok: true,
+        broken: false,
+        two: true,
+        first,
+        second,
         left,
     }
 }
@@ -82,63 +122,18 @@ fn must_split(n: node::NodeValue) -> bool
     (8 <= n.entries.n) & ((64 < n.inserts.n) | (16 < n.deletes.n))
 }
 
-// The node in its block again, and its entry.
-fn store_one(
-    t: &mut [u8],
-    s: &mut [u8],
-    map: &mut [u8],
+// The node of a block, with a batch taken in.
+fn receive(
+    t: &[u8],
     b: usize,
-    asked: block::Asked,
-    n: node::NodeValue,
-    left: usize,
-) -> Settled
-    requires { ⌜ Undoable (now t) (now s) (now map) × (b < blocksOf (length (now t))) × Storable n × Tidy n ⌝ }
-    ensures kept { λ r. ⌜ Kept (now (t .entry)) (now (s .entry)) (now (map .entry)) (now (t .exit)) (now (s .exit)) (now (map .exit)) ⌝ }
-    ensures stored { λ r. ⌜ StoredOne (now (t .entry)) (now (t .exit)) b (lowOf asked) n left r ⌝ }
+    inserts: buffer::SpotBuffer,
+    deletes: buffer::KeyBuffer,
+) -> node::NodeValue
+    requires { ⌜ Arriving (now t) b (inserts .n) (deletes .n) ⌝ }
+    ensures { λ r. ⌜ Arrived (now (t .entry)) b (held inserts) (named deletes) (inserts .n) (deletes .n) r ⌝ }
 {
-    journal::write_node(t, s, map, b, n);
-    let low = low_of(asked);
-    let first = edit::entry_for(b, low, n);
-    Settled {
-        ok: true,
-        broken: false,
-        two: false,
-        first,
-        second: first,
-        left,
-    }
-}
-
-// The left half n in the old block b, the right half m, from the key sep on, in the block c.
-fn store_two(
-    t: &mut [u8],
-    s: &mut [u8],
-    map: &mut [u8],
-    b: usize,
-    asked: block::Asked,
-    n: node::NodeValue,
-    c: usize,
-    sep: u64,
-    m: node::NodeValue,
-    left: usize,
-) -> Settled
-    requires { ⌜ Undoable (now t) (now s) (now map) × (b < blocksOf (length (now t))) × Storable n × Tidy n × (c < blocksOf (length (now t))) × Storable m × Tidy m ⌝ }
-    ensures kept { λ r. ⌜ Kept (now (t .entry)) (now (s .entry)) (now (map .entry)) (now (t .exit)) (now (s .exit)) (now (map .exit)) ⌝ }
-    ensures stored { λ r. ⌜ StoredTwo (now (t .entry)) (now (t .exit)) b (lowOf asked) c sep n m left r ⌝ }
-{
-    journal::write_node(t, s, map, b, n);
-    journal::write_node(t, s, map, c, m);
-    let low = low_of(asked);
-    let first = edit::entry_for(b, low, n);
-    let second = edit::entry_for(c, sep, m);
-    Settled {
-        ok: true,
-        broken: false,
-        two: true,
-        first,
-        second,
-        left,
-    }
+    let n = node::load(t, b);
+    batch::take_in(n, inserts, deletes)
 }
 
 // Takes a batch into the part at block b.
@@ -161,20 +156,27 @@ pub fn settle(
     if !block::block_ok(t, b, level, asked) {
         return not_settled(true, left);
     }
-    let n = node::load(t, b);
-    let full = batch::take_in(n, inserts, deletes);
+    let full = receive(t, b, inserts, deletes);
     if must_split(full) {
         return split(t, s, map, b, asked, level, full, spare, left);
     }
-    let w = refine(t, s, map, full, level, spare, left);
-    if !w.ok {
-        return not_settled(w.broken, w.left);
+    let low = low_of(asked);
+    let x = finish(t, s, map, b, low, full, level, spare, left);
+    if !x.ok {
+        return not_settled(x.broken, x.left);
     }
-    let node = w.node;
-    store_one(t, s, map, b, asked, node, w.left)
+    let first = x.entry;
+    Settled {
+        ok: true,
+        broken: false,
+        two: false,
+        first,
+        second: first,
+        left: x.left,
+    }
 }
 
-// The node cut in two: each half pushes and is filled by itself, and the right one takes a spare block.
+// The node cut in two: each half is finished by itself, and the right one takes a spare block. The left one is in its block before the right one is worked on.
 fn split(
     t: &mut [u8],
     s: &mut [u8],
@@ -194,48 +196,55 @@ fn split(
         return not_settled(false, 0);
     }
     let c = spare::last_of(spare, left);
-    let h = batch::halve(n);
-    let low = h.left;
-    let high = h.right;
-    if (64 < low.points.n) | (64 < high.points.n) {
+    let sep = batch::cut_key(n);
+    let low = low_of(asked);
+    let lower = batch::half(n, sep, false);
+    let upper = batch::half(n, sep, true);
+    if (64 < lower.points.n) | (64 < upper.points.n) {
         return not_settled(false, left);
     }
-    let x = refine(t, s, map, low, level, spare, left - 1);
+    let x = finish(t, s, map, b, low, lower, level, spare, left - 1);
     if !x.ok {
         return not_settled(x.broken, x.left);
     }
-    let y = refine(t, s, map, high, level, spare, x.left);
+    let y = finish(t, s, map, c, sep, upper, level, spare, x.left);
     if !y.ok {
         return not_settled(y.broken, y.left);
     }
-    store_two(t, s, map, b, asked, x.node, c, h.sep, y.node, y.left)
+    both(x.entry, y.entry, y.left)
 }
 
-// Pushes where that is needed, then fills P.
-fn refine(
+// Pushes where that is needed, fills P, and stores the node in block b. Only its entry comes back, so that no node lives while another is worked on.
+fn finish(
     t: &mut [u8],
     s: &mut [u8],
     map: &mut [u8],
+    b: usize,
+    low: u64,
     n: node::NodeValue,
     level: usize,
     spare: spare::Spare,
     left: usize,
-) -> Worked
-    requires { ⌜ Pushable (now t) (now s) (now map) n level spare left ⌝ }
+) -> Finished
+    requires { ⌜ Pushable (now t) (now s) (now map) n level spare left × (b < blocksOf (length (now t))) ⌝ }
     ensures kept { λ r. ⌜ Kept (now (t .entry)) (now (s .entry)) (now (map .entry)) (now (t .exit)) (now (s .exit)) (now (map .exit)) ⌝ }
-    ensures refined { λ r. ⌜ RefinePost (now (t .entry)) (now (t .exit)) (now (s .exit)) (now (map .exit)) level n spare left r ⌝ }
+    ensures finished { λ r. ⌜ FinishPost (now (t .entry)) (now (t .exit)) b low level n spare left r ⌝ }
 {
     let w = push(t, s, map, n, level, spare, left);
     if !w.ok {
-        return w;
+        return not_finished(w.broken, w.left);
     }
     let f = fill::fill(t, s, map, w.node, level);
-    let node = f.node;
-    let ok = f.ok & (node.inserts.n <= 64) & (node.deletes.n <= 16);
-    Worked {
-        ok,
-        broken: f.broken,
-        node,
+    let ok = f.ok & (f.node.inserts.n <= 64) & (f.node.deletes.n <= 16);
+    if !ok {
+        return not_finished(f.broken, w.left);
+    }
+    journal::write_node(t, s, map, b, f.node);
+    let entry = edit::entry_for(b, low, f.node);
+    Finished {
+        ok: true,
+        broken: false,
+        entry,
         left: w.left,
     }
 }
