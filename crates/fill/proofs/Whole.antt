@@ -1,15 +1,15 @@
 -- The loop of fill from its start to its end, and take_top's post-condition from what its calls give.
 -- Assumes nothing.
 use mathlib.Core.Path.{_≡_, refl, sym, ap, _∙_, subst, subst⁻¹}
-use mathlib.Core.Bool.{Bool, true, false, cond, true≢false, false≢true}
+use mathlib.Core.Bool.{Bool, true, false, cond, _&&_, true≢false, false≢true}
 use mathlib.Core.List.{List, [], _∷_, List·Memᴰ, List·Memᴰ·not-nil}
 use mathlib.Core.Option.{Option, none, some}
 use Prim.Native.Nat.{ℕ, suc, _≤_, _<_}
 use native.Mathlib.Omega.{arith}
 use lib.ListN.{length, length-take}
-use lib.Dec.{eqb}
+use lib.Dec.{eqb, ltb}
 use borrow.Author.Tests.{eqb-true, leb-true, ltb-true}
-use Rattle.octets.proofs.Tests.{all-at, every-mem}
+use Rattle.octets.proofs.Tests.{all-at, every-mem, and-left, and-right}
 use Rattle.spot.specs.declared.Spot.{Spot}
 use Rattle.spot.specs.Keys.{rankKey, allKeys}
 use Rattle.spot.specs.Spots.{keys, find}
@@ -54,6 +54,10 @@ pub record Filling (t₀ s₀ map₀ : List ℕ) (depth : ℕ) (n₀ : NodeValue
   pub sameLows : lows (entriesOf (n .entries)) ≡ lows (entriesOf (n₀ .entries))
   pub goes : OnNode t₀ depth n₀ (λ lo hi f.
       (r : ℕ) × Loop (n₀ .inserts .n) (n₀ .deletes .n) depth lo hi (storeOf t₀) (entriesOf (n₀ .entries)) (storeOf t) r (entriesOf (n .entries)) (heldIn n) f)
+
+-- it goes on
+pub goes-on : (p r : ℕ) → (ltb p 32 && ltb r 128) ≡ true → (p < 32) × (r < 128)
+goes-on p r e = (ltb-true p 32 (and-left (ltb p 32) (ltb r 128) e), ltb-true r 128 (and-right (ltb p 32) (ltb r 128) e))
 
 pub fill-start : {t s map : List ℕ} {level : ℕ} {n : NodeValue} → Workable t s map n level → Filling t s map level n t s map n
 fill-start {t} {s} {map} {level} {n} w =

@@ -312,14 +312,7 @@ pub fn fill(t: &mut [u8], s: &mut [u8], map: &mut [u8], n: node::NodeValue, leve
 {
     let mut node = n;
     let mut rounds: usize = 0;
-    while node.points.n < 32 {
-        if 128 <= rounds {
-            return Filled {
-                ok: false,
-                broken: false,
-                node,
-            };
-        }
+    while (node.points.n < 32) & (rounds < 128) {
         let p = next_turn(node);
         let took = fetch(t, s, map, p, level);
         let r = carry_out(node, p, took);
@@ -340,8 +333,9 @@ pub fn fill(t: &mut [u8], s: &mut [u8], map: &mut [u8], n: node::NodeValue, leve
         }
         rounds += 1;
     }
+    let ok = 32 <= node.points.n;
     Filled {
-        ok: true,
+        ok,
         broken: false,
         node,
     }

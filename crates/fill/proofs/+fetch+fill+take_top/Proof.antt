@@ -4,16 +4,15 @@ use borrow.Author.Needs.{needs}
 use native.Mathlib.Omega.{arith}
 use Prim.Native.Nat.{ℕ, _<_, _≤_, _+_, _-_, _*_}
 use mathlib.Core.Path.{_≡_, refl, sym, _∙_}
-use mathlib.Core.Bool.{true, false, true≢false, false≢true}
 use mathlib.Core.Logic.{inl}
-use borrow.Author.Tests.{not-true, not-false}
+use borrow.Author.Tests.{not-true, not-false, leb-true}
 use lib.ListN.{length}
 use Rattle.buffer.proofs.Lists.{length-image}
 use Rattle.buffer.proofs.Laws.{held-length, named-length}
 use Rattle.block.specs.declared.Asked.the-variants.{Child}
 use Rattle.journal.proofs.Kept.{kept-refl, kept-trans, undoable-kept}
 use Rattle.fill.proofs.Turns.{fetch-none, fetch-leaf, fetch-taken, round-done}
-use Rattle.fill.proofs.Whole.{Filling, fill-start, fill-ends, fill-turn, fill-fails, fill-over, take-fails, part-valid, fill-whole, take-done, loaded-works, filled-stores}
+use Rattle.fill.proofs.Whole.{Filling, goes-on, fill-start, fill-ends, fill-turn, fill-fails, fill-over, take-fails, part-valid, fill-whole, take-done, loaded-works, filled-stores}
 use borrow.Fn.Kinds.{In}
 use borrow.Fn.PlainCycle.{Measures, is, falls, and}
 use Rattle.fill.proofs.fetch.Reads as fetch
@@ -118,91 +117,78 @@ carried-long t c = search (needs, length-image, c .carry-out .ok .1 .1 .1 .1 .1 
 fill-loop-holds : (t : ℕ) → fill-lts.Need-loop-holds (fill-claims t) (fill-at t) fill.Post fill-Inv-loop fill-μ-loop
 fill-loop-holds t c = (fill-start (c .before .before .before .pre .1), omega arith, search (needs, length-image))
 
-fill-same-length : (t : ℕ) → fill-lts.Need-same-length (fill-claims t) (fill-at t) fill.Post fill-Inv-loop fill-μ-loop
-fill-same-length t c = search needs
-
-fill-same-length-2 : (t : ℕ) → fill-lts.Need-same-length-2 (fill-claims t) (fill-at t) fill.Post fill-Inv-loop fill-μ-loop
-fill-same-length-2 t c = search needs
-
-fill-same-length-3 : (t : ℕ) → fill-lts.Need-same-length-3 (fill-claims t) (fill-at t) fill.Post fill-Inv-loop fill-μ-loop
-fill-same-length-3 t c = search needs
-
-fill-returns : (t : ℕ) → fill-lts.Need-returns (fill-claims t) (fill-at t) fill.Post fill-Inv-loop fill-μ-loop
-fill-returns t c = let p = c .before .before .before .loop .inv .0 in (p .kept, fill-ends p false (λ e. absurd (false≢true e)))
-
 fill-next-turn-requires : (t : ℕ) → fill-lts.Need-next-turn-requires (fill-claims t) (fill-at t) fill.Post fill-Inv-loop fill-μ-loop
-fill-next-turn-requires t c κs = let p = c .before .before .before .loop .inv .0 in (p .works .tidy, p .works .entries .few)
+fill-next-turn-requires t c κs = let p = c .before .before .loop .inv .0 in (p .works .tidy, p .works .entries .few)
 
 fill-fetch-requires : (t : ℕ) → fill-lts.Need-fetch-requires (fill-claims t) (fill-at t) fill.Post fill-Inv-loop fill-μ-loop
 fill-fetch-requires t c κs =
-    let p = c .before .before .before .before .before .before .before .loop .inv .0 in
+    let p = c .before .before .before .before .before .before .loop .inv .0 in
     let g = c .before .before .before .next-turn .ensures in
-    (omega (arith, c .before .before .before .before .before .before .before .before .before .before .before .pre .0), (p .works .undoable, p .works .deep, λ b. p .works .inside (c .before .before .before .next-turn .result .entry) (g .at b .there)))
+    (omega (arith, c .before .before .before .before .before .before .before .before .before .before .pre .0), (p .works .undoable, p .works .deep, λ b. p .works .inside (c .before .before .before .next-turn .result .entry) (g .at b .there)))
 
 fill-carry-out-requires : (t : ℕ) → fill-lts.Need-carry-out-requires (fill-claims t) (fill-at t) fill.Post fill-Inv-loop fill-μ-loop
-fill-carry-out-requires t c κs = let p = c .before .before .before .before .before .before .before .before .before .before .before .before .before .before .loop .inv .0 in (p .works .tidy, c .before .before .before .before .before .before .before .before .before .before .before .before .if1 .taken, p .works .entries .few, c .before .before .before .before .before .before .before .before .before .before .next-turn .ensures)
+fill-carry-out-requires t c κs = let p = c .before .before .before .before .before .before .before .before .before .before .before .before .before .loop .inv .0 in (p .works .tidy, goes-on (c .before .before .before .before .before .before .before .before .before .before .before .before .before .loop .node .points .n) (c .before .before .before .before .before .before .before .before .before .before .before .before .before .loop .rounds) (c .before .before .before .before .before .before .before .before .before .before .before .if1 .taken) .0, p .works .entries .few, c .before .before .before .before .before .before .before .before .before .before .next-turn .ensures)
+
+fill-same-length : (t : ℕ) → fill-lts.Need-same-length (fill-claims t) (fill-at t) fill.Post fill-Inv-loop fill-μ-loop
+fill-same-length t c = search (needs, c .before .before .before .before .before .before .before .before .before .before .before .before .before .before .before .before .before .loop .inv .0 .kept .table, c .before .before .before .before .before .before .before .before .before .before .fetch .ensures .0 .table)
+
+fill-same-length-2 : (t : ℕ) → fill-lts.Need-same-length-2 (fill-claims t) (fill-at t) fill.Post fill-Inv-loop fill-μ-loop
+fill-same-length-2 t c = search (needs, c .before .before .before .before .before .before .before .before .before .before .before .before .before .before .before .before .before .loop .inv .0 .kept .scratch, c .before .before .before .before .before .before .before .before .before .before .fetch .ensures .0 .scratch)
+
+fill-same-length-3 : (t : ℕ) → fill-lts.Need-same-length-3 (fill-claims t) (fill-at t) fill.Post fill-Inv-loop fill-μ-loop
+fill-same-length-3 t c = search (needs, c .before .before .before .before .before .before .before .before .before .before .before .before .before .before .before .before .before .loop .inv .0 .kept .mapped, c .before .before .before .before .before .before .before .before .before .before .fetch .ensures .0 .mapped)
+
+fill-returns : (t : ℕ) → fill-lts.Need-returns (fill-claims t) (fill-at t) fill.Post fill-Inv-loop fill-μ-loop
+fill-returns t c =
+    let p = c .before .before .before .before .before .before .before .before .before .before .before .before .before .before .before .before .before .loop .inv .0 in
+    let f = c .before .before .before .before .before .before .before .before .before .before .fetch .ensures in
+    let q = round-done (p .works) (goes-on (c .before .before .before .before .before .before .before .before .before .before .before .before .before .before .before .before .before .loop .node .points .n) (c .before .before .before .before .before .before .before .before .before .before .before .before .before .before .before .before .before .loop .rounds) (c .before .before .before .before .before .before .before .before .before .before .before .before .before .before .before .if1 .taken) .0) (c .before .before .before .before .before .before .before .before .before .before .before .before .before .before .next-turn .ensures) (f .0) (f .1) (c .before .before .before .carry-out .ensures) in
+    (kept-trans (p .kept) (f .0), fill-fails p (f .0) q)
 
 fill-same-length-4 : (t : ℕ) → fill-lts.Need-same-length-4 (fill-claims t) (fill-at t) fill.Post fill-Inv-loop fill-μ-loop
-fill-same-length-4 t c = search (needs, c .before .before .before .before .before .before .before .before .before .before .before .before .before .before .before .before .before .before .loop .inv .0 .kept .table, c .before .before .before .before .before .before .before .before .before .before .fetch .ensures .0 .table)
+fill-same-length-4 t c = search (needs, c .before .before .before .before .before .before .before .before .before .before .before .before .before .before .before .before .before .before .loop .inv .0 .kept .table, c .before .before .before .before .before .before .before .before .before .before .before .fetch .ensures .0 .table)
 
 fill-same-length-5 : (t : ℕ) → fill-lts.Need-same-length-5 (fill-claims t) (fill-at t) fill.Post fill-Inv-loop fill-μ-loop
-fill-same-length-5 t c = search (needs, c .before .before .before .before .before .before .before .before .before .before .before .before .before .before .before .before .before .before .loop .inv .0 .kept .scratch, c .before .before .before .before .before .before .before .before .before .before .fetch .ensures .0 .scratch)
+fill-same-length-5 t c = search (needs, c .before .before .before .before .before .before .before .before .before .before .before .before .before .before .before .before .before .before .loop .inv .0 .kept .scratch, c .before .before .before .before .before .before .before .before .before .before .before .fetch .ensures .0 .scratch)
 
 fill-same-length-6 : (t : ℕ) → fill-lts.Need-same-length-6 (fill-claims t) (fill-at t) fill.Post fill-Inv-loop fill-μ-loop
-fill-same-length-6 t c = search (needs, c .before .before .before .before .before .before .before .before .before .before .before .before .before .before .before .before .before .before .loop .inv .0 .kept .mapped, c .before .before .before .before .before .before .before .before .before .before .fetch .ensures .0 .mapped)
+fill-same-length-6 t c = search (needs, c .before .before .before .before .before .before .before .before .before .before .before .before .before .before .before .before .before .before .loop .inv .0 .kept .mapped, c .before .before .before .before .before .before .before .before .before .before .before .fetch .ensures .0 .mapped)
 
 fill-returns-2 : (t : ℕ) → fill-lts.Need-returns-2 (fill-claims t) (fill-at t) fill.Post fill-Inv-loop fill-μ-loop
 fill-returns-2 t c =
     let p = c .before .before .before .before .before .before .before .before .before .before .before .before .before .before .before .before .before .before .loop .inv .0 in
-    let f = c .before .before .before .before .before .before .before .before .before .before .fetch .ensures in
-    let q = round-done (p .works) (c .before .before .before .before .before .before .before .before .before .before .before .before .before .before .before .before .if1 .taken) (c .before .before .before .before .before .before .before .before .before .before .before .before .before .before .next-turn .ensures) (f .0) (f .1) (c .before .before .before .carry-out .ensures) in
-    (kept-trans (p .kept) (f .0), fill-fails p (f .0) q)
-
-fill-same-length-7 : (t : ℕ) → fill-lts.Need-same-length-7 (fill-claims t) (fill-at t) fill.Post fill-Inv-loop fill-μ-loop
-fill-same-length-7 t c = search (needs, c .before .before .before .before .before .before .before .before .before .before .before .before .before .before .before .before .before .before .before .loop .inv .0 .kept .table, c .before .before .before .before .before .before .before .before .before .before .before .fetch .ensures .0 .table)
-
-fill-same-length-8 : (t : ℕ) → fill-lts.Need-same-length-8 (fill-claims t) (fill-at t) fill.Post fill-Inv-loop fill-μ-loop
-fill-same-length-8 t c = search (needs, c .before .before .before .before .before .before .before .before .before .before .before .before .before .before .before .before .before .before .before .loop .inv .0 .kept .scratch, c .before .before .before .before .before .before .before .before .before .before .before .fetch .ensures .0 .scratch)
-
-fill-same-length-9 : (t : ℕ) → fill-lts.Need-same-length-9 (fill-claims t) (fill-at t) fill.Post fill-Inv-loop fill-μ-loop
-fill-same-length-9 t c = search (needs, c .before .before .before .before .before .before .before .before .before .before .before .before .before .before .before .before .before .before .before .loop .inv .0 .kept .mapped, c .before .before .before .before .before .before .before .before .before .before .before .fetch .ensures .0 .mapped)
-
-fill-returns-3 : (t : ℕ) → fill-lts.Need-returns-3 (fill-claims t) (fill-at t) fill.Post fill-Inv-loop fill-μ-loop
-fill-returns-3 t c =
-    let p = c .before .before .before .before .before .before .before .before .before .before .before .before .before .before .before .before .before .before .before .loop .inv .0 in
     let f = c .before .before .before .before .before .before .before .before .before .before .before .fetch .ensures in
-    let q = round-done (p .works) (c .before .before .before .before .before .before .before .before .before .before .before .before .before .before .before .before .before .if1 .taken) (c .before .before .before .before .before .before .before .before .before .before .before .before .before .before .before .next-turn .ensures) (f .0) (f .1) (c .before .before .before .before .carry-out .ensures) in
-    (kept-trans (p .kept) (f .0), fill-over p (f .0) q (not-false _ (c .before .if3 .left)) (c .if4 .taken))
+    let q = round-done (p .works) (goes-on (c .before .before .before .before .before .before .before .before .before .before .before .before .before .before .before .before .before .before .loop .node .points .n) (c .before .before .before .before .before .before .before .before .before .before .before .before .before .before .before .before .before .before .loop .rounds) (c .before .before .before .before .before .before .before .before .before .before .before .before .before .before .before .before .if1 .taken) .0) (c .before .before .before .before .before .before .before .before .before .before .before .before .before .before .before .next-turn .ensures) (f .0) (f .1) (c .before .before .before .before .carry-out .ensures) in
+    (kept-trans (p .kept) (f .0), fill-over p (f .0) q (not-false _ (c .before .if2 .left)) (c .if3 .taken))
 
 fill-add-rounds : (t : ℕ) → fill-lts.Need-add-rounds (fill-claims t) (fill-at t) fill.Post fill-Inv-loop fill-μ-loop
-fill-add-rounds t c = let h = c .before .before .before .before .before .before .before .before .before .before .before .before .before .before .before .before .if2 .left in search needs
+fill-add-rounds t c = let h = goes-on (c .before .before .before .before .before .before .before .before .before .before .before .before .before .before .before .before .before .before .loop .node .points .n) (c .before .before .before .before .before .before .before .before .before .before .before .before .before .before .before .before .before .before .loop .rounds) (c .before .before .before .before .before .before .before .before .before .before .before .before .before .before .before .before .if1 .taken) .1 in search needs
 
 fill-loop-less : (t : ℕ) → fill-lts.Need-loop-less (fill-claims t) (fill-at t) fill.Post fill-Inv-loop fill-μ-loop
-fill-loop-less t c = let h = c .before .before .before .before .before .before .before .before .before .before .before .before .before .before .before .before .if2 .left in omega arith
+fill-loop-less t c = let h = goes-on (c .before .before .before .before .before .before .before .before .before .before .before .before .before .before .before .before .before .before .loop .node .points .n) (c .before .before .before .before .before .before .before .before .before .before .before .before .before .before .before .before .before .before .loop .rounds) (c .before .before .before .before .before .before .before .before .before .before .before .before .before .before .before .before .if1 .taken) .1 in omega arith
 
 fill-loop-again : (t : ℕ) → fill-lts.Need-loop-again (fill-claims t) (fill-at t) fill.Post fill-Inv-loop fill-μ-loop
 fill-loop-again t c =
-    let p = c .before .before .before .before .before .before .before .before .before .before .before .before .before .before .before .before .before .before .before .loop .inv .0 in
+    let p = c .before .before .before .before .before .before .before .before .before .before .before .before .before .before .before .before .before .before .loop .inv .0 in
     let f = c .before .before .before .before .before .before .before .before .before .before .before .fetch .ensures in
-    let h = c .before .before .before .before .before .before .before .before .before .before .before .before .before .before .before .before .if2 .left in
-    let q = round-done (p .works) (c .before .before .before .before .before .before .before .before .before .before .before .before .before .before .before .before .before .if1 .taken) (c .before .before .before .before .before .before .before .before .before .before .before .before .before .before .before .next-turn .ensures) (f .0) (f .1) (c .before .before .before .before .carry-out .ensures) in
-    (fill-turn p (f .0) q (not-false _ (c .before .if3 .left)), omega arith, carried-long t (c .before .before .before .before))
+    let h = goes-on (c .before .before .before .before .before .before .before .before .before .before .before .before .before .before .before .before .before .before .loop .node .points .n) (c .before .before .before .before .before .before .before .before .before .before .before .before .before .before .before .before .before .before .loop .rounds) (c .before .before .before .before .before .before .before .before .before .before .before .before .before .before .before .before .if1 .taken) .1 in
+    let q = round-done (p .works) (goes-on (c .before .before .before .before .before .before .before .before .before .before .before .before .before .before .before .before .before .before .loop .node .points .n) (c .before .before .before .before .before .before .before .before .before .before .before .before .before .before .before .before .before .before .loop .rounds) (c .before .before .before .before .before .before .before .before .before .before .before .before .before .before .before .before .if1 .taken) .0) (c .before .before .before .before .before .before .before .before .before .before .before .before .before .before .before .next-turn .ensures) (f .0) (f .1) (c .before .before .before .before .carry-out .ensures) in
+    (fill-turn p (f .0) q (not-false _ (c .before .if2 .left)), omega arith, carried-long t (c .before .before .before .before))
 
-fill-same-length-10 : (t : ℕ) → fill-lts.Need-same-length-10 (fill-claims t) (fill-at t) fill.Post fill-Inv-loop fill-μ-loop
-fill-same-length-10 t c = search needs
+fill-same-length-7 : (t : ℕ) → fill-lts.Need-same-length-7 (fill-claims t) (fill-at t) fill.Post fill-Inv-loop fill-μ-loop
+fill-same-length-7 t c = search needs
 
-fill-same-length-11 : (t : ℕ) → fill-lts.Need-same-length-11 (fill-claims t) (fill-at t) fill.Post fill-Inv-loop fill-μ-loop
-fill-same-length-11 t c = search needs
+fill-same-length-8 : (t : ℕ) → fill-lts.Need-same-length-8 (fill-claims t) (fill-at t) fill.Post fill-Inv-loop fill-μ-loop
+fill-same-length-8 t c = search needs
 
-fill-same-length-12 : (t : ℕ) → fill-lts.Need-same-length-12 (fill-claims t) (fill-at t) fill.Post fill-Inv-loop fill-μ-loop
-fill-same-length-12 t c = search needs
+fill-same-length-9 : (t : ℕ) → fill-lts.Need-same-length-9 (fill-claims t) (fill-at t) fill.Post fill-Inv-loop fill-μ-loop
+fill-same-length-9 t c = search needs
 
-fill-returns-4 : (t : ℕ) → fill-lts.Need-returns-4 (fill-claims t) (fill-at t) fill.Post fill-Inv-loop fill-μ-loop
-fill-returns-4 t c =
-    let p = c .before .before .loop .inv .0 in
-    let b = c .before .before .loop .node .points in
-    let h = c .if1 .left in
-    (p .kept, fill-ends p true (λ e. inl (omega (arith, h, held-length b (c .before .before .loop .inv .2) (p .works .tidy .points .fits)))))
+fill-returns-3 : (t : ℕ) → fill-lts.Need-returns-3 (fill-claims t) (fill-at t) fill.Post fill-Inv-loop fill-μ-loop
+fill-returns-3 t c =
+    let p = c .before .before .before .loop .inv .0 in
+    let b = c .before .before .before .loop .node .points in
+    (p .kept, fill-ends p _ (λ e. inl (omega (arith, leb-true 32 (b .n) e, held-length b (c .before .before .before .loop .inv .2) (p .works .tidy .points .fits)))))
 
 abbrev take-top-claims : ℕ → take-top-lts.Claims
 take-top-claims t = (block-ok-reads.Asked, block-ok-reads.Learnt, not-taken-reads.Asked, not-taken-reads.Learnt, load-reads.Asked, load-reads.Learnt, highest-reads.Asked, highest-reads.Learnt, without-point-reads.Asked, without-point-reads.Learnt, fill-below t, fill.Post, write-node-reads.Asked, write-node-reads.Learnt, entry-for-reads.Asked, entry-for-reads.Learnt)
@@ -302,5 +288,5 @@ take-top-returns-4 t c =
 
 pub +fetch+fill+take-top-spec : {M : Type 1} → statement M
 +fetch+fill+take-top-spec = close μ-fetch μ-fill μ-take-top (λ t. fetch-lts.spec (fetch-claims t) (fetch-at t) fetch.Post (fetch-nothing-taken-requires t) (fetch-returns t) (fetch-not-taken-requires t) (fetch-returns-2 t) (fetch-sub-take-top t) (fetch-take-top-requires t) (fetch-same-length t) (fetch-same-length-2 t) (fetch-same-length-3 t) (fetch-returns-3 t))
-    (λ t. fill-lts.spec (fill-claims t) (fill-at t) fill.Post fill-Inv-loop fill-μ-loop (fill-loop-holds t) (fill-same-length t) (fill-same-length-2 t) (fill-same-length-3 t) (fill-returns t) (fill-next-turn-requires t) (fill-fetch-requires t) (fill-carry-out-requires t) (fill-same-length-4 t) (fill-same-length-5 t) (fill-same-length-6 t) (fill-returns-2 t) (fill-same-length-7 t) (fill-same-length-8 t) (fill-same-length-9 t) (fill-returns-3 t) (fill-add-rounds t) (fill-loop-less t) (fill-loop-again t) (fill-same-length-10 t) (fill-same-length-11 t) (fill-same-length-12 t) (fill-returns-4 t))
+    (λ t. fill-lts.spec (fill-claims t) (fill-at t) fill.Post fill-Inv-loop fill-μ-loop (fill-loop-holds t) (fill-next-turn-requires t) (fill-fetch-requires t) (fill-carry-out-requires t) (fill-same-length t) (fill-same-length-2 t) (fill-same-length-3 t) (fill-returns t) (fill-same-length-4 t) (fill-same-length-5 t) (fill-same-length-6 t) (fill-returns-2 t) (fill-add-rounds t) (fill-loop-less t) (fill-loop-again t) (fill-same-length-7 t) (fill-same-length-8 t) (fill-same-length-9 t) (fill-returns-3 t))
     (λ t. take-top-lts.spec (take-top-claims t) (take-top-at t) take-top.Post (take-top-block-ok-requires t) (take-top-not-taken-requires t) (take-top-same-length t) (take-top-returns t) (take-top-load-requires t) (take-top-not-taken-requires-2 t) (take-top-same-length-2 t) (take-top-returns-2 t) (take-top-highest-requires t) (take-top-without-point-requires t) (take-top-fill-requires t) (take-top-not-taken-requires-3 t) (take-top-same-length-3 t) (take-top-same-length-4 t) (take-top-same-length-5 t) (take-top-returns-3 t) (take-top-write-node-requires t) (take-top-entry-for-requires t) (take-top-same-length-6 t) (take-top-same-length-7 t) (take-top-same-length-8 t) (take-top-returns-4 t))
