@@ -6,9 +6,7 @@ ghost use lib.ListN.{length};
 ghost use Rattle.block.specs.Table.{blocksOf};
 ghost use Rattle.tree.specs.Part.{lowOf};
 ghost use Rattle.buffer.specs.Buffer.{held, named};
-ghost use Rattle.node.specs.Memory.{Storable};
-ghost use Rattle.edit.specs.Edits.{Tidy};
-ghost use Rattle.journal.specs.Journal.{Undoable, Kept};
+ghost use Rattle.journal.specs.Journal.{Kept};
 ghost use Rattle.settle.specs.Settling.{Settleable, SettlePost, Pushable, WorkPost, SplitWhen, Standing, Cuttable, PlacePost, FinishPost, Arriving, Arrived};
 
 // A part after settling: one entry, or two, and how many spare blocks are left. Where it is not ok, `broken` says that a block that was read breaks a rule;
