@@ -44,7 +44,7 @@ pub const FEWEST_BLOCKS: usize = 9;
 /// The most blocks of a table.
 pub const MOST_BLOCKS: usize = 4096;
 /// Bytes of stack that suffice for every call: the largest figure of `include/spot_table.h`, which `measure/stack` holds against the built archive.
-pub const STACK: usize = 409_600;
+pub const STACK: usize = 245_760;
 
 /// The spots that a table of this many bytes holds: 16 for each block after the first.
 pub const fn capacity(table_len: usize) -> usize {
