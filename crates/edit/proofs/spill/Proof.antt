@@ -77,7 +77,7 @@ merge-requires : tie.Need-merge-requires Inv-loop μ-loop
 merge-requires c κs =
     let l = c .before .before .loop in
     let s = c .before .before .before .before .before .before .before .before in
-    (l .inv .gathered, s .pre .0 .inserts, omega (arith, s .pre .1, l .inv .total, l .inv .full))
+    (l .inv .gathered, s .pre .0 .inserts, omega (arith, s .pre .1, l .inv .total, l .inv .full), omega (arith, s .pre .1, l .inv .total, l .inv .full))
 
 returns-2 : tie.Need-returns-2 Inv-loop μ-loop
 returns-2 c =
