@@ -3,7 +3,7 @@ ghost use mathlib.Core.Path.{_≡_};
 ghost use mathlib.Core.Bool.{false};
 ghost use mathlib.Core.List.{_∷_, [], _++_};
 ghost use Prim.Native.Nat.{suc, _+_, _-_, _≤_, _<_};
-ghost use lib.ListN.{take, drop, getD};
+ghost use lib.ListN.{take, drop};
 ghost use lib.Dec.{ltb, leb};
 ghost use Rattle.octets.specs.Lists.{has, keep};
 ghost use Rattle.spot.specs.Sorted.{insertKey, but, lower};
@@ -57,13 +57,6 @@ pub fn append_keys(out: KeyBuffer, b: KeyBuffer, from: usize, to: usize) -> KeyB
     }
     next.n = at;
     next
-}
-
-pub fn key_at(b: KeyBuffer, i: usize) -> u64
-    requires { ⌜ (i < b .n) × (b .n ≤ 32) ⌝ }
-    ensures { λ r. ⌜ r ≡ getD (named b) i 0 ⌝ }
-{
-    b.keys[i]
 }
 
 // How many keys are below `key`: a binary search.

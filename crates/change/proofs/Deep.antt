@@ -28,7 +28,7 @@ use Rattle.spare.proofs.Taking.{taken-spare}
 use Rattle.settle.specs.Settling.{Settleable}
 use Rattle.change.specs.declared.Grown.{Grown}
 use Rattle.change.specs.declared.Outcome.{Outcome}
-use Rattle.change.specs.declared.Outcome.the-variants.{Done, NoRoom, Broken}
+use Rattle.change.specs.declared.Outcome.the-variants.{Done, Broken}
 use Rattle.change.specs.Changing.{refusal, ChangedBy}
 use Rattle.change.specs.Growing.{GrowPost, Finishable, HeavyAt}
 use Rattle.change.proofs.After.{root-sound, root-apart, change-shaped, change-live}

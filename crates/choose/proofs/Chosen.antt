@@ -16,35 +16,13 @@ use Rattle.block.specs.declared.Entry.{Entry}
 use Rattle.tree.specs.Part.{nextLow}
 use Rattle.buffer.specs.Buffer.{below}
 use Rattle.node.proofs.Listed.{blank}
-use Rattle.choose.specs.Choices.{ChildFor, Fullest, startAt, endAt, share}
+use Rattle.choose.specs.Choices.{Fullest, startAt, endAt, share}
 
 -- the low of the i-th entry of the first n of an array
 pub low-is : (l : List Entry) (n i : ℕ) → n ≤ length l → i < n → getD l i blank .low ≡ nextLow (drop i (take n l)) 0
 low-is l n i h g =
     let k : i < length (take n l) = rw length-take-le (omega arith) in
     sym (ap (λ (x : List Entry). nextLow x 0) (drop-cons (take n l) i blank k) ∙ ap (λ (e : Entry). e .low) (getD-take n l i blank g))
-
--- ---- the child for a key
-
--- k is not below the i-th child's range
-abbrev pub From : List Entry → ℕ → ℕ → Type 0
-From es k i = 0 < i → nextLow (drop i es) 0 ≤ k
-
-pub from-first : (es : List Entry) (k : ℕ) → From es k (1 - 1)
-from-first es k h = absurd (not-suc-le-zero h)
-
-pub from-next : (es : List Entry) (k i : ℕ) → nextLow (drop i es) 0 ≤ k → From es k (i + 1 - 1)
-from-next es k i h g = let e : i + 1 - 1 ≡ i = omega arith in rw e h
-
--- the next child's range begins above k
-pub child-stop : (es : List Entry) (k i : ℕ) → 0 < i → i < length es → From es k (i - 1) → k < nextLow (drop i es) 0 → ChildFor es k (i - 1)
-child-stop es k i p h f g =
-    let e : suc (i - 1) ≡ i = omega arith in
-    record { there = omega arith; from = f; to = λ w. rw e g }
-
--- there is no next child
-pub child-last : (es : List Entry) (k n : ℕ) → 0 < n → n ≡ length es → From es k (n - 1) → ChildFor es k (n - 1)
-child-last es k n p h f = record { there = omega arith; from = f; to = λ w. absurd (omega arith) }
 
 -- ---- the child for most keys
 

@@ -1,15 +1,12 @@
 // Which child of a node.
 ghost use mathlib.Core.Path.{_≡_};
-ghost use mathlib.Core.Bool.{true};
 ghost use Prim.Native.Nat.{_-_, _≤_, _<_};
 ghost use lib.ListN.{drop};
-ghost use Rattle.octets.specs.Lists.{rest, rising};
 ghost use Rattle.spot.specs.Spots.{keys};
-ghost use Rattle.block.specs.NodeRules.{lows};
 ghost use Rattle.tree.specs.Part.{nextLow};
 ghost use Rattle.buffer.specs.Buffer.{held, named, Ordered, OrderedKeys};
 ghost use Rattle.node.specs.Memory.{entriesOf};
-ghost use Rattle.choose.specs.Choices.{ChildFor, Fullest, startAt, endAt};
+ghost use Rattle.choose.specs.Choices.{Fullest, startAt, endAt};
 
 // The low of the i-th entry.
 fn low_at(es: node::Entries, i: usize) -> u64
@@ -17,23 +14,6 @@ fn low_at(es: node::Entries, i: usize) -> u64
     ensures { λ r. ⌜ r ≡ nextLow (drop i (entriesOf es)) 0 ⌝ }
 {
     es.list[i].low
-}
-
-// The child whose range holds k.
-pub fn child_of(es: node::Entries, k: u64) -> usize
-    requires { ⌜ (0 < es .n) × (es .n ≤ 8) × (rising (rest (lows (entriesOf es))) ≡ true) ⌝ }
-    ensures { λ i. ⌜ ChildFor (entriesOf es) k i ⌝ }
-{
-    let n = es.n;
-    let mut i = 1;
-    while i < n {
-        let low = low_at(es, i);
-        if k < low {
-            return i - 1;
-        }
-        i += 1;
-    }
-    n - 1
 }
 
 // How many spots of a buffer are below the low of the i-th entry; all, where i is the number of entries.

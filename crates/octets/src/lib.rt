@@ -83,21 +83,6 @@ pub fn write32(s: &mut [u8], at: usize, v: u64)
     s[at + 3] = (v % 256) as u8;
 }
 
-// The eight lowest bytes of v.
-pub fn write64(s: &mut [u8], at: usize, v: u64)
-    requires { ⌜ at + 8 ≤ length (now s) ⌝ }
-    ensures { λ r. ⌜ now (s .exit) ≡ putBe 8 (now (s .entry)) at v ⌝ }
-{
-    s[at] = (v / 256 / 256 / 256 / 256 / 256 / 256 / 256 % 256) as u8;
-    s[at + 1] = (v / 256 / 256 / 256 / 256 / 256 / 256 % 256) as u8;
-    s[at + 2] = (v / 256 / 256 / 256 / 256 / 256 % 256) as u8;
-    s[at + 3] = (v / 256 / 256 / 256 / 256 % 256) as u8;
-    s[at + 4] = (v / 256 / 256 / 256 % 256) as u8;
-    s[at + 5] = (v / 256 / 256 % 256) as u8;
-    s[at + 6] = (v / 256 % 256) as u8;
-    s[at + 7] = (v % 256) as u8;
-}
-
 pub fn test_bit(map: &[u8], n: usize) -> bool
     requires { ⌜ n / 8 < length (now map) ⌝ }
     ensures { λ r. ⌜ r ≡ bit (now (map .entry)) n ⌝ }

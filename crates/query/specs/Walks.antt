@@ -18,11 +18,12 @@ use Rattle.block.specs.NodeRules.{nodeOk}
 use Rattle.tree.specs.Part.{Part}
 use Rattle.tree.specs.Walk.{finds, walkTable, isBroken, spots, blocksRead}
 use Rattle.tree.specs.Trace.{obeys, visits, tally, unseen, marked}
-use Rattle.tree.specs.ReadMap.{readMap}
+use Rattle.tree.specs.ReadMap.{readMap, ones}
 use Rattle.visit.specs.Visit.{partOf, namedAbove, taken, keysFrom, ceiling, ValidPath, Ancestors}
 use Rattle.visit.specs.declared.Span.{Span}
 use Rattle.visit.specs.declared.Path.{Path}
-use Rattle.query.specs.declared.Tally.{Tally}
+use Rattle.tally.specs.declared.Tally.{Tally}
+use Rattle.query.specs.declared.Sum.{Sum}
 
 -- the blocks so far are the ones of the map, with at most 128 spots each
 pub record Tallied (map : List ℕ) (y : Tally) : Type 0 where
@@ -30,20 +31,20 @@ pub record Tallied (map : List ℕ) (y : Tally) : Type 0 where
   pub spots : y .spots ≤ 128 * y .blocks
 
 -- a node is read: it keeps the rules and is read for the first time, or the walk is broken
-pub record Entered (t map map′ : List ℕ) (b level : ℕ) (asked : Asked) (q : Query) (path : Path) (y r : Tally) : Type 0 where
+pub record Entered (t map map′ : List ℕ) (b level : ℕ) (asked : Asked) (q : Query) (path : Path) (y r : Sum) : Type 0 where
   pub ok : r .ok ≡ not (bit map b) && nodeOk level asked (storeOf t b)
   pub sized : length map′ ≡ length map
-  pub spots : r .ok ≡ true → r .spots ≡ y .spots + length (finds q (namedAbove t path) (storeOf t b))
+  pub spots : r .ok ≡ true → r .tally .spots ≡ y .tally .spots + length (finds q (namedAbove t path) (storeOf t b))
   pub seen : r .ok ≡ true → map′ ≡ setBit map b
-  pub tallied : r .ok ≡ true → Tallied map′ r
+  pub tallied : r .ok ≡ true → Tallied map′ (r .tally)
 
 -- a part is walked: every node read keeps the rules and is read for the first time, or the walk is broken
-pub record Counted (t map map′ : List ℕ) (l : ℕ) (q : Query) (path : Path) (p : Part) (y r : Tally) : Type 0 where
+pub record Counted (t map map′ : List ℕ) (l : ℕ) (q : Query) (path : Path) (p : Part) (y r : Sum) : Type 0 where
   pub ok : r .ok ≡ obeys l (storeOf t) q p && unseen map (visits l (storeOf t) q p)
   pub sized : length map′ ≡ length map
-  pub spots : r .ok ≡ true → r .spots ≡ y .spots + tally l (storeOf t) q (namedAbove t path) p
+  pub spots : r .ok ≡ true → r .tally .spots ≡ y .tally .spots + tally l (storeOf t) q (namedAbove t path) p
   pub seen : r .ok ≡ true → map′ ≡ marked map (visits l (storeOf t) q p)
-  pub tallied : r .ok ≡ true → Tallied map′ r
+  pub tallied : r .ok ≡ true → Tallied map′ (r .tally)
 
 -- each number is at least the one before it
 abbrev pub ascends : ℕ → List ℕ → Bool
@@ -58,14 +59,15 @@ pub record Collected (out out′ : List ℕ) (n : ℕ) (after : List Spot) (r : 
   pub sized : length out′ ≡ length out
   pub order : ascends 0 (keys after) ≡ true
 
--- what a walk is handed: a block of the table, a map of its blocks, the nodes above, and the tally so far
-pub record Walkable (t map : List ℕ) (b level : ℕ) (asked : Asked) (path : Path) (y : Tally) : Type 0 where
+-- what a walk is handed: a block of the table, a map of its blocks, the nodes above, and the walk so far
+pub record Walkable (t map : List ℕ) (b level : ℕ) (asked : Asked) (path : Path) (y : Sum) : Type 0 where
   pub inside : b < blocksOf (length t)
   pub blocks : blocksOf (length t) ≤ 4096
   pub mapped : length map ≡ 512
   pub deep : path .n + level ≤ 6
   pub ancestors : Ancestors t path (ceiling asked)
-  pub tallied : Tallied map y
+  pub whole : y .ok ≡ true
+  pub tallied : Tallied map (y .tally)
 
 -- a run of spots that rise may be merged into the first m spots of the output
 pub record Mergeable (t out : List ℕ) (at n : ℕ) (q : Query) (p : Path) (m : ℕ) : Type 0 where
@@ -87,10 +89,12 @@ pub record Collectable (t out : List ℕ) (b level : ℕ) (span : Span) (q : Que
   pub order : ascends 0 (keys (spotsIn out m)) ≡ true
   pub room : 12 * (m + tally (suc level) (storeOf t) q (namedAbove t path) (partOf b asked span)) ≤ length out
 
--- a whole table is walked: the tally says whether the walk is whole, how many spots it finds, and the map marks what it reads
-pub record TableCounted (t : List ℕ) (q : Query) (map′ : List ℕ) (r : Tally) : Type 0 where
+-- a whole table is walked: r says whether the walk is whole, its tally how many blocks it reads and spots it finds, and the map marks what it reads.
+-- "The number read is the count of ones"
+pub record TableCounted (t : List ℕ) (q : Query) (map′ : List ℕ) (r : Sum) : Type 0 where
   pub ok : r .ok ≡ not (isBroken (walkTable t q))
   pub sized : length map′ ≡ 512
-  pub spots : r .ok ≡ true → r .spots ≡ length (spots (walkTable t q))
-  pub few : r .spots ≤ 524288
+  pub spots : r .ok ≡ true → r .tally .spots ≡ length (spots (walkTable t q))
+  pub blocks : r .ok ≡ true → r .tally .blocks ≡ ones map′
+  pub few : r .tally .spots ≤ 524288
   pub marks : r .ok ≡ true → map′ ≡ readMap (blocksRead (walkTable t q))

@@ -21,7 +21,7 @@ use Rattle.block.proofs.Making.{blocks-least, blocks-most}
 use Rattle.tree.specs.Walk.{walkTable, liveSpots}
 use Rattle.tree.specs.Sound.{sound}
 use Rattle.tree.proofs.Tables.{live-walk}
-use Rattle.query.specs.declared.Tally.{Tally}
+use Rattle.query.specs.declared.Sum.{Sum}
 use Rattle.rebuild.specs.Build.{Rebuilt}
 use Rattle.build.specs.Building.{Segment}
 use Rattle.renew.specs.Amended.{Amendable, Amended}
@@ -34,7 +34,7 @@ pub amended-none : (w : List ℕ) (n : ℕ) → Amended w w n (spotsIn w n) n
 amended-none w n = record { holds = refl; count = sym (length-records (spotAt w) 12 n 0); rest = refl; sized = refl }
 
 -- nothing gathered
-pub renew-broken : {t w w₁ : List ℕ} {r : Tally} (after : List Spot) (b : Bool) → Gathered t w w₁ r → r .ok ≡ false → Renewed t t w w₁ after b false
+pub renew-broken : {t w w₁ : List ℕ} {r : Sum} (after : List Spot) (b : Bool) → Gathered t w w₁ r → r .ok ≡ false → Renewed t t w w₁ after b false
 renew-broken after b g f =
     record {
       sized = refl;
@@ -45,23 +45,23 @@ renew-broken after b g f =
       built = λ h. absurd (false≢true h);
     }
 
-module _ {t w w₁ : List ℕ} {r : Tally} (z : tableSized (length t) ≡ true) (lent : length t ≤ length w) (g : Gathered t w w₁ r) (ok : r .ok ≡ true) where
+module _ {t w w₁ : List ℕ} {r : Sum} (z : tableSized (length t) ≡ true) (lent : length t ≤ length w) (g : Gathered t w w₁ r) (ok : r .ok ≡ true) where
   can : layable (length t) (walkTable t everything) ≡ true
   can = sym (g .ok) ∙ ok
 
   up-is : rising (keys (liveSpots t)) ≡ true
   up-is = sym (ap (λ (l : List Spot). rising (keys l)) (live-walk t)) ∙ laid-rises (length t) (walkTable t everything) can
 
-  live-long : length (liveSpots t) ≡ r .spots
-  live-long = sym (ap length (g .holds ok)) ∙ length-records (spotAt w₁) 12 (r .spots) 0
+  live-long : length (liveSpots t) ≡ r .tally .spots
+  live-long = sym (ap length (g .holds ok)) ∙ length-records (spotAt w₁) 12 (r .tally .spots) 0
 
-  pub renew-few : r .spots ≤ capacity (length t)
+  pub renew-few : r .tally .spots ≤ capacity (length t)
   renew-few = omega (arith, laid-few (length t) (walkTable t everything) can, ap length (live-walk t), live-long)
 
-  room : 12 * (r .spots + 1) ≤ length t
+  room : 12 * (r .tally .spots + 1) ≤ length t
   room = omega (arith, renew-few, blocks-least (length t) z)
 
-  pub renew-amendable : Amendable w₁ (r .spots)
+  pub renew-amendable : Amendable w₁ (r .tally .spots)
   renew-amendable =
       record {
         few = omega (arith, renew-few, blocks-most (length t) z);
@@ -69,7 +69,7 @@ module _ {t w w₁ : List ℕ} {r : Tally} (z : tableSized (length t) ≡ true) 
         rises = ap (λ (l : List Spot). rising (keys l)) (g .holds ok) ∙ up-is;
       }
 
-  module _ {w₂ : List ℕ} {m : ℕ} (f : List Spot → List Spot) (a : Amended w₁ w₂ (r .spots) (f (spotsIn w₁ (r .spots))) m) where
+  module _ {w₂ : List ℕ} {m : ℕ} (f : List Spot → List Spot) (a : Amended w₁ w₂ (r .tally .spots) (f (spotsIn w₁ (r .tally .spots))) m) where
     holds-is : spotsFrom w₂ 0 m ≡ f (liveSpots t)
     holds-is = a .holds ∙ ap f (g .holds ok)
 
@@ -80,7 +80,7 @@ module _ {t w w₁ : List ℕ} {r : Tally} (z : tableSized (length t) ≡ true) 
     lent-is = a .sized ∙ g .lent
 
     rest-is : drop (length t) w₂ ≡ drop (length t) w
-    rest-is = drop-more w₂ w₁ (12 * (r .spots + 1)) (length t) room (a .rest) ∙ g .rest
+    rest-is = drop-more w₂ w₁ (12 * (r .tally .spots + 1)) (length t) room (a .rest) ∙ g .rest
 
     -- too many
     pub renew-full : capacity (length t) < m → Renewed t t w w₂ (f (liveSpots t)) (leb (length (f (liveSpots t))) (capacity (length t))) false
@@ -119,7 +119,7 @@ module _ {t w w₁ : List ℕ} {r : Tally} (z : tableSized (length t) ≡ true) 
         }
 
   -- one taken out leaves no more than there were
-  pub out-few : {w₂ : List ℕ} {m : ℕ} (k : ℕ) → Amended w₁ w₂ (r .spots) (without k (spotsIn w₁ (r .spots))) m → m ≤ capacity (length t)
+  pub out-few : {w₂ : List ℕ} {m : ℕ} (k : ℕ) → Amended w₁ w₂ (r .tally .spots) (without k (spotsIn w₁ (r .tally .spots))) m → m ≤ capacity (length t)
   out-few k a = omega (arith, count-is (without k) a, length-without k (liveSpots t), live-long, renew-few)
 
 -- a sound table always takes spots that fit

@@ -12,30 +12,23 @@ ghost use Rattle.renew.specs.Renewed.{Gathered, Renewed};
 mod amend;
 
 // The live spots in the scratch, in place order; not ok where a rule is broken.
-fn gather(table: &[u8], scratch: &mut [u8]) -> query::Tally
+fn gather(table: &[u8], scratch: &mut [u8]) -> query::Sum
     requires { ⌜ (tableSized (length (now table)) ≡ true) × (length (now table) ≤ length (now scratch)) ⌝ }
     ensures { λ r. ⌜ Gathered (now (table .entry)) (now (scratch .entry)) (now (scratch .exit)) r ⌝ }
 {
     let mut seen = [0u8; block::MAP_BYTES];
-    let everything = spot::Query {
-        from: 0,
-        last: 18446744073709551615,
-        least: 0,
-    };
-    let none = query::Tally {
-        ok: false,
-        blocks: 0,
-        spots: 0,
-    };
+    let everything = spot::everything();
     let all = query::count_table(table, &mut seen, everything);
+    let mut none = all;
+    none.ok = false;
     if !all.ok {
         return none;
     }
-    if block::capacity_of(table.len()) < all.spots {
+    if block::capacity_of(table.len()) < all.tally.spots {
         return none;
     }
     query::collect_table(table, scratch, everything);
-    if !block::rises(scratch, 0, spot::SPOT_BYTES, all.spots, 0) {
+    if !block::rises(scratch, 0, spot::SPOT_BYTES, all.tally.spots, 0) {
         return none;
     }
     all
@@ -50,7 +43,7 @@ pub fn anew(table: &mut [u8], scratch: &mut [u8]) -> bool
     if !all.ok {
         return false;
     }
-    build::build_table(table, scratch, all.spots);
+    build::build_table(table, scratch, all.tally.spots);
     true
 }
 
@@ -64,7 +57,7 @@ pub fn with_spot(table: &mut [u8], scratch: &mut [u8], s: spot::Spot) -> bool
     if !all.ok {
         return false;
     }
-    let n = amend::put_in(scratch, all.spots, s);
+    let n = amend::put_in(scratch, all.tally.spots, s);
     if block::capacity_of(table.len()) < n {
         return false;
     }
@@ -81,7 +74,7 @@ pub fn without_key(table: &mut [u8], scratch: &mut [u8], k: u64) -> bool
     if !all.ok {
         return false;
     }
-    let n = amend::take_out(scratch, all.spots, k);
+    let n = amend::take_out(scratch, all.tally.spots, k);
     build::build_table(table, scratch, n);
     true
 }

@@ -58,19 +58,15 @@ fn put_counted(table: &mut [u8], scratch: &mut [u8], s: spot::Spot) -> u32
     ensures { λ r. ⌜ Revised (now (table .entry)) (now (table .exit)) (now (scratch .entry)) (now (scratch .exit)) (s .key) (addNumber (length (now (table .entry))) (liveCount (now (table .entry))) (isLive (live (now (table .entry)) (s .key)))) (0 ∷ 3 ∷ 4 ∷ []) (withKey (s .key) (some (s .track)) (live (now (table .entry)))) r ⌝ }
 {
     let mut seen = [0u8; 512];
-    let everything = spot::Query {
-        from: 0,
-        last: 18446744073709551615,
-        least: 0,
-    };
+    let everything = spot::everything();
     let all = query::count_table(table, &mut seen, everything);
     if !all.ok {
         return 3;
     }
-    if block::capacity_of(table.len()) <= all.spots {
+    if block::capacity_of(table.len()) <= all.tally.spots {
         return 4;
     }
-    put_within(table, scratch, s, all.spots as u64 + 1)
+    put_within(table, scratch, s, all.tally.spots as u64 + 1)
 }
 
 // Add: 4 where the table holds as many spots as it may and the key is not live. The bound grows only with a key that is not live: as long as only these calls write, it is

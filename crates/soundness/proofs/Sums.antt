@@ -17,7 +17,7 @@ use Rattle.tree.specs.Reach.{reach}
 use Rattle.tree.specs.Sound.{soundAt, mapExact, sound, Shaped}
 use Rattle.tree.specs.Walk.{Walk, isBroken, spots, liveSpots, liveCount}
 use Rattle.tree.proofs.Tables.{tree-count}
-use Rattle.query.specs.declared.Tally.{Tally}
+use Rattle.query.specs.declared.Sum.{Sum}
 use Rattle.query.specs.Walks.{TableCounted}
 use Rattle.soundness.specs.Checks.{shapedBelow}
 
@@ -47,11 +47,11 @@ module _ (t : List ℕ) where
         record { header = ok; tree = and-left s m below; map = and-right s m below }
 
     -- the walk of every live spot is whole, so the count decides
-    pub count-decides : {map' : List ℕ} {r : Tally} {bound : ℕ} → TableCounted t everything map' r → bound ≡ headOf t .bound → r .ok && leb (r .spots) bound ≡ sound t
+    pub count-decides : {map' : List ℕ} {r : Sum} {bound : ℕ} → TableCounted t everything map' r → bound ≡ headOf t .bound → r .ok && leb (r .tally .spots) bound ≡ sound t
     unfolding liveCount
     count-decides {map'} {r} {bound} c e =
         let w = tree-count t shaped .1 in
         let g : r .ok ≡ true = c .ok ∙ ap (λ (x : Walk). not (isBroken x)) w in
-        let n : r .spots ≡ length (liveSpots t) = c .spots g ∙ ap (λ (x : Walk). length (spots x)) w in
+        let n : r .tally .spots ≡ length (liveSpots t) = c .spots g ∙ ap (λ (x : Walk). length (spots x)) w in
         ap₂ (λ (x : Bool) (k : ℕ). x && leb k bound) g n ∙ ap (leb (length (liveSpots t))) e
         ∙ sym (sound-is ∙ ap₂ (λ (x y : Bool). x && (y && leb (liveCount t) (headOf t .bound))) ok below)

@@ -134,11 +134,7 @@ pub fn is_sound(t: &[u8]) -> bool
         return false;
     }
     let mut seen = [0u8; block::MAP_BYTES];
-    let everything = spot::Query {
-        from: 0,
-        last: 18446744073709551615,
-        least: 0,
-    };
+    let everything = spot::everything();
     let all = query::count_table(t, &mut seen, everything);
-    all.ok & (all.spots as u64 <= block::bound_of(t))
+    all.ok & (all.tally.spots as u64 <= block::bound_of(t))
 }

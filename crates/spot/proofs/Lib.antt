@@ -5,6 +5,7 @@ pub mod Card
 pub mod Places
 pub mod Canon
 pub mod Buffers
+pub mod TopKeys
 pub mod Ranks
 pub mod Stored
 pub mod Sorted

@@ -4,20 +4,28 @@
 use mathlib.Core.Path.{_≡_, refl, sym, ap, ap₂, subst, _∙_}
 use mathlib.Core.Logic.{_⊎_, inl, inr, ⊎-elim, _↔_}
 use mathlib.Core.Bool.{Bool, true, false, _&&_, _||_, and-true}
-use mathlib.Core.List.{[], _∷_}
+use mathlib.Core.List.{List, [], _∷_}
 use Prim.Native.Nat.{ℕ, _+_, _*_, _/_, _%_, _<_}
 use native.Mathlib.Nat.{div-add-mod'}
 use native.Mathlib.Omega.{arith}
 use lib.Arith.{digits-div, digits-mod}
 use lib.Dec.{T, leb, ltb, eqb, ltb→lt, lt→ltb}
 use lib.IntN.{ℤ, pos, negsuc}
+use lib.ListN.{getD}
 use lib.Signed.{leZ, ltZ, _<ℤ_, ltZ-yes}
+use mir.Syntax.{w32}
+use mir.Val.{toZ, ofZ}
+use mir.ValLaws.{toZ-ofZ}
 use borrow.Author.Tests.{le-leb}
 use Rattle.octets.specs.Lists.{all}
+use Rattle.octets.specs.Bytes.{be}
+use Rattle.octets.proofs.Bytes.{be-lt}
 use Rattle.octets.proofs.Order.{leb-same}
-use Rattle.spot.specs.Keys.{word, allKeys, biased, unbiased, key, placeOf, rankIn, rankKey, rankOf}
-use Rattle.spot.specs.Query.{query, topQuery, wantsKey, placed, wanted}
-use Rattle.spot.proofs.Signed.{Fits, biased-lt, biased-inj, unbiased-biased, biased-unbiased, unbiased-fits, leZ-biased, ltZ-biased}
+use Rattle.spot.specs.declared.Query.{Query}
+use Rattle.spot.specs.Keys.{word, allKeys, biased, unbiased, turned, key, placeOf, rankIn, rankKey, rankOf}
+use Rattle.spot.specs.Spots.{keyAt}
+use Rattle.spot.specs.Query.{query, topQuery, fromOf, lastOf, leastOf, wantsKey, placed, wanted}
+use Rattle.spot.proofs.Signed.{Fits, biased-lt, biased-inj, unbiased-biased, biased-unbiased, unbiased-fits, turned-lt, toZ-turned, leZ-biased, ltZ-biased}
 use Rattle.spot.proofs.Halves.{high, low, lex-to, lex-from, pair-lt, pair-eq, rank-is}
 
 -- ---- keys and identities
@@ -29,7 +37,7 @@ module _ (p r : ℤ) (fr : Fits r) where
   pub key-rank : key p r % word ≡ biased r
   key-rank = digits-mod (biased p) (biased-lt r fr)
 
-  rank-first : rankKey (key p r) ≡ biased r * word + biased p
+  pub rank-first : rankKey (key p r) ≡ biased r * word + biased p
   rank-first = rank-is (key p r) ∙ ap₂ (λ (x y : ℕ). x * word + y) key-rank key-place
 
   rank-of : Fits p → rankOf (key p r) ≡ biased r
@@ -99,12 +107,6 @@ module _ (p r q s : ℤ) (fp : Fits p) (fr : Fits r) (fq : Fits q) (fs : Fits s)
       rw (ltZ-biased p q fp fq, ltZ-biased r s fr fs)
       (pair-lt (biased p) (biased r) (biased q) (biased s) (biased-lt r fr) (biased-lt s fs))
 
-  pub rank-order : ltZ r s || (eqb (biased r) (biased s) && ltZ p q) ≡ ltb (rankKey (key p r)) (rankKey (key q s))
-  rank-order =
-      rw (ltZ-biased r s fr fs, ltZ-biased p q fp fq)
-      (pair-lt (biased r) (biased p) (biased s) (biased q) (biased-lt p fp) (biased-lt q fq) ∙
-      ap₂ (λ (x y : ℕ). ltb x y) (sym (rank-first p r fr)) (sym (rank-first q s fs)))
-
   pub same-identity : eqb (biased p) (biased q) && eqb (biased r) (biased s) ≡ eqb (key p r) (key q s)
   same-identity = pair-eq (biased p) (biased r) (biased q) (biased s) (biased-lt r fr) (biased-lt s fs)
 
@@ -130,12 +132,34 @@ module _ (p r x1 x2 : ℤ) (fp : Fits p) (fr : Fits r) (f1 : Fits x1) (f2 : Fits
 
   -- "x1 ≤ place ≤ x2 and rank ≥ y"
   pub report-wants : (y : ℤ) → Fits y → wanted p r x1 x2 y ≡ wantsKey (query x1 x2 y) (key p r)
-  unfolding wantsKey placed query
+  unfolding wantsKey placed query fromOf lastOf leastOf
   report-wants y fy =
       ap₂ (λ (a b : Bool). a && b) in-places (leZ-biased y r fy fr ∙ ap (leb (biased y)) (sym (rank-of p r fr fp))) ∙
       all-three _ _ _
 
   -- "x1 ≤ place ≤ x2"
   pub top-wants : leZ x1 p && leZ p x2 ≡ wantsKey (topQuery x1 x2 0) (key p r)
-  unfolding wantsKey placed topQuery
-  top-wants = sym (and-true _) ∙ ap₂ (λ (a b : Bool). a && b) in-places (sym (le-leb 0 (rankOf (key p r)) (omega arith))) ∙ all-three _ _ _
+  unfolding wantsKey placed topQuery fromOf lastOf leastOf
+  top-wants =
+      sym (and-true _) ∙
+      ap₂ (λ (a b : Bool). a && b) in-places (sym (le-leb (biased (unbiased 0)) (rankOf (key p r)) (omega (arith, biased-unbiased 0)))) ∙
+      all-three _ _ _
+
+-- the same of a spot on the card, whose place and rank are read as they are
+module _ (q : Query) (s : List ℕ) (i : ℕ) (f1 : Fits (q .x1)) (f2 : Fits (q .x2)) (fy : Fits (q .y)) (bytes : (j : ℕ) → getD s j 0 < 256) where
+  pub card-wants : wanted (toZ w32 (be 4 s i)) (toZ w32 (be 4 s (i + 4))) (q .x1) (q .x2) (q .y) ≡ wantsKey q (keyAt s i)
+  unfolding keyAt query
+  card-wants =
+      let u : ℕ = turned (be 4 s i) in
+      let v : ℕ = turned (be 4 s (i + 4)) in
+      ap₂ (λ (p r : ℤ). wanted p r (q .x1) (q .x2) (q .y)) (toZ-turned (be 4 s i) (be-lt 4 s i bytes)) (toZ-turned (be 4 s (i + 4)) (be-lt 4 s (i + 4) bytes)) ∙
+      report-wants (unbiased u) (unbiased v) (q .x1) (q .x2) (unbiased-fits u (turned-lt (be 4 s i))) (unbiased-fits v (turned-lt (be 4 s (i + 4)))) f1 f2 (q .y) fy ∙
+      ap (wantsKey q) (ap₂ (λ (x y : ℕ). x * word + y) (biased-unbiased u) (biased-unbiased v))
+
+  -- as the code asks it: each number comes back from its bits
+  pub read-wants : {b : Bool} (p r : ℤ) → Fits p → Fits r → p ≡ toZ w32 (be 4 s i) → r ≡ toZ w32 (be 4 s (i + 4))
+      → b ≡ wanted (toZ w32 (ofZ w32 p)) (toZ w32 (ofZ w32 r)) (toZ w32 (ofZ w32 (q .x1))) (toZ w32 (ofZ w32 (q .x2))) (toZ w32 (ofZ w32 (q .y)))
+      → b ≡ wantsKey q (keyAt s i)
+  read-wants p r fp fr d e g =
+      g ∙ rw (toZ-ofZ w32 p fp, toZ-ofZ w32 r fr, toZ-ofZ w32 (q .x1) f1, toZ-ofZ w32 (q .x2) f2, toZ-ofZ w32 (q .y) fy)
+      (ap₂ (λ (x y : ℤ). wanted x y (q .x1) (q .x2) (q .y)) d e ∙ card-wants)

@@ -61,6 +61,14 @@ rankKey k = k % word * word + k / word
 abbrev pub rankOf : ℕ → ℕ
 rankOf k = rankKey k / word
 
+-- the order of Top's answers is > on these: rank order
+unfoldable pub topKey : ℕ → ℕ
+topKey k = rankKey k
+
+-- back again
+unfoldable pub keyOfTop : ℕ → ℕ
+keyOfTop r = rankKey r
+
 -- "from its entry's lowest identity up to, and without, the next entry's"
 unfoldable pub within : ℕ → ℕ → ℕ → Bool
 within lo hi k = all (leb lo k ∷ ltb k hi ∷ [])

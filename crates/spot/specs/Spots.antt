@@ -7,7 +7,7 @@ use mathlib.Core.Option.{Option, none, some}
 use lib.Dec.{leb, eqb}
 use Rattle.octets.specs.Lists.{keep, records}
 use Rattle.octets.specs.Bytes.{be, bytesOf, putBe}
-use Rattle.spot.specs.Keys.{word, turned, rankKey}
+use Rattle.spot.specs.Keys.{word, turned, topKey}
 use Rattle.spot.specs.declared.Spot.{Spot}
 
 -- the key in the 8 bytes from index i: "signed ones two's complement"
@@ -66,14 +66,14 @@ abbrev pub putAll : List Spot → List Spot → List Spot
 putAll [] acc = acc
 putAll (s ∷ ss) acc = put s (putAll ss acc)
 
--- a spot put in rank order, the highest first
-abbrev pub putHigh : Spot → List Spot → List Spot
-putHigh s [] = s ∷ []
-putHigh s (x ∷ xs) = cond (leb (rankKey (x .key)) (rankKey (s .key))) (s ∷ x ∷ xs) (x ∷ putHigh s xs)
+-- a spot put in the order of Top's answers
+abbrev pub putTop : Spot → List Spot → List Spot
+putTop s [] = s ∷ []
+putTop s (x ∷ xs) = cond (leb (topKey (x .key)) (topKey (s .key))) (s ∷ x ∷ xs) (x ∷ putTop s xs)
 
-abbrev pub byRank : List Spot → List Spot
-byRank [] = []
-byRank (s ∷ ss) = putHigh s (byRank ss)
+abbrev pub byTop : List Spot → List Spot
+byTop [] = []
+byTop (s ∷ ss) = putTop s (byTop ss)
 
 -- the spots but the one with this key
 unfoldable pub without : ℕ → List Spot → List Spot

@@ -6,9 +6,9 @@ ghost use lib.ListN.{length};
 ghost use mir.Syntax.{w32};
 ghost use mir.Val.{toZ};
 ghost use Rattle.octets.specs.Bytes.{be};
-ghost use Rattle.spot.specs.Keys.{biased, unbiased, turned, key, placeOf, rankIn, rankKey};
+ghost use Rattle.spot.specs.Keys.{biased, unbiased, turned, key, rankKey, topKey, keyOfTop};
 ghost use Rattle.spot.specs.Spots.{keyAt, spotAt, putKey, putSpot};
-ghost use Rattle.spot.specs.Query.{query, topQuery, placed, wantsKey, wanted};
+ghost use Rattle.spot.specs.Query.{query, topQuery, everything, fromOf, lastOf, leastOf, placed, wantsKey, wanted};
 
 // The bytes of a spot and of a key on the card.
 pub const SPOT_BYTES: usize = 12;
@@ -21,11 +21,11 @@ pub struct Spot {
     pub track: u32,
 }
 
-// The spots asked for: keys from `from` to `last`, of a biased rank of at least `least`.
+// The spots asked for: those with a place from x1 to x2 and a rank of at least y.
 pub struct Query {
-    pub from: u64,
-    pub last: u64,
-    pub least: u64,
+    pub x1: i32,
+    pub x2: i32,
+    pub y: i32,
 }
 
 // A signed number moved up by 2^31, so that the order stays.
@@ -78,16 +78,18 @@ pub fn rank_key(k: u64) -> u64
     k % 4294967296 * 4294967296 + k / 4294967296
 }
 
-pub fn place_of(k: u64) -> i32
-    ensures { λ r. ⌜ r ≡ placeOf k ⌝ }
+// What Top's answers are ordered by, the highest first.
+pub fn top_key(k: u64) -> u64
+    ensures { λ r. ⌜ r ≡ topKey k ⌝ }
 {
-    unbias(k / 4294967296)
+    rank_key(k)
 }
 
-pub fn rank_in(k: u64) -> i32
-    ensures { λ r. ⌜ r ≡ rankIn k ⌝ }
+// And back.
+pub fn key_of_top(r: u64) -> u64
+    ensures { λ k. ⌜ k ≡ keyOfTop r ⌝ }
 {
-    unbias(k % 4294967296)
+    rank_key(r)
 }
 
 pub fn read_key(s: &[u8], at: usize) -> u64
@@ -127,30 +129,59 @@ pub fn write_spot(s: &mut [u8], at: usize, spot: Spot)
 pub fn make_query(x1: i32, x2: i32, y: i32) -> Query
     ensures { λ r. ⌜ r ≡ query x1 x2 y ⌝ }
 {
-    let from = bias(x1) * 4294967296;
-    let last = bias(x2) * 4294967296 + 4294967295;
-    let least = bias(y);
-    Query { from, last, least }
+    Query { x1, x2, y }
 }
 
+// The same with a least rank that is moved up.
 pub fn top_query(x1: i32, x2: i32, least: u64) -> Query
+    requires { ⌜ least < 4294967296 ⌝ }
     ensures { λ r. ⌜ r ≡ topQuery x1 x2 least ⌝ }
 {
-    let from = bias(x1) * 4294967296;
-    let last = bias(x2) * 4294967296 + 4294967295;
-    Query { from, last, least }
+    let y = unbias(least);
+    Query { x1, x2, y }
+}
+
+// Asks for every spot: the two ends of 32 bits.
+pub fn everything() -> Query
+    ensures { λ r. ⌜ r ≡ everything ⌝ }
+{
+    Query {
+        x1: -2147483648,
+        x2: 2147483647,
+        y: -2147483648,
+    }
+}
+
+// The lowest key of the query's places, and the highest.
+pub fn from_key(q: Query) -> u64
+    ensures { λ r. ⌜ r ≡ fromOf q ⌝ }
+{
+    bias(q.x1) * 4294967296
+}
+
+pub fn last_key(q: Query) -> u64
+    ensures { λ r. ⌜ r ≡ lastOf q ⌝ }
+{
+    bias(q.x2) * 4294967296 + 4294967295
+}
+
+// The least rank, moved up as in a key.
+pub fn least_of(q: Query) -> u64
+    ensures { λ r. ⌜ r ≡ leastOf q ⌝ }
+{
+    bias(q.y)
 }
 
 pub fn placed(q: Query, k: u64) -> bool
     ensures { λ r. ⌜ r ≡ placed q k ⌝ }
 {
-    (q.from <= k) & (k <= q.last)
+    (from_key(q) <= k) & (k <= last_key(q))
 }
 
 pub fn wants(q: Query, k: u64) -> bool
     ensures { λ r. ⌜ r ≡ wantsKey q k ⌝ }
 {
-    placed(q, k) & (q.least <= k % 4294967296)
+    placed(q, k) & (least_of(q) <= k % 4294967296)
 }
 
 // The same of a place and a rank as they are.

@@ -16,12 +16,12 @@ use Rattle.octets.proofs.Tests.{every-make, every-mem, keep-mem, keep-there}
 use Rattle.octets.proofs.Order.{less-or-not}
 use Rattle.octets.proofs.Rising.{rising-rest, rising-least}
 use Rattle.spot.specs.declared.Spot.{Spot}
-use Rattle.spot.specs.Keys.{allKeys, key, rankKey, placeOf, rankIn}
-use Rattle.spot.specs.Spots.{keys, find, putHigh, byRank}
+use Rattle.spot.specs.Keys.{allKeys, key, placeOf, rankIn}
+use Rattle.spot.specs.Spots.{keys, find, putTop, byTop}
 use Rattle.spot.proofs.Signed.{signed-fits, fits-signed}
 use Rattle.spot.proofs.Orders.{place-of-key, rank-in-key, place-fits, rank-fits, key-of-parts}
-use Rattle.spot.proofs.Halves.{rank-back}
-use Rattle.spot.proofs.Ranks.{rk, putHigh-from, byRank-from}
+use Rattle.spot.proofs.TopKeys.{top-inj}
+use Rattle.spot.proofs.Ranks.{tk, putTop-from, byTop-from}
 use Rattle.spot.proofs.Buffers.{keys-mem, keys-from, find-mem, find-member}
 use Rattle.spot.proofs.Canon.{spot-eq}
 use Rattle.spot.proofs.Places.{within-high}
@@ -29,9 +29,9 @@ use Rattle.tree.specs.Lookup.{live}
 use Rattle.tree.specs.Walk.{liveSpots}
 use Rattle.tree.specs.Sound.{sound}
 use Rattle.tree.proofs.Tables.{shaped, live-none, live-rises, live-finds}
-use Rattle.table.specs.Model.{PlainSpot, placeBefore, rankHigher}
+use Rattle.table.specs.Model.{PlainSpot, placeBefore, topBefore}
 use Rattle.table.specs.Demands.{LiveSpot, InOrder, AllLive}
-use Rattle.table.proofs.Plain.{toKeySpot, keyed, SpotFits, AllFit, before-is, higher-is}
+use Rattle.table.proofs.Plain.{toKeySpot, keyed, SpotFits, AllFit, before-is, top-is}
 
 -- ---- a spot of the table in whole numbers
 
@@ -130,47 +130,44 @@ lower-before x y f g l =
 pub rises-in-order : (ss : List Spot) → Small ss → risingFrom 0 (keys ss) ≡ true → InOrder placeBefore (plain ss)
 rises-in-order ss h r = in-order placeBefore Lower lower-before ss h (rises-ahead 0 ss r)
 
--- rank order
+-- the order of Top's answers
 abbrev pub Over : Spot → Spot → Type 0
-Over x y = rk y < rk x
+Over x y = tk y < tk x
 
-put-over : (s : Spot) (xs : List Spot) → ((y : Spot) → List·Memᴰ y xs → rk y ≡ rk s → ⊥) → Ahead Over xs → Ahead Over (putHigh s xs)
+put-over : (s : Spot) (xs : List Spot) → ((y : Spot) → List·Memᴰ y xs → tk y ≡ tk s → ⊥) → Ahead Over xs → Ahead Over (putTop s xs)
 put-over s [] d a = (λ y i. absurd (List·Memᴰ·not-nil i), tt)
 put-over s (x ∷ xs) d a =
-    ⊎-elim (λ (l : rk x ≤ rk s). rw (le-leb (rk x) (rk s) l) (first l, a))
-    (λ (l : rk s < rk x). rw (lt-leb (rk x) (rk s) l) (later l, put-over s xs (λ y i. d y (List·Memᴰ·tail i)) (a .1)))
-    (less-or-not (rk x) (rk s))
+    ⊎-elim (λ (l : tk x ≤ tk s). rw (le-leb (tk x) (tk s) l) (first l, a))
+    (λ (l : tk s < tk x). rw (lt-leb (tk x) (tk s) l) (later l, put-over s xs (λ y i. d y (List·Memᴰ·tail i)) (a .1)))
+    (less-or-not (tk x) (tk s))
   where
-    first : rk x ≤ rk s → (y : Spot) → List·Memᴰ y (x ∷ xs) → rk y < rk s
+    first : tk x ≤ tk s → (y : Spot) → List·Memᴰ y (x ∷ xs) → tk y < tk s
     first l y i =
         let n = d y i in
-        ⊎-elim (λ (e : y ≡ x). let z = ap rk e in omega arith) (λ (j : List·Memᴰ y xs). let z = a .0 y j in omega arith) (List·Memᴰ·cases-cons i)
+        ⊎-elim (λ (e : y ≡ x). let z = ap tk e in omega arith) (λ (j : List·Memᴰ y xs). let z = a .0 y j in omega arith) (List·Memᴰ·cases-cons i)
 
-    later : rk s < rk x → (y : Spot) → List·Memᴰ y (putHigh s xs) → rk y < rk x
-    later l y i = ⊎-elim (λ (e : y ≡ s). let z = ap rk e in omega arith) (λ (j : List·Memᴰ y xs). a .0 y j) (putHigh-from s xs i)
+    later : tk s < tk x → (y : Spot) → List·Memᴰ y (putTop s xs) → tk y < tk x
+    later l y i = ⊎-elim (λ (e : y ≡ s). let z = ap tk e in omega arith) (λ (j : List·Memᴰ y xs). a .0 y j) (putTop-from s xs i)
 
-same-key : (x y : Spot) → x .key < allKeys → y .key < allKeys → rk x ≡ rk y → x .key ≡ y .key
-same-key x y f g e = sym (rank-back (x .key) f) ∙ ap rankKey e ∙ rank-back (y .key) g
-
-rank-ahead : (a : ℕ) (ss : List Spot) → risingFrom a (keys ss) ≡ true → Small ss → Ahead Over (byRank ss)
-rank-ahead a [] r h = tt
-rank-ahead a (s ∷ ss) r h =
+top-ahead : (a : ℕ) (ss : List Spot) → risingFrom a (keys ss) ≡ true → Small ss → Ahead Over (byTop ss)
+top-ahead a [] r h = tt
+top-ahead a (s ∷ ss) r h =
     let q = rising-rest a (s .key) (keys ss) r in
-    put-over s (byRank ss)
+    put-over s (byTop ss)
     (λ y i e.
-    let j = byRank-from ss i in
+    let j = byTop-from ss i in
     let l = rising-least (suc (s .key)) (keys ss) q (keys-mem ss j) in
-    let k = same-key y s (h y (List·Memᴰ·tail j)) (h s (List·Memᴰ·head refl)) e in
+    let k = top-inj (y .key) (s .key) (h y (List·Memᴰ·tail j)) (h s (List·Memᴰ·head refl)) e in
     omega arith)
-    (rank-ahead (suc (s .key)) ss q (λ x i. h x (List·Memᴰ·tail i)))
+    (top-ahead (suc (s .key)) ss q (λ x i. h x (List·Memᴰ·tail i)))
 
-over-higher : (x y : Spot) → x .key < allKeys → y .key < allKeys → Over x y → rankHigher (toPlain x) (toPlain y) ≡ true
-over-higher x y f g l =
-    higher-is (toPlain x) (toPlain y) (plain-fits x f) (plain-fits y g) ∙ ap₂ (λ (u v : Spot). ltb (rk u) (rk v)) (plain-key y) (plain-key x) ∙
-    lt-ltb (rk y) (rk x) l
+over-before : (x y : Spot) → x .key < allKeys → y .key < allKeys → Over x y → topBefore (toPlain x) (toPlain y) ≡ true
+over-before x y f g l =
+    top-is (toPlain x) (toPlain y) (plain-fits x f) (plain-fits y g) ∙ ap₂ (λ (u v : Spot). ltb (tk u) (tk v)) (plain-key y) (plain-key x) ∙
+    lt-ltb (tk y) (tk x) l
 
-pub falls-in-order : (ss : List Spot) → Small ss → risingFrom 0 (keys ss) ≡ true → InOrder rankHigher (plain (byRank ss))
-falls-in-order ss h r = in-order rankHigher Over over-higher (byRank ss) (λ s i. h s (byRank-from ss i)) (rank-ahead 0 ss r h)
+pub falls-in-order : (ss : List Spot) → Small ss → risingFrom 0 (keys ss) ≡ true → InOrder topBefore (plain (byTop ss))
+falls-in-order ss h r = in-order topBefore Over over-before (byTop ss) (λ s i. h s (byTop-from ss i)) (top-ahead 0 ss r h)
 
 -- ---- lists in order
 
@@ -298,10 +295,10 @@ before-apart x y f g a b =
     let m = ltb-true (toKeySpot y .key) (toKeySpot x .key) (sym (before-is y x g f) ∙ b) in
     omega arith
 
-pub higher-apart : (x y : PlainSpot) → SpotFits x → SpotFits y → rankHigher x y ≡ true → rankHigher y x ≡ true → ⊥
+pub higher-apart : (x y : PlainSpot) → SpotFits x → SpotFits y → topBefore x y ≡ true → topBefore y x ≡ true → ⊥
 higher-apart x y f g a b =
-    let l = ltb-true (rk (toKeySpot y)) (rk (toKeySpot x)) (sym (higher-is x y f g) ∙ a) in
-    let m = ltb-true (rk (toKeySpot x)) (rk (toKeySpot y)) (sym (higher-is y x g f) ∙ b) in
+    let l = ltb-true (tk (toKeySpot y)) (tk (toKeySpot x)) (sym (top-is x y f g) ∙ a) in
+    let m = ltb-true (tk (toKeySpot x)) (tk (toKeySpot y)) (sym (top-is y x g f) ∙ b) in
     omega arith
 
 -- ---- a sound table

@@ -23,6 +23,7 @@ use Rattle.tree.specs.ReadMap.{readMap}
 use Rattle.tree.specs.Sound.{sound}
 use Rattle.table.specs.Calls.{Call, format, report, count, check, kind, Lengths}
 use Rattle.table.specs.Answers.{ofTable, withOutput, lent, earlyNumber, unlessRefused, spotsAnswer, outputLeft, mapLeft}
+use Rattle.table.specs.Reports.{Reportable, Reported}
 use Rattle.table.specs.Queries.{walkAnswer, QueryPost, ReportPost, countAnswer, CountPost, CheckPost}
 use Rattle.table.specs.Updates.{FormatPost}
 
@@ -163,9 +164,10 @@ module _ (x1 x2 y : ℤ) (q : Query) (same : q ≡ query x1 x2 y) (t out map : L
 
   pub report-given : (r : Answer) (ok : Bool) (n : ℕ) (out′ map′ : List ℕ) → tableSized (length t) ≡ true → length map ≡ 512 → ok ≡ not (isBroken (walkTable t q)) → ok ≡ true
       → n ≡ length (spots (walkTable t q)) → n ≤ length out / 12 → r ≡ answer 0 n
-      → out′ ≡ spotsBytes (spots (walkTable t q)) ++ drop (12 * length (spots (walkTable t q))) out
+      → out′ ≡ outputLeft 0 (spots (walkTable t q)) out
       → map′ ≡ readMap (blocksRead (walkTable t q))
       → ReportPost x1 x2 y t out map r out′ map′
+  unfolding outputLeft
   report-given r ok n out′ map′ e f k h z l a o m =
       made r out′ map′
       (query-given (report x1 x2 y) (walkTable t q) t out map e (eq-eqb (length map) 512 f) r out′ map′ (told-whole ok t q k h) (subst (λ (i : ℕ). i ≤ length out / 12) z l)
@@ -184,3 +186,13 @@ output-is ss out out′ n e h = h ∙ ap (λ (i : ℕ). spotsBytes ss ++ drop (1
 pub map-is : (from to to′ due : List ℕ) → length from ≡ 512 → length to ≡ 512 → from ≡ due → to′ ≡ take 512 from ++ drop 512 to → to′ ≡ due
 map-is from to to′ due f t e h =
     h ∙ over-all (take 512 from) to 512 (omega arith) ∙ take-all 512 from (omega arith) ∙ e
+
+-- the second half of a Report, by the name that its promise has for the query
+pub reportable-as : {t out : List ℕ} {p q : Query} → q ≡ p → Reportable p t out → Reportable q t out
+reportable-as {t} {out} e = subst (λ (x : Query). Reportable x t out) (sym e)
+
+pub reported-as : {t out out′ : List ℕ} {p q : Query} {n : ℕ} → q ≡ p → n ≡ length (spots (walkTable t q)) → out′ ≡ spotsBytes (spots (walkTable t q)) ++ drop (12 * n) out
+    → Reported p t out out′ n
+unfolding outputLeft
+reported-as {t} {out} {out′} {p} {q} {n} e c o =
+    subst (λ (x : Query). Reported x t out out′ n) e (record { count = c; output = output-is (spots (walkTable t q)) out out′ n c o })

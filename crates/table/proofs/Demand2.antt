@@ -19,11 +19,11 @@ use Rattle.octets.proofs.Tests.{and-left, and-right, and-both, refuted}
 use Rattle.octets.proofs.Order.{less-or-not}
 use Rattle.spot.specs.declared.Spot.{Spot}
 use Rattle.spot.specs.Keys.{key, signed32, unsigned32}
-use Rattle.spot.specs.Spots.{spotsBytes, byRank}
+use Rattle.spot.specs.Spots.{spotsBytes, byTop}
 use Rattle.spot.specs.Query.{query, topQuery, wants}
 use Rattle.spot.proofs.Signed.{Fits, signed-fits, fits-signed}
 use Rattle.spot.proofs.Orders.{key-inj, report-wants, top-wants}
-use Rattle.spot.proofs.Ranks.{byRank-from, byRank-in}
+use Rattle.spot.proofs.Ranks.{byTop-from, byTop-in}
 use Rattle.spot.proofs.Canon.{keep-rises}
 use Rattle.block.specs.declared.Answer.{Answer}
 use Rattle.block.specs.Header.{headOf}
@@ -39,7 +39,7 @@ use Rattle.table.specs.Calls.{Call, add, withdraw, report, top, argument
 use Rattle.table.specs.Answers.{withScratch, withOutput, earlyNumber, unlessRefused, spotsAnswer, outputLeft}
 use Rattle.table.specs.Queries.{walkAnswer, QueryPost, ReportPost, TopPost}
 use Rattle.table.specs.Updates.{AddPost, WithdrawPost}
-use Rattle.table.specs.Model.{PlainSpot, hasIdentity, placeBefore, rankHigher, asBytes}
+use Rattle.table.specs.Model.{PlainSpot, hasIdentity, placeBefore, topBefore, asBytes}
 use Rattle.table.specs.Demands.{LiveSpot, OfPlaces, InOrder, AtCapacity, ReportOf, TopOf, HandedOut, AddedTo, WithdrawnFrom, Demand2}
 use Rattle.table.proofs.Plain.{toKeySpot, SpotFits, identity-key, keyed-bytes, two-fit}
 use Rattle.table.proofs.Changes.{number-is}
@@ -136,14 +136,14 @@ module _ (t : List ℕ) (g : sound t ≡ true) where
     of-places = keep (wants (topQuery x1 x2 0)) (liveSpots t)
 
     ranked : List PlainSpot
-    ranked = plain (byRank of-places)
+    ranked = plain (byTop of-places)
 
     few : Small of-places
     unfolding of-places
     few = kept-small t g (wants (topQuery x1 x2 0))
 
-    few-ranked : Small (byRank of-places)
-    few-ranked s i = few s (byRank-from of-places i)
+    few-ranked : Small (byTop of-places)
+    few-ranked s i = few s (byTop-from of-places i)
 
     asked-places : (s : PlainSpot) → SpotFits s → leZ x1 (s .place) && leZ (s .place) x2 ≡ wants (topQuery x1 x2 0) (toKeySpot s)
     asked-places s f = top-wants (s .place) (s .rank) x1 x2 (f .place) (f .rank) f1 f2
@@ -151,8 +151,8 @@ module _ (t : List ℕ) (g : sound t ≡ true) where
     to-places : (s : PlainSpot) → List·Memᴰ s ranked → OfPlaces x1 x2 t s
     unfolding of-places ranked
     to-places s i =
-        let m = plain-mem (byRank of-places) few-ranked s i in
-        let l = kept-live t g (wants (topQuery x1 x2 0)) s (m .0, byRank-from of-places (m .1)) in
+        let m = plain-mem (byTop of-places) few-ranked s i in
+        let l = kept-live t g (wants (topQuery x1 x2 0)) s (m .0, byTop-from of-places (m .1)) in
         let a = asked-places s (m .0) ∙ l .1 in
         record { alive = l .0; low = and-left (leZ x1 (s .place)) (leZ (s .place) x2) a; high = and-right (leZ x1 (s .place)) (leZ (s .place) x2) a }
 
@@ -161,9 +161,9 @@ module _ (t : List ℕ) (g : sound t ≡ true) where
     from-places s h =
         let f = alive-fits t s (h .alive) in
         let a = and-both (leZ x1 (s .place)) (leZ (s .place) x2) (h .low) (h .high) in
-        mem-plain (byRank of-places) s f (byRank-in of-places (live-kept t g (wants (topQuery x1 x2 0)) s (h .alive) (sym (asked-places s f) ∙ a)))
+        mem-plain (byTop of-places) s f (byTop-in of-places (live-kept t g (wants (topQuery x1 x2 0)) s (h .alive) (sym (asked-places s f) ∙ a)))
 
-    falls : InOrder rankHigher ranked
+    falls : InOrder topBefore ranked
     unfolding of-places ranked
     falls = falls-in-order of-places few (keep-rises (wants (topQuery x1 x2 0)) 0 (liveSpots t) (live-rises t g))
 
@@ -176,16 +176,16 @@ module _ (t : List ℕ) (g : sound t ≡ true) where
     top-of : TopOf x1 x2 k t (take k ranked)
     top-of =
         record {
-          fall = take-order rankHigher k ranked falls;
+          fall = take-order topBefore k ranked falls;
           wanted = λ s i. to-places s (mem-take k ranked i);
           most = let e = length-take k ranked in omega arith;
           all = λ l s h. mem-same (sym (all-of l)) (from-places s h);
-          highest = λ s h n r j. take-first rankHigher k ranked falls s (from-places s h) n r j;
+          highest = λ s h n r j. take-first topBefore k ranked falls s (from-places s h) n r j;
         }
 
     is-first : (given : List PlainSpot) → TopOf x1 x2 k t given → given ≡ take k ranked
     is-first given h =
-        first-order rankHigher SpotFits higher-apart k given ranked (h .fall) falls (λ s i. from-places s (h .wanted s i))
+        first-order topBefore SpotFits higher-apart k given ranked (h .fall) falls (λ s i. from-places s (h .wanted s i))
         (λ s i. alive-fits t s (to-places s i .alive))
         (h .most)
         (λ l s i. h .all l s (to-places s i))
@@ -199,9 +199,9 @@ module _ (t : List ℕ) (g : sound t ≡ true) where
         → (given : List PlainSpot) × TopOf x1 x2 k t given × HandedOut given out r out′
     unfolding of-places ranked
     top-given out map r out′ map′ l p = (
-      plain (take k (byRank of-places)),
-      subst (TopOf x1 x2 k t) (sym (plain-take k (byRank of-places))) top-of,
-      handed-out (top x1 x2 k) (topTable t x1 x2 k) (take k (byRank of-places)) (top-finds t g x1 x2 k) (λ s i. few-ranked s (mem-take k (byRank of-places) i)) t out map r out′ map′ l
+      plain (take k (byTop of-places)),
+      subst (TopOf x1 x2 k t) (sym (plain-take k (byTop of-places))) top-of,
+      handed-out (top x1 x2 k) (topTable t x1 x2 k) (take k (byTop of-places)) (top-finds t g x1 x2 k) (λ s i. few-ranked s (mem-take k (byTop of-places) i)) t out map r out′ map′ l
           (p .exact (top-rises t g x1 x2 k)),
     )
 

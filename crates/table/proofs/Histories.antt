@@ -13,7 +13,7 @@ use Rattle.octets.specs.Lists.{keep, rising}
 use Rattle.octets.specs.Bitmap.{bit}
 use Rattle.spot.specs.declared.Spot.{Spot}
 use Rattle.spot.specs.Keys.{key}
-use Rattle.spot.specs.Spots.{keys, find, byRank, put, without}
+use Rattle.spot.specs.Spots.{keys, find, byTop, put, without}
 use Rattle.spot.specs.declared.Query.{Query}
 use Rattle.spot.specs.Query.{query, topQuery, wants, everything}
 use Rattle.spot.proofs.Canon.{canon, find-without, without-rises}
@@ -44,7 +44,7 @@ pub record TreeLaws : Type 0 where
   pub finds : (t : List ℕ) → sound t ≡ true → (k : ℕ) → find k (liveSpots t) ≡ live t k
   pub reports : (t : List ℕ) → sound t ≡ true → (q : Query) → Finds (walkTable t q) (keep (wants q) (liveSpots t))
   pub counts : (t : List ℕ) → sound t ≡ true → Finds (walkTable t everything) (liveSpots t)
-  pub tops : (t : List ℕ) → sound t ≡ true → (x1 x2 : ℤ) (k : ℕ) → Finds (topTable t x1 x2 k) (take k (byRank (keep (wants (topQuery x1 x2 0)) (liveSpots t))))
+  pub tops : (t : List ℕ) → sound t ≡ true → (x1 x2 : ℤ) (k : ℕ) → Finds (topTable t x1 x2 k) (take k (byTop (keep (wants (topQuery x1 x2 0)) (liveSpots t))))
   pub bound : (t : List ℕ) → sound t ≡ true → (q : Query)
       → ones (readMap (blocksRead (walkTable t q))) ≤ 1 + 36 * (headOf t .levels) + 9 * (length (spots (walkTable t q)) / 16)
   pub second : (t u : List ℕ) → sound t ≡ true → (q : Query) → length u ≡ length t

@@ -9,6 +9,8 @@ pub mod Answering
 pub mod Rebuilding
 pub mod Changes
 pub mod Topping
+pub mod Fewer
+pub mod Sizing
 pub mod Alive
 pub mod Demand2
 pub mod Demand1

@@ -11,10 +11,11 @@ use lib.IntN.{ℤ, pos, negsuc}
 use lib.Signed.{ltZ}
 use Rattle.octets.specs.Bytes.{bytesOf}
 use Rattle.octets.proofs.Order.{eqb-same}
-use Rattle.spot.specs.Keys.{biased, key, rankKey, turned}
+use Rattle.spot.specs.Keys.{biased, key, topKey, turned}
 use Rattle.spot.specs.Spots.{keyBytes}
 use Rattle.spot.proofs.Signed.{Fits}
-use Rattle.spot.proofs.Orders.{key-place, key-rank, place-order, rank-order, same-identity}
+use Rattle.spot.proofs.Orders.{key-place, key-rank, place-order, same-identity}
+use Rattle.spot.proofs.TopKeys.{top-order}
 use Rattle.table.specs.Model.{eqZ, fourBytes, complement}
 
 -- the model's equality of whole numbers
@@ -31,9 +32,9 @@ module _ (p r q s : ℤ) (fp : Fits p) (fr : Fits r) (fq : Fits q) (fs : Fits s)
   pub model-places : ltZ p q || (eqZ p q && ltZ r s) ≡ ltb (key p r) (key q s)
   model-places = rw (eqZ-biased p q fp fq) (place-order p r q s fp fr fq fs)
 
-  -- rank order, "ranks, then places", is the order of rank keys
-  pub model-ranks : ltZ r s || (eqZ r s && ltZ p q) ≡ ltb (rankKey (key p r)) (rankKey (key q s))
-  model-ranks = rw (eqZ-biased r s fr fs) (rank-order p r q s fp fr fq fs)
+  -- the order of Top's answers is that of top keys
+  pub model-tops : ltZ r s || (eqZ r s && ltZ p q) ≡ ltb (topKey (key p r)) (topKey (key q s))
+  model-tops = rw (eqZ-biased r s fr fs) (top-order p r q s fp fr fq fs)
 
   -- one identity, one key
   pub model-identity : eqZ p q && eqZ r s ≡ eqb (key p r) (key q s)

@@ -12,8 +12,8 @@ use Rattle.octets.specs.Lists.{all, keep}
 use Rattle.octets.proofs.Tests.{and-left, and-right, cond-not}
 use Rattle.octets.proofs.Order.{eqb-flip, not-leb}
 use Rattle.spot.specs.declared.Spot.{Spot}
-use Rattle.spot.specs.Keys.{key, rankKey, signed32, unsigned32}
-use Rattle.spot.specs.Spots.{spotBytes, spotsBytes, find, put, putHigh, byRank, without}
+use Rattle.spot.specs.Keys.{key, topKey, signed32, unsigned32}
+use Rattle.spot.specs.Spots.{spotBytes, spotsBytes, find, put, putTop, byTop, without}
 use Rattle.spot.specs.Query.{query, topQuery, wants}
 use Rattle.spot.proofs.Signed.{Fits, signed-fits}
 use Rattle.spot.proofs.Orders.{report-wants, top-wants}
@@ -23,9 +23,9 @@ use Rattle.tree.specs.Lookup.{isLive}
 use Rattle.table.specs.Calls.{Call, format, add, withdraw, report, top, count, check, rebuild, Kind, makes, updates, queries, tells, kind, Lengths, argumentsFit}
 use Rattle.revise.specs.Numbers.{addNumber}
 use Rattle.table.specs.Answers.{lent, earlyNumber, spotsAnswer, outputLeft}
-use Rattle.table.specs.Model.{PlainSpot, hasIdentity, placeBefore, rankHigher, ofPlaces, ofReport, chosen, insertBy, sortBy, listed, takenOut, broughtIn, highest, fourBytes, complement, asBytes, Plain, begunEmpty, Reply, outputAfter, refuse, accept, badTable, badLent, full, handOut, ownReply, reply}
+use Rattle.table.specs.Model.{PlainSpot, hasIdentity, placeBefore, topBefore, ofPlaces, ofReport, chosen, insertBy, sortBy, listed, takenOut, broughtIn, highest, fourBytes, complement, asBytes, Plain, begunEmpty, Reply, outputAfter, refuse, accept, badTable, badLent, full, handOut, ownReply, reply}
 use Rattle.table.proofs.Keyed.{KeyReply, keyReply, replyTo, refusedOr, accepted, changed, nextBy, gives}
-use Rattle.table.proofs.Orders.{model-places, model-ranks, model-identity, four-bytes, key-bytes}
+use Rattle.table.proofs.Orders.{model-places, model-tops, model-identity, four-bytes, key-bytes}
 
 -- a spot of the model as the table's definitions have it
 abbrev pub toKeySpot : PlainSpot → Spot
@@ -108,28 +108,28 @@ before-is x s f g = model-places (x .place) (x .rank) (s .place) (s .rank) (f .p
 before-keys : (x s : PlainSpot) → SpotFits x → SpotFits s → placeBefore x s ≡ not (leb (toKeySpot s .key) (toKeySpot x .key))
 before-keys x s f g = before-is x s f g ∙ sym (not-leb (toKeySpot s .key) (toKeySpot x .key))
 
--- rank order is the order of rank keys
-pub higher-is : (x s : PlainSpot) → SpotFits x → SpotFits s → rankHigher x s ≡ ltb (rankKey (toKeySpot s .key)) (rankKey (toKeySpot x .key))
-unfolding rankHigher
-higher-is x s f g = model-ranks (s .place) (s .rank) (x .place) (x .rank) (g .place) (g .rank) (f .place) (f .rank)
+-- the order of Top's answers is that of top keys
+pub top-is : (x s : PlainSpot) → SpotFits x → SpotFits s → topBefore x s ≡ ltb (topKey (toKeySpot s .key)) (topKey (toKeySpot x .key))
+unfolding topBefore
+top-is x s f g = model-tops (s .place) (s .rank) (x .place) (x .rank) (g .place) (g .rank) (f .place) (f .rank)
 
-higher-keys : (x s : PlainSpot) → SpotFits x → SpotFits s → rankHigher x s ≡ not (leb (rankKey (toKeySpot x .key)) (rankKey (toKeySpot s .key)))
-higher-keys x s f g = higher-is x s f g ∙ sym (not-leb (rankKey (toKeySpot x .key)) (rankKey (toKeySpot s .key)))
+top-keys : (x s : PlainSpot) → SpotFits x → SpotFits s → topBefore x s ≡ not (leb (topKey (toKeySpot x .key)) (topKey (toKeySpot s .key)))
+top-keys x s f g = top-is x s f g ∙ sym (not-leb (topKey (toKeySpot x .key)) (topKey (toKeySpot s .key)))
 
 keyed-put : (s : PlainSpot) (xs : List PlainSpot) → SpotFits s → AllFit xs → keyed (insertBy placeBefore s xs) ≡ put (toKeySpot s) (keyed xs)
 keyed-put s [] f h = refl
 keyed-put s (x ∷ xs) f h =
     step-in (placeBefore x s) s x (insertBy placeBefore s xs) xs (leb (toKeySpot s .key) (toKeySpot x .key)) (put (toKeySpot s) (keyed xs)) (before-keys x s (h .0) f) (keyed-put s xs f (h .1))
 
-keyed-high : (s : PlainSpot) (xs : List PlainSpot) → SpotFits s → AllFit xs → keyed (insertBy rankHigher s xs) ≡ putHigh (toKeySpot s) (keyed xs)
-keyed-high s [] f h = refl
-keyed-high s (x ∷ xs) f h =
-    step-in (rankHigher x s) s x (insertBy rankHigher s xs) xs (leb (rankKey (toKeySpot x .key)) (rankKey (toKeySpot s .key))) (putHigh (toKeySpot s) (keyed xs)) (higher-keys x s (h .0) f) (keyed-high s xs f (h .1))
+keyed-top : (s : PlainSpot) (xs : List PlainSpot) → SpotFits s → AllFit xs → keyed (insertBy topBefore s xs) ≡ putTop (toKeySpot s) (keyed xs)
+keyed-top s [] f h = refl
+keyed-top s (x ∷ xs) f h =
+    step-in (topBefore x s) s x (insertBy topBefore s xs) xs (leb (topKey (toKeySpot x .key)) (topKey (toKeySpot s .key))) (putTop (toKeySpot s) (keyed xs)) (top-keys x s (h .0) f) (keyed-top s xs f (h .1))
 
-keyed-sort : (ss : List PlainSpot) → AllFit ss → keyed (sortBy rankHigher ss) ≡ byRank (keyed ss)
+keyed-sort : (ss : List PlainSpot) → AllFit ss → keyed (sortBy topBefore ss) ≡ byTop (keyed ss)
 keyed-sort [] h = refl
 keyed-sort (s ∷ ss) h =
-    keyed-high s (sortBy rankHigher ss) (h .0) (sort-fit rankHigher ss (h .1)) ∙ ap (putHigh (toKeySpot s)) (keyed-sort ss (h .1))
+    keyed-top s (sortBy topBefore ss) (h .0) (sort-fit topBefore ss (h .1)) ∙ ap (putTop (toKeySpot s)) (keyed-sort ss (h .1))
 
 -- one identity, one key
 module _ (place rank : ℤ) (fp : Fits place) (fr : Fits rank) where
@@ -184,18 +184,18 @@ module _ (x1 x2 : ℤ) (f1 : Fits x1) (f2 : Fits x2) where
       ss
       h
 
-  keyed-highest : (k : ℕ) (ss : List PlainSpot) → AllFit ss → keyed (highest x1 x2 k ss) ≡ take k (byRank (keep (wants (topQuery x1 x2 0)) (keyed ss)))
+  keyed-highest : (k : ℕ) (ss : List PlainSpot) → AllFit ss → keyed (highest x1 x2 k ss) ≡ take k (byTop (keep (wants (topQuery x1 x2 0)) (keyed ss)))
   unfolding highest ofPlaces
   keyed-highest k ss h =
-      keyed-take k (sortBy rankHigher (chosen (ofPlaces x1 x2) ss)) ∙
+      keyed-take k (sortBy topBefore (chosen (ofPlaces x1 x2) ss)) ∙
       ap (take k)
       (keyed-sort (chosen (ofPlaces x1 x2) ss) (chosen-fit (ofPlaces x1 x2) ss h) ∙
-      ap byRank
+      ap byTop
       (keyed-chosen (ofPlaces x1 x2) (wants (topQuery x1 x2 0)) (λ s f. top-wants (s .place) (s .rank) x1 x2 (f .place) (f .rank) f1 f2) ss h))
 
   highest-fit : (k : ℕ) (ss : List PlainSpot) → AllFit ss → AllFit (highest x1 x2 k ss)
   unfolding highest
-  highest-fit k ss h = take-fit k (sortBy rankHigher (chosen (ofPlaces x1 x2) ss)) (sort-fit rankHigher (chosen (ofPlaces x1 x2) ss) (chosen-fit (ofPlaces x1 x2) ss h))
+  highest-fit k ss h = take-fit k (sortBy topBefore (chosen (ofPlaces x1 x2) ss)) (sort-fit topBefore (chosen (ofPlaces x1 x2) ss) (chosen-fit (ofPlaces x1 x2) ss h))
 
 -- ---- bytes
 

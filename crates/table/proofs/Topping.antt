@@ -38,6 +38,7 @@ use Rattle.table.specs.Calls.{top}
 use Rattle.table.specs.Answers.{lengths, earlyNumber, outputLeft}
 use Rattle.table.specs.Queries.{QueryPost, TopPost}
 use Rattle.table.specs.NoneGiven.{NoneGiven}
+use Rattle.table.specs.TopSizes.{Gives}
 use Rattle.table.proofs.Answering.{query-short, query-lent, query-broken, query-many, query-given}
 
 module _ (x1 x2 : ℤ) (k : ℕ) (t out map : List ℕ) where
@@ -105,10 +106,10 @@ module _ (x1 x2 : ℤ) (k : ℕ) (t out map : List ℕ) where
         go (walked found blocks) z = refl
 
     -- more spots than the output holds
-    pub top-many : (r : Answer) (n : ℕ) {given : List Spot} {blocks : List ℕ} → Done t x1 x2 k given blocks → n ≡ length given → length out / 12 < n → r ≡ answer 5 n
+    pub top-many : (r : Answer) (n : ℕ) → Gives t x1 x2 k n → length out / 12 < n → r ≡ answer 5 n
         → TopPost x1 x2 k t out map r out map
-    top-many r n d c l a =
-        let m : n ≡ length (spots (topTable t x1 x2 k)) = c ∙ d .many in
+    top-many r n d l a =
+        let m = d .many in
         let i : r .number ≡ 5 = ap (λ (x : Answer). x .number) a in
         record {
           exact = λ z. query-many (top x1 x2 k) (topTable t x1 x2 k) t out map e f r (table-whole (d .intact)) (subst (λ (j : ℕ). length out / 12 < j) m l) (a ∙ ap (answer 5) m);
@@ -170,7 +171,7 @@ module _ (x1 x2 : ℤ) (k : ℕ) (t out map : List ℕ) where
               };
         }
 
-    -- few spots, from a buffer of 12,288 bytes
+    -- few spots, from the small buffer
     pub top-few : (r : Answer) (n : ℕ) (base few seen out′ map′ : List ℕ) → Ended t x1 x2 k 512 base seen few n → n ≤ 512 → n ≤ length out / 12 → r ≡ answer 0 n
         → out′ ≡ take (12 * n) few ++ drop (12 * n) out → map′ ≡ seen
         → TopPost x1 x2 k t out map r out′ map′
@@ -186,20 +187,20 @@ module _ (x1 x2 : ℤ) (k : ℕ) (t out map : List ℕ) where
         (w ∙ v .map)
 
     -- many, straight into the output
-    pub top-wide : (r : Answer) (n : ℕ) (seen out′ map′ : List ℕ) {m : ℕ} {given : List Spot} {blocks : List ℕ} → Done t x1 x2 k given blocks → n ≡ length given
-        → Based t x1 x2 k n out seen out′ m → n ≤ length out / 12 → r ≡ answer 0 n → map′ ≡ seen
+    pub top-wide : (r : Answer) (n : ℕ) (seen out′ map′ : List ℕ) {m : ℕ} → Gives t x1 x2 k n → Based t x1 x2 k n out seen out′ m → n ≤ length out / 12 → r ≡ answer 0 n
+        → map′ ≡ seen
         → TopPost x1 x2 k t out map r out′ map′
-    top-wide r n seen out′ map′ d c v l a w =
+    top-wide r n seen out′ map′ d v l a w =
         let u = v .ended in
         let g = u .given in
-        let i : n ≡ length g = c ∙ d .many ∙ sym (u .done .many) in
+        let i : n ≡ length g = d .many ∙ sym (u .done .many) in
         top-given r n out′ map′ (u .done) (u .places) i l a
         (u .output ∙ ap (λ (ss : List Spot). spotsBytes ss ++ drop (12 * length ss) (v .base)) (take-all n g (omega arith))
         ∙ ap (λ (bs : List ℕ). spotsBytes g ++ bs) (subst (λ (j : ℕ). drop (12 * j) (v .base) ≡ drop (12 * j) out) i (v .behind)))
         (w ∙ u .map)
 
-    -- the second run ends as the first did
-    pub still-whole : {given : List Spot} {blocks : List ℕ} → Done t x1 x2 k given blocks → {q : Query} {n : ℕ} {seen out′ : List ℕ} {z : TopTally} → q ≡ topQuery x1 x2 0 → TopFront t q k n out seen out′ z → z .ok ≡ true
+    -- the run into the output ends well
+    pub still-whole : {i : ℕ} → Gives t x1 x2 k i → {q : Query} {n : ℕ} {seen out′ : List ℕ} {z : TopTally} → q ≡ topQuery x1 x2 0 → TopFront t q k n out seen out′ z → z .ok ≡ true
     still-whole d {z = z} a v = go (z .ok) refl
       where
         go : (b : Bool) → z .ok ≡ b → z .ok ≡ true

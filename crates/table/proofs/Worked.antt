@@ -25,7 +25,7 @@ use Rattle.tree.proofs.Fresh.{fresh-sized, fresh-walk, fresh-sound, fresh-level
 use Rattle.table.specs.Calls.{Call, format, add, withdraw, report, top, count, check, rebuild, Lengths, argumentsFit}
 use Rattle.table.specs.Answers.{withOutput, spotsAnswer, outputLeft}
 use Rattle.table.specs.Queries.{walkAnswer, ReportPost}
-use Rattle.table.specs.Model.{Plain, begunEmpty, eqZ, hasIdentity, placeBefore, rankHigher, ofPlaces, ofReport, takenOut, broughtIn, highest, fourBytes, complement, Reply, outputAfter, refuse, accept, badTable, badLent, full, handOut, ownReply, reply}
+use Rattle.table.specs.Model.{Plain, begunEmpty, eqZ, hasIdentity, placeBefore, topBefore, ofPlaces, ofReport, takenOut, broughtIn, highest, fourBytes, complement, Reply, outputAfter, refuse, accept, badTable, badLent, full, handOut, ownReply, reply}
 use Rattle.table.proofs.Answering.{long-enough}
 
 -- a table of this many blocks, a read map and a work area as they should be, and an output of this many bytes
@@ -229,7 +229,7 @@ pub some-row : Row
 some-row = asks (record { before = []; call = count; lent = room 0; number = 0; detail = 0; front = [] })
 
 all-right : every right rows ≡ true
-unfolding all right rows found after filling sizedFor signed32 unsigned32 argumentsFit eqZ hasIdentity placeBefore rankHigher ofPlaces ofReport takenOut broughtIn highest fourBytes complement outputAfter refuse accept badTable badLent full handOut ownReply reply
+unfolding all right rows found after filling sizedFor signed32 unsigned32 argumentsFit eqZ hasIdentity placeBefore topBefore ofPlaces ofReport takenOut broughtIn highest fourBytes complement outputAfter refuse accept badTable badLent full handOut ownReply reply
 all-right = refl
 
 -- every row of the table says what the definitions give

@@ -20,7 +20,7 @@ use Rattle.table.specs.Calls.{Call, add, withdraw, report, top, isQuery,
 use Rattle.table.specs.Answers.{lengths, earlyNumber, spotsAnswer}
 use Rattle.table.specs.Queries.{HandsOut, ReportPost, TopPost}
 use Rattle.table.specs.Updates.{AddPost, WithdrawPost}
-use Rattle.table.specs.Model.{PlainSpot, hasIdentity, placeBefore, rankHigher, asBytes}
+use Rattle.table.specs.Model.{PlainSpot, hasIdentity, placeBefore, topBefore, asBytes}
 use Rattle.table.specs.History.{Event, MetBy}
 
 -- ---- demand 1
@@ -91,11 +91,11 @@ pub record ReportOf (x1 x2 y : ℤ) (t : List ℕ) (given : List PlainSpot) : Ty
 
 -- "Top(x1, x2, k) gives, of the live spots with x1 ≤ place ≤ x2, the k highest in rank order (all, if fewer), highest first"
 pub record TopOf (x1 x2 : ℤ) (k : ℕ) (t : List ℕ) (given : List PlainSpot) : Type 0 where
-  pub fall : InOrder rankHigher given
+  pub fall : InOrder topBefore given
   pub wanted : (s : PlainSpot) → List·Memᴰ s given → OfPlaces x1 x2 t s
   pub most : length given ≤ k
   pub all : length given < k → (s : PlainSpot) → OfPlaces x1 x2 t s → List·Memᴰ s given
-  pub highest : (s : PlainSpot) → OfPlaces x1 x2 t s → (List·Memᴰ s given → ⊥) → (r : PlainSpot) → List·Memᴰ r given → rankHigher r s ≡ true
+  pub highest : (s : PlainSpot) → OfPlaces x1 x2 t s → (List·Memᴰ s given → ⊥) → (r : PlainSpot) → List·Memᴰ r given → topBefore r s ≡ true
 
 -- what a query answers and leaves of the output, where these are its spots
 pub record HandedOut (given : List PlainSpot) (out : List ℕ) (r : Answer) (out′ : List ℕ) : Type 0 where

@@ -1,8 +1,10 @@
 pub mod Calls
 pub mod Answers
 pub mod Queries
+pub mod Reports
 pub mod Updates
 pub mod Model
 pub mod History
 pub mod NoneGiven
+pub mod TopSizes
 pub mod Demands

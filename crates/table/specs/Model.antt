@@ -31,9 +31,9 @@ hasIdentity place rank s = eqZ (s .place) place && eqZ (s .rank) rank
 unfoldable pub placeBefore : PlainSpot → PlainSpot → Bool
 placeBefore s r = ltZ (s .place) (r .place) || (eqZ (s .place) (r .place) && ltZ (s .rank) (r .rank))
 
--- "The rank order compares ranks, then places": s is higher than r
-unfoldable pub rankHigher : PlainSpot → PlainSpot → Bool
-rankHigher s r = ltZ (r .rank) (s .rank) || (eqZ (r .rank) (s .rank) && ltZ (r .place) (s .place))
+-- "The rank order compares ranks, then places", the highest first: s comes before r in a Top
+unfoldable pub topBefore : PlainSpot → PlainSpot → Bool
+topBefore s r = ltZ (r .rank) (s .rank) || (eqZ (r .rank) (s .rank) && ltZ (r .place) (s .place))
 
 -- "x1 ≤ place ≤ x2"
 unfoldable pub ofPlaces : ℤ → ℤ → PlainSpot → Bool
@@ -72,7 +72,7 @@ broughtIn s ss = insertBy placeBefore s (takenOut (s .place) (s .rank) ss)
 
 -- "of the live spots with x1 ≤ place ≤ x2, the k highest in rank order (all, if fewer), highest first"
 unfoldable pub highest : ℤ → ℤ → ℕ → List PlainSpot → List PlainSpot
-highest x1 x2 k ss = take k (sortBy rankHigher (chosen (ofPlaces x1 x2) ss))
+highest x1 x2 k ss = take k (sortBy topBefore (chosen (ofPlaces x1 x2) ss))
 
 -- "All numbers on it are big-endian, signed ones two's complement": four bytes
 unfoldable pub fourBytes : ℕ → List ℕ

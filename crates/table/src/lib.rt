@@ -1,14 +1,20 @@
 // The public calls. None has a `requires`: every call ends on any bytes and arguments, and a refused one changes nothing but scratch.
 ghost use mathlib.Core.Path.{_≡_};
 ghost use mathlib.Core.Bool.{true};
-ghost use lib.ListN.{length};
+ghost use lib.ListN.{length, replicate};
+ghost use Rattle.spot.specs.Query.{query};
 ghost use Rattle.block.specs.Answers.{answer};
 ghost use Rattle.block.specs.Table.{tableSized};
+ghost use Rattle.query.specs.Walks.{TableCounted};
+ghost use Rattle.table.specs.Reports.{Reportable, Reported};
 ghost use Rattle.table.specs.Queries.{ReportPost, TopPost, CountPost, CheckPost};
 ghost use Rattle.table.specs.Updates.{FormatPost, AddPost, WithdrawPost, RebuildPost};
 ghost use Rattle.table.specs.NoneGiven.{NoneGiven};
+ghost use Rattle.table.specs.TopSizes.{TopCounted, TopTold, TopSized};
+ghost use Rattle.top.specs.Runs.{Runnable};
 
-fn refuse(number: u32) -> block::Answer
+// An answer whose detail is 0.
+fn plain_answer(number: u32) -> block::Answer
     ensures { λ r. ⌜ r ≡ answer number 0 ⌝ }
 {
     block::Answer { number, detail: 0 }
@@ -26,21 +32,17 @@ pub fn count(table: &[u8]) -> block::Answer
     ensures { λ r. ⌜ CountPost (now (table .entry)) r ⌝ }
 {
     if !block::sized(table.len()) {
-        return refuse(1);
+        return plain_answer(1);
     }
     let mut seen = [0u8; 512];
-    let everything = spot::Query {
-        from: 0,
-        last: 18446744073709551615,
-        least: 0,
-    };
+    let everything = spot::everything();
     let all = query::count_table(table, &mut seen, everything);
     if !all.ok {
-        return refuse(3);
+        return plain_answer(3);
     }
     block::Answer {
         number: 0,
-        detail: all.spots as u32,
+        detail: all.tally.spots as u32,
     }
 }
 
@@ -49,15 +51,31 @@ pub fn check(table: &[u8]) -> block::Answer
     ensures { λ r. ⌜ CheckPost (now (table .entry)) r ⌝ }
 {
     if !block::sized(table.len()) {
-        return refuse(1);
+        return plain_answer(1);
     }
     if !soundness::is_sound(table) {
-        return refuse(0);
+        return plain_answer(0);
     }
     block::Answer {
         number: 0,
         detail: 1,
     }
+}
+
+// A Report counted: whether its walk is whole, the blocks read and the spots found; `seen` becomes the map of the blocks read.
+fn report_size(table: &[u8], x1: i32, x2: i32, y: i32, seen: &mut [u8]) -> query::Sum
+    requires { ⌜ (tableSized (length (now table)) ≡ true) × (now seen ≡ replicate 512 0) ⌝ }
+    ensures { λ r. ⌜ TableCounted (now (table .entry)) (query x1 x2 y) (now (seen .exit)) r ⌝ }
+{
+    query::count_table(table, seen, spot::make_query(x1, x2, y))
+}
+
+// A Report written that was counted, is whole and has room: its spots at the front of the output, which may be a part of a caller's.
+fn report_into(table: &[u8], x1: i32, x2: i32, y: i32, output: &mut [u8]) -> usize
+    requires { ⌜ Reportable (query x1 x2 y) (now table) (now output) ⌝ }
+    ensures { λ r. ⌜ Reported (query x1 x2 y) (now (table .entry)) (now (output .entry)) (now (output .exit)) r ⌝ }
+{
+    query::collect_table(table, output, spot::make_query(x1, x2, y))
 }
 
 // All live spots with x1 ≤ place ≤ x2 and rank ≥ y, rising in place order; the read map marks the blocks read.
@@ -72,28 +90,27 @@ pub fn report(
     ensures { λ r. ⌜ ReportPost x1 x2 y (now (table .entry)) (now (output .entry)) (now («read_map» .entry)) r (now (output .exit)) (now («read_map» .exit)) ⌝ }
 {
     if !block::sized(table.len()) {
-        return refuse(1);
+        return plain_answer(1);
     }
     if read_map.len() != 512 {
-        return refuse(2);
+        return plain_answer(2);
     }
-    let q = spot::make_query(x1, x2, y);
     let mut seen = [0u8; 512];
-    let all = query::count_table(table, &mut seen, q);
+    let all = report_size(table, x1, x2, y, &mut seen);
     if !all.ok {
-        return refuse(3);
+        return plain_answer(3);
     }
-    if output.len() / 12 < all.spots {
+    if output.len() / 12 < all.tally.spots {
         return block::Answer {
             number: 5,
-            detail: all.spots as u32,
+            detail: all.tally.spots as u32,
         };
     }
-    query::collect_table(table, output, q);
+    report_into(table, x1, x2, y, output);
     octets::copy(&seen, read_map, 512);
     block::Answer {
         number: 0,
-        detail: all.spots as u32,
+        detail: all.tally.spots as u32,
     }
 }
 
@@ -103,15 +120,98 @@ fn top_none(table: &[u8], read_map: &mut [u8]) -> block::Answer
     ensures { λ r. ⌜ NoneGiven (now (table .entry)) (now («read_map» .entry)) r (now («read_map» .exit)) ⌝ }
 {
     if !block::header_ok(table) {
-        return refuse(3);
+        return plain_answer(3);
     }
     let mut first = [0u8; 512];
     octets::set_bit(&mut first, 0);
     octets::copy(&first, read_map, 512);
-    refuse(0)
+    plain_answer(0)
 }
 
-// Of the live spots with x1 ≤ place ≤ x2, the k highest in rank order, highest first; the read map marks the blocks read.
+// How many spots Top gives, if a count can say. A count that breaks says nothing: Top may end before it comes to the broken block. `read` is then cleared for the
+// search.
+fn top_count(table: &[u8], read: &mut [u8], q: spot::Query, k: usize) -> top::TopTally
+    requires { ⌜ (tableSized (length (now table)) ≡ true) × (now read ≡ replicate 512 0) ⌝ }
+    ensures { λ r. ⌜ TopCounted (now (table .entry)) q k (now (read .exit)) r ⌝ }
+{
+    let all = query::count_table(table, read, q);
+    if !all.ok {
+        octets::zero(read, 512);
+        return top::TopTally {
+            ok: false,
+            spots: 0,
+        };
+    }
+    if all.tally.spots < k {
+        return top::TopTally {
+            ok: true,
+            spots: all.tally.spots,
+        };
+    }
+    top::TopTally { ok: true, spots: k }
+}
+
+// Whether the walk of Top is whole, how many spots it gives, and whether they are in the small buffer, with the map made.
+struct Size {
+    ok: bool,
+    held: bool,
+    spots: usize,
+}
+
+// What Top gives, if it is known without a search for k. For k of an eighth of the table and more a count takes less time than that search; the figure in
+// block 0 only chooses. Before it a search for 513, one more than the small buffer holds, finds all that are in range where they are few; if it breaks or finds 513, it says
+// nothing.
+fn top_told(table: &[u8], read: &mut [u8], q: spot::Query, k: usize, few: &mut [u8]) -> Size
+    requires { ⌜ Runnable (now table) q (now read) (now few) k 512 ⌝ }
+    ensures { λ r. ⌜ TopTold (now (table .entry)) q k (now (few .entry)) (now (read .exit)) (now (few .exit)) r ⌝ }
+{
+    let unknown = Size {
+        ok: false,
+        held: false,
+        spots: 0,
+    };
+    if k <= 512 {
+        return unknown;
+    }
+    if (k as u64) < block::bound_of(table) / 8 {
+        return unknown;
+    }
+    let some = top::top_run(table, read, q, 513, few, 512);
+    if some.ok & (some.spots < 513) {
+        return Size {
+            ok: true,
+            held: true,
+            spots: some.spots,
+        };
+    }
+    octets::zero(read, 512);
+    let counted = top_count(table, read, q, k);
+    Size {
+        ok: counted.ok,
+        held: false,
+        spots: counted.spots,
+    }
+}
+
+// Nothing may be written before the answer is known: it is told, or searched for with room for 512 spots.
+fn top_size(table: &[u8], read: &mut [u8], q: spot::Query, k: usize, few: &mut [u8]) -> Size
+    requires { ⌜ Runnable (now table) q (now read) (now few) k 512 × (length (now few) ≡ 6144) ⌝ }
+    ensures { λ r. ⌜ TopSized (now (table .entry)) q k (now (few .entry)) (now (read .exit)) (now (few .exit)) r ⌝ }
+{
+    let told = top_told(table, read, q, k, few);
+    if told.ok {
+        return told;
+    }
+    let all = top::top_run(table, read, q, k, few, 512);
+    Size {
+        ok: all.ok,
+        held: all.spots <= 512,
+        spots: all.spots,
+    }
+}
+
+// Of the live spots with x1 ≤ place ≤ x2, the k of the highest ranks, the highest first and of equal ranks the lower place first; the read map marks the blocks
+// read.
 pub fn top(
     table: &[u8],
     x1: i32,
@@ -123,10 +223,10 @@ pub fn top(
     ensures { λ r. ⌜ TopPost x1 x2 k (now (table .entry)) (now (output .entry)) (now («read_map» .entry)) r (now (output .exit)) (now («read_map» .exit)) ⌝ }
 {
     if !block::sized(table.len()) {
-        return refuse(1);
+        return plain_answer(1);
     }
     if read_map.len() != 512 {
-        return refuse(2);
+        return plain_answer(2);
     }
     if k == 0 {
         return top_none(table, read_map);
@@ -134,9 +234,9 @@ pub fn top(
     let q = spot::top_query(x1, x2, 0);
     let mut read = [0u8; 512];
     let mut few = [0u8; 6144];
-    let all = top::top_run(table, &mut read, q, k as usize, &mut few, 512);
+    let all = top_size(table, &mut read, q, k as usize, &mut few);
     if !all.ok {
-        return refuse(3);
+        return plain_answer(3);
     }
     let n = all.spots;
     if output.len() / 12 < n {
@@ -145,7 +245,7 @@ pub fn top(
             detail: n as u32,
         };
     }
-    if n <= 512 {
+    if all.held {
         octets::copy(&few, output, 12 * n);
         octets::copy(&read, read_map, 512);
         return block::Answer {
@@ -169,19 +269,19 @@ pub fn add(table: &mut [u8], scratch: &mut [u8], place: i32, rank: i32, track: u
 {
     let bytes = table.len();
     if !block::sized(bytes) {
-        return refuse(1);
+        return plain_answer(1);
     }
     if scratch.len() < bytes {
-        return refuse(2);
+        return plain_answer(2);
     }
     let key = spot::key_of(place, rank);
     let number = revise::put_spot(table, scratch, spot::Spot { key, track });
     // Full: neither the table nor the scratch was touched.
     if number == 4 {
-        return refuse(4);
+        return plain_answer(4);
     }
     octets::zero(scratch, bytes);
-    refuse(number)
+    plain_answer(number)
 }
 
 // Takes out the spot of that identity, if there is one.
@@ -190,15 +290,15 @@ pub fn withdraw(table: &mut [u8], scratch: &mut [u8], place: i32, rank: i32) -> 
 {
     let size = table.len();
     if !block::sized(size) {
-        return refuse(1);
+        return plain_answer(1);
     }
     if scratch.len() < size {
-        return refuse(2);
+        return plain_answer(2);
     }
     let key = spot::key_of(place, rank);
     let number = revise::take_key(table, scratch, key);
     octets::zero(scratch, size);
-    refuse(number)
+    plain_answer(number)
 }
 
 // The live spots stay, track numbers included, and all waiting changes are carried out.
@@ -207,15 +307,15 @@ pub fn rebuild(table: &mut [u8], scratch: &mut [u8]) -> block::Answer
 {
     let n = table.len();
     if !block::sized(n) {
-        return refuse(1);
+        return plain_answer(1);
     }
     if scratch.len() < n {
-        return refuse(2);
+        return plain_answer(2);
     }
     let ok = renew::anew(table, scratch);
     octets::zero(scratch, n);
     if !ok {
-        return refuse(3);
+        return plain_answer(3);
     }
-    refuse(0)
+    plain_answer(0)
 }

@@ -2,52 +2,35 @@
 -- Assumes nothing.
 use mathlib.Core.Path.{_≡_, ap, ap₂, sym, subst, _∙_}
 use mathlib.Core.Logic.{_⊎_, inl, inr, ⊎-elim}
-use mathlib.Core.Bool.{Bool, true, false, cond, _&&_, true≢false}
+use mathlib.Core.Bool.{Bool, true, false, cond, _&&_}
 use mathlib.Core.List.{List, [], _∷_, _++_}
-use Prim.Native.Nat.{ℕ, _+_, _-_, _*_, _/_, _%_, _≤_, _<_}
+use Prim.Native.Nat.{ℕ, _+_, _*_, _/_, _≤_, _<_}
 use native.Mathlib.Omega.{arith}
-use lib.ListN.{length, length-append}
+use lib.ListN.{length-append}
 use lib.Dec.{ltb}
 use lib.IntN.{ℤ}
 use borrow.Author.Tests.{ltb-true, ltb-false, lt-ltb}
 use Rattle.octets.proofs.Order.{less-or-not}
 use Rattle.octets.proofs.Tests.{and-left, and-right}
-use Rattle.spot.specs.Keys.{rankKey, rankOf}
+use Rattle.spot.specs.Keys.{topKey, rankOf}
 use Rattle.spot.specs.Spots.{putSpot}
 use Rattle.spot.specs.Query.{topQuery}
 use Rattle.spot.specs.declared.Spot.{Spot}
 use Rattle.spot.specs.declared.Query.{Query}
-use Rattle.block.specs.Access.{frontOf}
-use Rattle.block.specs.Node.{storeOf}
+use Rattle.spot.proofs.TopKeys.{top-rank}
 use Rattle.block.specs.NodeRules.{ValidBlock}
-use Rattle.block.specs.Table.{block, blocksOf}
-use Rattle.block.proofs.Facts.{block-facts}
 use Rattle.frontier.specs.declared.Pick.{Pick}
 use Rattle.frontier.specs.Frontier.{blockBy, slotBy, Chain}
-use Rattle.frontier.specs.Picks.{spotCount, spotBy, nextOf, Picked}
+use Rattle.frontier.specs.Picks.{spotCount, spotBy, foundIn, Under, Laddered, nextOf, PickedUnder}
 use Rattle.frontier.proofs.Chains.{stands-valid}
-use Rattle.top.specs.Reading.{Under, shownOf, Going}
-use Rattle.top.specs.Rows.{pickRow, topKey, topValue, foundIn, headBy, PickedUnder, Heads}
+use Rattle.frontier.proofs.Spots.{spots-most}
+use Rattle.top.specs.Reading.{shownOf, Going}
+use Rattle.top.specs.Rows.{pickRow, firstKey, leadAt, leadSlot, leadMore, headBy, Heads}
 use Rattle.top.specs.Runs.{Leads, Movable, Moved, Sofar, Passes, Givable}
 use Rattle.top.proofs.Heaps.{put, put-same, put-other, put-all, First, first-row, first-most}
-use Rattle.top.proofs.Lefts.{best-under, under-none}
 use Rattle.top.proofs.Ups.{shown-is}
 use Rattle.top.proofs.Steps.{spot-given}
 use Rattle.top.proofs.Outs.{written-more}
-
--- a node has at most 128 spots
-pub spots-few : {t : List ℕ} {b : ℕ} → ValidBlock t b → spotCount t b ≤ 128
-unfolding storeOf frontOf
-spots-few {t} {b} v = let f = block-facts (blocksOf (length t)) (v .level) (v .asked) (block t b) (v .ok) in omega (arith, f .p-most, f .i-most)
-
--- ---- the best under a rank key
-
-pub picked-under : {t : List ℕ} {b r : ℕ} {ss : List Spot} {p : Pick} → 0 < r → Picked t b (r - 1) ss p → PickedUnder t b r ss p
-picked-under {ss = ss} l v = record { index = v .index; rank = v .rank; under = best-under ss l (v .best) }
-
-pub picked-none : {t : List ℕ} {b r : ℕ} {ss : List Spot} {p : Pick} → r ≡ 0 → p .there ≡ false → PickedUnder t b r ss p
-picked-none {ss = ss} e f =
-    record { index = λ h. absurd (true≢false (sym h ∙ f)); rank = λ h. absurd (true≢false (sym h ∙ f)); under = under-none ss e f }
 
 -- ---- the first row of the heap of spots
 
@@ -58,8 +41,8 @@ module _ {t : List ℕ} {q : Query} {k room : ℕ} {rows heads : List (List ℕ)
 
   module _ (some : 0 < m) where
     -- the slot of the first row
-    lead-row : First heads (λ i. pick i .there) (λ i. pick i .rank) (λ i. 128 * i + pick i .at) n
-    lead-row = first-row (λ i. pick i .there) (λ i. pick i .rank) (λ i. 128 * i + pick i .at) (s .headed .held) some
+    lead-row : First heads (λ i. pick i .there) (λ i. pick i .key) (λ i. pick i .at + 128 * (i + 4096 * pick i .more)) n
+    lead-row = first-row (λ i. pick i .there) (λ i. pick i .key) (λ i. pick i .at + 128 * (i + 4096 * pick i .more)) (s .headed .held) some
 
     abbrev i : ℕ
     i = lead-row .at
@@ -68,22 +51,25 @@ module _ {t : List ℕ} {q : Query} {k room : ℕ} {rows heads : List (List ℕ)
     lead-index = s .headed .index i (lead-row .inside) (lead-row .there)
 
     lead-low : pick i .at < 128
-    lead-low = omega (arith, lead-index, spots-few (stands-valid (chain .stands i (lead-row .inside))))
+    lead-low = omega (arith, lead-index, spots-most t (slotBy t rows i .block) (stands-valid (chain .stands i (lead-row .inside))))
 
-    lead-slot : topValue heads / 128 ≡ i
-    lead-slot = let e = lead-row .value-is in let l = lead-low in omega arith
+    lead-slot : leadSlot heads ≡ i
+    lead-slot = let e = lead-row .value-is in let l = lead-low in let g = lead-row .inside in omega arith
 
-    lead-at : topValue heads % 128 ≡ pick i .at
+    lead-at : leadAt heads ≡ pick i .at
     lead-at = let e = lead-row .value-is in let l = lead-low in omega arith
 
-    lead-block : blockBy rows (topValue heads / 128) ≡ slotBy t rows i .block
+    lead-more : leadMore heads ≡ pick i .more
+    lead-more = let e = lead-row .value-is in let l = lead-low in let g = lead-row .inside in omega arith
+
+    lead-block : blockBy rows (leadSlot heads) ≡ slotBy t rows i .block
     lead-block = ap (blockBy rows) lead-slot ∙ chain .blocks i (lead-row .inside)
 
-    lead-spot : spotBy t (blockBy rows (topValue heads / 128)) (topValue heads % 128) ≡ headBy t rows pick i .spot
+    lead-spot : spotBy t (blockBy rows (leadSlot heads)) (leadAt heads) ≡ headBy t rows pick i .spot
     lead-spot = ap₂ (spotBy t) lead-block lead-at
 
-    lead-rank : topKey heads ≡ rankKey (headBy t rows pick i .spot .key)
-    lead-rank = lead-row .key-is ∙ s .headed .rank i (lead-row .inside) (lead-row .there)
+    lead-key : firstKey heads ≡ topKey (headBy t rows pick i .spot .key)
+    lead-key = lead-row .key-is ∙ s .headed .key i (lead-row .inside) (lead-row .there)
 
     pub leads : Leads t rows heads
     leads =
@@ -95,10 +81,10 @@ module _ {t : List ℕ} {q : Query} {k room : ℕ} {rows heads : List (List ℕ)
           some = omega arith;
           slot = omega arith;
           valid = subst (ValidBlock t) (sym lead-block) (stands-valid (chain .stands i l));
-          index = let z : topValue heads % 128 < spotCount t (slotBy t rows i .block) = omega (arith, lead-at, lead-index) in subst (λ (b : ℕ). topValue heads % 128 < spotCount t b) (sym lead-block) z;
+          index = let z : leadAt heads < spotCount t (slotBy t rows i .block) = omega (arith, lead-at, lead-index) in subst (λ (b : ℕ). leadAt heads < spotCount t b) (sym lead-block) z;
         }
 
-    pub movable : Movable t rows heads m
+    pub movable : Movable t q rows heads m
     movable =
         let l = lead-row .inside in
         let e = lead-slot in
@@ -106,8 +92,11 @@ module _ {t : List ℕ} {q : Query} {k room : ℕ} {rows heads : List (List ℕ)
           some = some;
           room = s .headed .held .room;
           heap = s .headed .held .heap;
-          near = omega arith;
           hangs = record { n = n; inside = omega arith; chain = chain };
+          more =
+              subst (λ (x : ℕ). Laddered t (slotBy t rows (leadSlot heads) .block) q (firstKey heads) x) (sym lead-more)
+              (subst (λ (x : ℕ). Laddered t (slotBy t rows (leadSlot heads) .block) q x (pick i .more)) (sym (lead-row .key-is))
+              (subst (λ (j : ℕ). Laddered t (slotBy t rows j .block) q (pick i .key) (pick i .more)) (sym e) (s .headed .more i l (lead-row .there))));
         }
 
     -- ---- it is given
@@ -116,10 +105,10 @@ module _ {t : List ℕ} {q : Query} {k room : ℕ} {rows heads : List (List ℕ)
       abbrev next : ℕ → Pick
       next = put pick i (v .next)
 
-      follows : PickedUnder t (slotBy t rows i .block) (topKey heads) (foundIn t q (slotBy t rows i)) (v .next)
-      follows = subst (λ (j : ℕ). PickedUnder t (slotBy t rows j .block) (topKey heads) (foundIn t q (slotBy t rows j)) (v .next)) lead-slot (v .under)
+      follows : PickedUnder t (slotBy t rows i .block) q (firstKey heads) (foundIn t q (slotBy t rows i)) (v .next)
+      follows = subst (λ (j : ℕ). PickedUnder t (slotBy t rows j .block) q (firstKey heads) (foundIn t q (slotBy t rows j)) (v .next)) lead-slot (v .under)
 
-      moved-heads : Heads t rows heads' m' n next
+      moved-heads : Heads t q rows heads' m' n next
       moved-heads =
           record {
             held =
@@ -128,29 +117,32 @@ module _ {t : List ℕ} {q : Query} {k room : ℕ} {rows heads : List (List ℕ)
                 (λ j d. ap (pickRow j) (put-other pick i (v .next) j d));
             index =
                 put-all pick i (v .next) (λ j p. j < n → p .there ≡ true → p .at < spotCount t (slotBy t rows j .block)) (λ l. follows .index) (λ j d. s .headed .index j);
-            rank =
-                put-all pick i (v .next) (λ j p. j < n → p .there ≡ true → p .rank ≡ rankKey (spotBy t (slotBy t rows j .block) (p .at) .key)) (λ l. follows .rank) (λ j d. s .headed .rank j);
+            key =
+                put-all pick i (v .next) (λ j p. j < n → p .there ≡ true → p .key ≡ topKey (spotBy t (slotBy t rows j .block) (p .at) .key)) (λ l. follows .key) (λ j d. s .headed .key j);
+            more =
+                put-all pick i (v .next) (λ j p. j < n → p .there ≡ true → Laddered t (slotBy t rows j .block) q (p .key) (p .more)) (λ l. follows .more) (λ j d. s .headed .more j);
           }
 
-      module _ (floor : ℕ) (low : (c : ℕ) → c < 8 * n → cell c ≤ floor) (over : floor ≤ topKey heads / 4294967296) (less : count < k) where
+      module _ (floor : ℕ) (low : (c : ℕ) → c < 8 * n → cell c ≤ floor) (over : floor ≤ firstKey heads / 4294967296) (less : count < k) where
         given-going : (x1 x2 : ℤ) → q ≡ topQuery x1 x2 0 → Going t x1 x2 k (slotBy t rows) (headBy t rows next) cell n (s .given ++ (headBy t rows pick i .spot ∷ [])) blocks
         given-going x1 x2 asks =
-            let e = lead-rank in
+            let e = lead-key in
+            let o = top-rank (headBy t rows pick i .spot .key) in
             let c = s .counted in
             spot-given t x1 x2 k (slotBy t rows) (headBy t rows pick) cell n (s .given) blocks (s .going x1 x2 asks) i (lead-row .inside) (lead-row .there)
-            (λ j l h. omega (arith, first-most (λ y. pick y .there) (λ y. pick y .rank) (λ y. 128 * y + pick y .at) (s .headed .held) j l h .1, s .headed .rank j l h))
+            (λ j l h. omega (arith, first-most (λ y. pick y .there) (λ y. pick y .key) (λ y. pick y .at + 128 * (y + 4096 * pick y .more)) (s .headed .held) j l h .1, s .headed .key j l h))
             floor
             low
             (omega arith)
             (omega arith)
             (headBy t rows next)
             (λ j d. ap (nextOf t (slotBy t rows j .block)) (put-other pick i (v .next) j d))
-            (subst (Under (rankKey (headBy t rows pick i .spot .key)) (shownOf t (topQuery x1 x2 0) (slotBy t rows i))) (sym (ap (nextOf t (slotBy t rows i .block)) (put-same pick i (v .next))))
-            (subst (λ (u : Query). Under (rankKey (headBy t rows pick i .spot .key)) (shownOf t u (slotBy t rows i)) (nextOf t (slotBy t rows i .block) (v .next))) asks
-            (subst (λ (ss : List Spot). Under (rankKey (headBy t rows pick i .spot .key)) ss (nextOf t (slotBy t rows i .block) (v .next))) (shown-is t q (slotBy t rows i) (chain .stands i (lead-row .inside)))
-            (subst (λ (r : ℕ). Under r (foundIn t q (slotBy t rows i)) (nextOf t (slotBy t rows i .block) (v .next))) lead-rank (follows .under)))))
+            (subst (Under (topKey (headBy t rows pick i .spot .key)) (shownOf t (topQuery x1 x2 0) (slotBy t rows i))) (sym (ap (nextOf t (slotBy t rows i .block)) (put-same pick i (v .next))))
+            (subst (λ (u : Query). Under (topKey (headBy t rows pick i .spot .key)) (shownOf t u (slotBy t rows i)) (nextOf t (slotBy t rows i .block) (v .next))) asks
+            (subst (λ (ss : List Spot). Under (topKey (headBy t rows pick i .spot .key)) ss (nextOf t (slotBy t rows i .block) (v .next))) (shown-is t q (slotBy t rows i) (chain .stands i (lead-row .inside)))
+            (subst (λ (r : ℕ). Under r (foundIn t q (slotBy t rows i)) (nextOf t (slotBy t rows i .block) (v .next))) lead-key (follows .under)))))
 
-        given-sofar : {out' : List ℕ} {x : Spot} → x ≡ spotBy t (blockBy rows (topValue heads / 128)) (topValue heads % 128) → out' ≡ cond (ltb count room) (putSpot out (12 * count) x) out
+        given-sofar : {out' : List ℕ} {x : Spot} → x ≡ spotBy t (blockBy rows (leadSlot heads)) (leadAt heads) → out' ≡ cond (ltb count room) (putSpot out (12 * count) x) out
             → Sofar t q k room rows heads' m' n cell base out' blocks (count + 1)
         given-sofar {out'} {x} is o =
             let y = headBy t rows pick i .spot in
@@ -169,11 +161,11 @@ module _ {t : List ℕ} {q : Query} {k room : ℕ} {rows heads : List (List ℕ)
             }
 
   -- no spot that is left reaches the floor
-  pub none-reaches : (floor : ℕ) → (m ≡ 0) ⊎ (topKey heads / 4294967296 < floor) → (j : ℕ) → j < n → headBy t rows pick j .there ≡ true → rankOf (headBy t rows pick j .spot .key) < floor
+  pub none-reaches : (floor : ℕ) → (m ≡ 0) ⊎ (firstKey heads / 4294967296 < floor) → (j : ℕ) → j < n → headBy t rows pick j .there ≡ true → rankOf (headBy t rows pick j .spot .key) < floor
   none-reaches floor e j l h =
-      let f = first-most (λ y. pick y .there) (λ y. pick y .rank) (λ y. 128 * y + pick y .at) (s .headed .held) j l h in
-      let r = s .headed .rank j l h in
-      ⊎-elim (λ (z : m ≡ 0). let y : ⊥ = omega (arith, f .0) in absurd y) (λ (z : topKey heads / 4294967296 < floor). omega (arith, f .1)) e
+      let f = first-most (λ y. pick y .there) (λ y. pick y .key) (λ y. pick y .at + 128 * (y + 4096 * pick y .more)) (s .headed .held) j l h in
+      let r = s .headed .key j l h in
+      ⊎-elim (λ (z : m ≡ 0). let y : ⊥ = omega (arith, f .0) in absurd y) (λ (z : firstKey heads / 4294967296 < floor). omega (arith, f .1, top-rank (headBy t rows pick j .spot .key))) e
 
 -- ---- one after the other
 
@@ -181,8 +173,8 @@ pub give-none : {t : List ℕ} {q : Query} {k room : ℕ} {rows heads : List (Li
 give-none = record { on = λ n cell base blocks few chain low s. s }
 
 pub give-step : {t : List ℕ} {q : Query} {k room : ℕ} {rows first heads heads' : List (List ℕ)} {m₀ m m' floor : ℕ} {out₀ out out' : List ℕ} {count₀ count : ℕ} {x : Spot}
-    → Passes t q k room rows first heads m₀ m floor out₀ out count₀ count → 0 < m → count < k → floor ≤ topKey heads / 4294967296
-    → x ≡ spotBy t (blockBy rows (topValue heads / 128)) (topValue heads % 128) → out' ≡ cond (ltb count room) (putSpot out (12 * count) x) out → Moved t q rows heads heads' m m'
+    → Passes t q k room rows first heads m₀ m floor out₀ out count₀ count → 0 < m → count < k → floor ≤ firstKey heads / 4294967296
+    → x ≡ spotBy t (blockBy rows (leadSlot heads)) (leadAt heads) → out' ≡ cond (ltb count room) (putSpot out (12 * count) x) out → Moved t q rows heads heads' m m'
     → Passes t q k room rows first heads' m₀ m' floor out₀ out' count₀ (count + 1)
 give-step {floor = floor} p some less over is o v =
     record { on = λ n cell base blocks few chain low s. given-sofar few chain (p .on n cell base blocks few chain low s) some v floor low over less is o }

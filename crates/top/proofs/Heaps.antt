@@ -13,7 +13,7 @@ use Rattle.octets.proofs.Order.{same-or-not}
 use Rattle.heap.specs.Heaps.{Became}
 use Rattle.heap.specs.Held.{Held}
 use Rattle.heap.proofs.Held.{held-top, held-some, held-most, held-skip, held-push, held-replace, held-pop}
-use Rattle.top.specs.Rows.{topKey, topValue, Hung, Lowered}
+use Rattle.top.specs.Rows.{firstKey, firstValue, Hung, Lowered}
 
 -- ---- a function changed at one place
 
@@ -82,8 +82,8 @@ pub record First (h : List (List ℕ)) (b : ℕ → Bool) (key value : ℕ → �
   pub at : ℕ
   pub inside : at < n
   pub there : b at ≡ true
-  pub key-is : topKey h ≡ key at
-  pub value-is : topValue h ≡ value at
+  pub key-is : firstKey h ≡ key at
+  pub value-is : firstValue h ≡ value at
   pub row-is : cond (b at) (key at ∷ value at ∷ []) [] ≡ getD h 0 []
 
 module _ {h : List (List ℕ)} {m : ℕ} (b : ℕ → Bool) (key value : ℕ → ℕ) {n : ℕ} (d : Held h m (λ s. cond (b s) (key s ∷ value s ∷ []) []) n) where
@@ -100,5 +100,5 @@ module _ {h : List (List ℕ)} {m : ℕ} (b : ℕ → Bool) (key value : ℕ →
       go s l e false f = absurd (held-some row d p (sym e ∙ ap (λ (y : Bool). cond y (key s ∷ value s ∷ []) []) f))
 
   -- no slot's key is above the first row's
-  pub first-most : (s : ℕ) → s < n → b s ≡ true → (0 < m) × (key s ≤ topKey h)
+  pub first-most : (s : ℕ) → s < n → b s ≡ true → (0 < m) × (key s ≤ firstKey h)
   first-most s l e = held-most row d s l (ap (λ (y : Bool). cond y (key s ∷ value s ∷ []) []) e)

@@ -12,7 +12,7 @@ use lib.IntN.{ℤ}
 use Rattle.octets.specs.Lists.{has}
 use Rattle.octets.specs.Bitmap.{bit, setBit}
 use Rattle.octets.proofs.Bits.{setBit-length, bit-zeros}
-use Rattle.spot.specs.Keys.{rankKey}
+use Rattle.spot.specs.Keys.{allKeys, topKey}
 use Rattle.spot.specs.Query.{topQuery}
 use Rattle.spot.specs.declared.Spot.{Spot}
 use Rattle.spot.specs.declared.Query.{Query}
@@ -35,12 +35,12 @@ use Rattle.heap.proofs.Held.{held-none, held-few}
 use Rattle.frontier.specs.declared.Pick.{Pick}
 use Rattle.frontier.specs.declared.KidPick.{KidPick}
 use Rattle.frontier.specs.Frontier.{Slot, kidCount, kidEntry, kidPart, kidCell, kidKey, rootSlot, childSlot, placeOf, slotBy, Standing, Chain}
-use Rattle.frontier.specs.Picks.{Best, spotCount, spotBy, nextOf}
+use Rattle.frontier.specs.Picks.{spotCount, spotBy, foundIn, Under, Laddered, nextOf}
 use Rattle.frontier.proofs.Chains.{slot-first, child-above, stands-valid, root-stands, child-stands, child-inside, chain-first, chain-more, chain-new, chain-old}
 use Rattle.top.specs.declared.Sizes.{Sizes}
 use Rattle.top.specs.declared.Joined.{Joined}
 use Rattle.top.specs.Reading.{pendOf, childOf, shownOf, Going}
-use Rattle.top.specs.Rows.{pickRow, kidRow, foundIn, headBy, cellOf, cellBy, Heads, Kids}
+use Rattle.top.specs.Rows.{pickRow, kidRow, headBy, cellOf, cellBy, Heads, Kids}
 use Rattle.top.specs.Runs.{written, Added, Readable, NodeRead, Sofar, Seen, Swept}
 use Rattle.top.proofs.Heaps.{put, put-same, put-old, put-all}
 use Rattle.top.proofs.Takes.{cell-first}
@@ -126,7 +126,7 @@ pub record Ready (t : List ℕ) (q : Query) (k room : ℕ) (base seen out : List
   pub kid : ℕ → KidPick
   pub known : Kids t q rows kids (z .kids) (z .slots) kid
   pub pick : ℕ → Pick
-  pub headed : Heads t rows heads (z .heads) (z .slots) pick
+  pub headed : Heads t q rows heads (z .heads) (z .slots) pick
   pub given : List Spot
   pub blocks : List ℕ
   pub poised : (x1 x2 : ℤ) → q ≡ topQuery x1 x2 0 → Poised t x1 x2 k (slotBy t rows) (headBy t rows pick) (cellBy t q rows kid) (z .slots) given blocks (pendOf t s a)
@@ -142,7 +142,7 @@ root-ready {t} {q} {k} {room} {seen} {out} {rows} {kids} {heads} ok some clear f
       kid = kid;
       known = record { held = held-none kids (λ s. kidRow s (kid s)); index = λ s l. let z : ⊥ = omega arith in absurd z; key = λ s l. let z : ⊥ = omega arith in absurd z };
       pick = pick;
-      headed = record { held = held-none heads (λ s. pickRow s (pick s)); index = λ s l. let z : ⊥ = omega arith in absurd z; rank = λ s l. let z : ⊥ = omega arith in absurd z };
+      headed = record { held = held-none heads (λ s. pickRow s (pick s)); index = λ s l. let z : ⊥ = omega arith in absurd z; key = λ s l. let z : ⊥ = omega arith in absurd z; more = λ s l. let z : ⊥ = omega arith in absurd z };
       given = [];
       blocks = [];
       poised = λ x1 x2 e.
@@ -158,7 +158,7 @@ root-ready {t} {q} {k} {room} {seen} {out} {rows} {kids} {heads} ok some clear f
     kid s = record { key = 0; at = 0 }
 
     pick : ℕ → Pick
-    pick s = record { there = false; rank = 0; at = 0 }
+    pick s = record { there = false; key = 0; at = 0; more = 1 }
 
 module _ {t : List ℕ} {q : Query} {k room : ℕ} {base seen out : List ℕ} {rows kids heads : List (List ℕ)} {z : Sizes} {count : ℕ} {s : Slot} {a : Asked}
     (y : Ready t q k room base seen out rows kids heads z count s a) where
@@ -234,7 +234,7 @@ module _ {t : List ℕ} {q : Query} {k room : ℕ} {base seen out : List ℕ} {r
                 y .known .key j i p ∙ ap (λ (w : Slot). kidKey t (w .block) (w .span) q (y .kid j .at)) (sym (old j i)));
           }
 
-      headed : Heads t rows' heads' (r .sizes .heads) (n + 1) pick
+      headed : Heads t q rows' heads' (r .sizes .heads) (n + 1) pick
       headed =
           record {
             held =
@@ -245,11 +245,16 @@ module _ {t : List ℕ} {q : Query} {k room : ℕ} {base seen out : List ℕ} {r
                 (λ j f l h.
                 let i : j < n = omega (arith, f) in
                 subst (λ (w : Slot). y .pick j .at < spotCount t (w .block)) (sym (old j i)) (y .headed .index j i h));
-            rank =
-                put-all (y .pick) n (d .pick) (λ j x. j < n + 1 → x .there ≡ true → x .rank ≡ rankKey (spotBy t (slotBy t rows' j .block) (x .at) .key)) (λ l. d .picked .rank)
+            key =
+                put-all (y .pick) n (d .pick) (λ j x. j < n + 1 → x .there ≡ true → x .key ≡ topKey (spotBy t (slotBy t rows' j .block) (x .at) .key)) (λ l. d .picked .key)
                 (λ j f l h.
                 let i : j < n = omega (arith, f) in
-                subst (λ (w : Slot). y .pick j .rank ≡ rankKey (spotBy t (w .block) (y .pick j .at) .key)) (sym (old j i)) (y .headed .rank j i h));
+                subst (λ (w : Slot). y .pick j .key ≡ topKey (spotBy t (w .block) (y .pick j .at) .key)) (sym (old j i)) (y .headed .key j i h));
+            more =
+                put-all (y .pick) n (d .pick) (λ j x. j < n + 1 → x .there ≡ true → Laddered t (slotBy t rows' j .block) q (x .key) (x .more)) (λ l. d .picked .more)
+                (λ j f l h.
+                let i : j < n = omega (arith, f) in
+                subst (λ (w : Slot). Laddered t (w .block) q (y .pick j .key) (y .pick j .more)) (sym (old j i)) (y .headed .more j i h));
           }
 
       going : (x1 x2 : ℤ) → q ≡ topQuery x1 x2 0 → Going t x1 x2 k (slotBy t rows') (headBy t rows' pick) (cellBy t q rows' kid) (n + 1) (y .given) (s .block ∷ y .blocks)
@@ -259,9 +264,9 @@ module _ {t : List ℕ} {q : Query} {k room : ℕ} {base seen out : List ℕ} {r
           old
           new
           (λ j l. ap₂ (λ (w : Slot) (p : Pick). nextOf t (w .block) p) (old j l) (put-old (y .pick) n (d .pick) n refl j l))
-          (subst (Best 18446744073709551615 (shownOf t (topQuery x1 x2 0) s)) (ap (nextOf t (slotBy t rows' n .block)) (sym (put-same (y .pick) n (d .pick))))
-          (subst (λ (u : Query). Best 18446744073709551615 (shownOf t u s) (nextOf t (slotBy t rows' n .block) (d .pick))) asks
-          (subst (λ (ss : List Spot). Best 18446744073709551615 ss (nextOf t (slotBy t rows' n .block) (d .pick))) (ap (foundIn t q) new ∙ shown-is t q s stands) (d .picked .best))))
+          (subst (Under allKeys (shownOf t (topQuery x1 x2 0) s)) (ap (nextOf t (slotBy t rows' n .block)) (sym (put-same (y .pick) n (d .pick))))
+          (subst (λ (u : Query). Under allKeys (shownOf t u s) (nextOf t (slotBy t rows' n .block) (d .pick))) asks
+          (subst (λ (ss : List Spot). Under allKeys ss (nextOf t (slotBy t rows' n .block) (d .pick))) (ap (foundIn t q) new ∙ shown-is t q s stands) (d .picked .under))))
           (λ j l.
           let i : j / 8 < n = omega arith in
           ap₂ (λ (w : Slot) (x : KidPick). cellOf t q w (x .key) (j % 8)) (old (j / 8) i) (put-old (y .kid) n (d .kid) n refl (j / 8) i))

@@ -12,11 +12,12 @@ use lib.IntN.{ℤ}
 use Rattle.octets.specs.Lists.{has}
 use Rattle.octets.proofs.Order.{same-or-not, less-or-not}
 use Rattle.octets.proofs.Tests.{refuted}
-use Rattle.spot.specs.Keys.{rankOf}
+use Rattle.spot.specs.Keys.{allKeys, rankOf}
 use Rattle.spot.specs.Query.{topQuery}
 use Rattle.spot.specs.declared.Spot.{Spot}
 use Rattle.spot.specs.declared.Query.{Query}
-use Rattle.spot.proofs.Ranks.{rk}
+use Rattle.spot.proofs.Ranks.{tk}
+use Rattle.spot.proofs.TopKeys.{top-rank}
 use Rattle.block.specs.declared.Asked.{Asked}
 use Rattle.block.specs.Header.{headOf}
 use Rattle.block.specs.HeaderRules.{headerOk}
@@ -31,10 +32,10 @@ use Rattle.tree.proofs.BestFirstTree.{rootOf}
 use Rattle.tree.proofs.BestFirstSteps.{NoneRanks}
 use Rattle.tree.proofs.BestFirstTop.{Done}
 use Rattle.tree.proofs.BestFirst.{Progress, start, read-part, broken-node, broken-twice, give, reorder, done-full, done-empty, blocks-few}
-use Rattle.frontier.specs.Picks.{Next, Best}
+use Rattle.frontier.specs.Picks.{Next, Under}
 use Rattle.frontier.specs.Frontier.{Slot, kidCell, Standing}
 use Rattle.frontier.proofs.Kids.{cell-says}
-use Rattle.top.specs.Reading.{flat, pendOf, childOf, seat, seats, unreadOf, shownOf, leftOf, lefts, foundOf, Awaits, Known, Going, Under}
+use Rattle.top.specs.Reading.{flat, pendOf, childOf, seat, seats, unreadOf, shownOf, leftOf, lefts, foundOf, Awaits, Known, Going}
 use Rattle.top.proofs.Flats.{flat-same, flat-mem, flat-none, flat-add, flat-out}
 use Rattle.top.proofs.Lefts.{left-mem, left-gone, left-all, left-give}
 use Rattle.top.proofs.Ups.{shown-small, shown-once, kids-known}
@@ -58,7 +59,7 @@ module _ (t : List ℕ) (q : Query) (slot : ℕ → Slot) (head : ℕ → Next) 
       (g .awaits c (r .1))
 
   -- a spot found is not above its slot's next
-  found-head : {x : Spot} → List·Memᴰ x (foundOf t q slot head n) → (s : ℕ) × (s < n) × (head s .there ≡ true) × (rk x ≤ rk (head s .spot))
+  found-head : {x : Spot} → List·Memᴰ x (foundOf t q slot head n) → (s : ℕ) × (s < n) × (head s .there ≡ true) × (tk x ≤ tk (head s .spot))
   unfolding lefts
   found-head i =
       let r = flat-mem (lefts t q slot head) n i in
@@ -145,7 +146,7 @@ module _ (t : List ℕ) (x1 x2 : ℤ) (k : ℕ) (slot : ℕ → Slot) (head : �
               (same-or-not (r .0) c);
           low = λ x i.
               let r = found-head t q slot head cell n (g .known) i in
-              omega (arith, quiet (r .0) (r .1) (r .2), r .3, e);
+              omega (arith, quiet (r .0) (r .1) (r .2), r .3, e, top-rank (x .key), top-rank (head (r .0) .spot .key));
           room = room;
           count = g .count;
         }
@@ -166,7 +167,7 @@ module _ (t : List ℕ) (x1 x2 : ℤ) (k : ℕ) (slot : ℕ → Slot) (head : �
   module _ (ok : nodeOk (s .level) a (storeOf t (s .block)) ≡ true) (new : has (s .block) blocks ≡ false) (v : Standing t s)
       (slot' : ℕ → Slot) (head' : ℕ → Next) (cell' : ℕ → ℕ)
       (slots : (j : ℕ) → j < n → slot' j ≡ slot j) (slotted : slot' n ≡ s)
-      (heads : (j : ℕ) → j < n → head' j ≡ head j) (headed : Best 18446744073709551615 (shownOf t (topQuery x1 x2 0) s) (head' n))
+      (heads : (j : ℕ) → j < n → head' j ≡ head j) (headed : Under allKeys (shownOf t (topQuery x1 x2 0) s) (head' n))
       (cells : (j : ℕ) → j < 8 * n → cell' j ≡ cell j) (celled : (i : ℕ) → i < 8 → cell' (8 * n + i) ≡ kidCell t (s .block) (s .span) (topQuery x1 x2 0) i) where
     abbrev q : Query
     q = topQuery x1 x2 0
@@ -263,9 +264,9 @@ module _ (t : List ℕ) (x1 x2 : ℤ) (k : ℕ) (slot : ℕ → Slot) (head : �
 
 module _ (t : List ℕ) (x1 x2 : ℤ) (k : ℕ) (slot : ℕ → Slot) (head : ℕ → Next) (cell : ℕ → ℕ) (n : ℕ) (given : List Spot) (blocks : List ℕ) (g : Going t x1 x2 k slot head cell n given blocks) where
   -- the next of slot j is the highest, and every unread part promises less
-  module _ (j : ℕ) (inside : j < n) (there : head j .there ≡ true) (first : (s : ℕ) → s < n → head s .there ≡ true → rk (head s .spot) ≤ rk (head j .spot))
+  module _ (j : ℕ) (inside : j < n) (there : head j .there ≡ true) (first : (s : ℕ) → s < n → head s .there ≡ true → tk (head s .spot) ≤ tk (head j .spot))
       (floor : ℕ) (highest : (c : ℕ) → c < 8 * n → cell c ≤ floor) (over : floor ≤ rankOf (head j .spot .key)) (room : length given < k)
-      (head' : ℕ → Next) (others : (s : ℕ) → (s ≡ j → ⊥) → head' s ≡ head s) (next : Under (rk (head j .spot)) (shownOf t (topQuery x1 x2 0) (slot j)) (head' j)) where
+      (head' : ℕ → Next) (others : (s : ℕ) → (s ≡ j → ⊥) → head' s ≡ head s) (next : Under (tk (head j .spot)) (shownOf t (topQuery x1 x2 0) (slot j)) (head' j)) where
     known-then : Known t (topQuery x1 x2 0) slot head' cell n
     known-then =
         record {
@@ -294,8 +295,8 @@ module _ (t : List ℕ) (x1 x2 : ℤ) (k : ℕ) (slot : ℕ → Slot) (head : �
               give t x1 x2 k us [] s fs given blocks
               (reorder t x1 x2 k us us (foundOf t (topQuery x1 x2 0) slot head n) (s ∷ fs) given blocks (g .progress) (reordered-none us) taken-out)
               (λ x i. let r = found-head t (topQuery x1 x2 0) slot head' cell n known-then i in
-              ⊎-elim (λ (e : r .0 ≡ j). omega (arith, r .3, ap (λ (y : ℕ). rk (head' y .spot)) e, next .held (ap (λ (y : ℕ). head' y .there) (sym e) ∙ r .2) .1))
-              (λ d. omega (arith, r .3, ap (λ (y : Next). rk (y .spot)) (others (r .0) d), first (r .0) (r .1) (ap (λ (y : Next). y .there) (sym (others (r .0) d)) ∙ r .2)))
+              ⊎-elim (λ (e : r .0 ≡ j). omega (arith, r .3, ap (λ (y : ℕ). tk (head' y .spot)) e, next .held (ap (λ (y : ℕ). head' y .there) (sym e) ∙ r .2) .1))
+              (λ d. omega (arith, r .3, ap (λ (y : Next). tk (y .spot)) (others (r .0) d), first (r .0) (r .1) (ap (λ (y : Next). y .there) (sym (others (r .0) d)) ∙ r .2)))
               (same-or-not (r .0) j))
               (λ u i. let r = unread-cell t (topQuery x1 x2 0) slot head cell n (g .known) i in omega (arith, r .2, highest (r .0) (r .1)))
               room;

@@ -41,7 +41,7 @@ use Rattle.top.specs.declared.Given.{Given}
 use Rattle.top.specs.declared.Search.{Search}
 use Rattle.top.specs.declared.TopTally.{TopTally}
 use Rattle.top.specs.Reading.{unreadOf, foundOf}
-use Rattle.top.specs.Rows.{topKey, topValue, headBy, cellBy}
+use Rattle.top.specs.Rows.{firstKey, firstValue, headBy, cellBy}
 use Rattle.top.specs.Runs.{topParent, topSlot, topEntry, withKids, withHeads, Taken, Readable, NodeRead, NextKid, KidRead, Givable, Gave, Seen, Swept, Ended, Searchable, Searched, Runnable, TopRun, TopFront}
 use Rattle.top.proofs.Heaps.{put}
 use Rattle.top.proofs.Steps.{Poised, child-poised, ends-full, ends-empty, slots-few}
@@ -73,7 +73,7 @@ seen-map {seen} {blocks} s =
 -- ---- spots are given
 
 module _ {t : List ℕ} {q : Query} {k room : ℕ} {base seen out : List ℕ} {rows kids heads : List (List ℕ)} {z : Sizes} {count : ℕ} (few : z .slots ≤ 4096)
-    (s : Swept t q k room base seen out rows kids heads z count) (floor : ℕ) (is : floor ≡ cond (eqb (z .kids) 0) 0 (topKey kids / 65536)) where
+    (s : Swept t q k room base seen out rows kids heads z count) (floor : ℕ) (is : floor ≡ cond (eqb (z .kids) 0) 0 (firstKey kids / 65536)) where
   low : (c : ℕ) → c < 8 * z .slots → cellBy t q rows (s .kid) c ≤ floor
   low = cells-low (s .kid) (s .known) floor is
 
@@ -106,7 +106,7 @@ module _ {t : List ℕ} {q : Query} {k room : ℕ} {base seen out : List ℕ} {r
 
   -- ---- no spot that is left reaches the floor, or k are given
 
-  module _ (ends : (k ≤ count) ⊎ ((z .heads ≡ 0) ⊎ (topKey heads / 4294967296 < floor))) where
+  module _ (ends : (k ≤ count) ⊎ ((z .heads ≡ 0) ⊎ (firstKey heads / 4294967296 < floor))) where
     quiet : count < k → (j : ℕ) → j < z .slots → headBy t rows (s .sofar .pick) j .there ≡ true → rankOf (headBy t rows (s .sofar .pick) j .spot .key) < floor
     quiet l j i h = ⊎-elim (λ (m : k ≤ count). let y : ⊥ = omega arith in absurd y) (λ e. none-reaches few (s .chain) (s .sofar) floor e j i h) ends
 
@@ -154,24 +154,24 @@ module _ {t : List ℕ} {q : Query} {k room : ℕ} {base seen out : List ℕ} {r
       kids-some =
           ⊎-elim
           (λ (e : z .kids ≡ 0).
-          let f : floor ≡ 0 = is ∙ ap (λ (b : Bool). cond b 0 (topKey kids / 65536)) (eq-eqb (z .kids) 0 e) in
+          let f : floor ≡ 0 = is ∙ ap (λ (b : Bool). cond b 0 (firstKey kids / 65536)) (eq-eqb (z .kids) 0 e) in
           let y : ⊥ = omega (arith, more .1) in absurd y)
           (λ (d : z .kids ≡ 0 → ⊥). omega (arith, d))
           (same-or-not (z .kids) 0)
 
-      floor-top : floor ≡ topKey kids / 65536
-      floor-top = let l = kids-some in is ∙ ap (λ (b : Bool). cond b 0 (topKey kids / 65536)) (ne-eqb (z .kids) 0 (λ e. let y : ⊥ = omega arith in y))
+      floor-top : floor ≡ firstKey kids / 65536
+      floor-top = let l = kids-some in is ∙ ap (λ (b : Bool). cond b 0 (firstKey kids / 65536)) (ne-eqb (z .kids) 0 (λ e. let y : ⊥ = omega arith in y))
 
-      cell-floor : cellBy t q rows (s .kid) (topValue kids) ≡ floor
+      cell-floor : cellBy t q rows (s .kid) (firstValue kids) ≡ floor
       cell-floor = kid-cell (s .kid) (s .known) (s .chain) kids-some ∙ sym floor-top
 
       parent-stands : Standing t (topParent t rows kids)
-      parent-stands = s .chain .stands (topValue kids / 8) (parent-inside (s .kid) (s .known) (s .chain) kids-some)
+      parent-stands = s .chain .stands (firstValue kids / 8) (parent-inside (s .kid) (s .known) (s .chain) kids-some)
 
-      enters : z .slots < length rows → Enters t rows (z .slots) (topSlot t rows kids) (Child (topEntry t rows kids)) (topValue kids)
+      enters : z .slots < length rows → Enters t rows (z .slots) (topSlot t rows kids) (Child (topEntry t rows kids)) (firstValue kids)
       enters l =
           let m = s .some in
-          child-enters t rows (z .slots) (topValue kids) (s .chain) (omega arith) l few (parent-inside (s .kid) (s .known) (s .chain) kids-some)
+          child-enters t rows (z .slots) (firstValue kids) (s .chain) (omega arith) l few (parent-inside (s .kid) (s .known) (s .chain) kids-some)
           (kid-below (s .kid) (s .known) (s .chain) kids-some)
           q
           (kid-admitted (s .kid) (s .known) (s .chain) kids-some)
@@ -192,9 +192,9 @@ module _ {t : List ℕ} {q : Query} {k room : ℕ} {base seen out : List ℕ} {r
             blocks = s .blocks;
             poised = λ x1 x2 asks.
                 subst (Poised t x1 x2 k (slotBy t rows) (headBy t rows (o .pick)) (cellBy t q rows kid) (z .slots) (o .given) (s .blocks))
-                (child-pend t (topParent t rows kids) (topValue kids % 8) (parent-stands .long)
-                (child-inside t (topParent t rows kids) parent-stands (topValue kids % 8) (kid-below (s .kid) u (s .chain) kids-some) .1))
-                (child-poised t x1 x2 k (slotBy t rows) (headBy t rows (o .pick)) (cellBy t q rows (s .kid)) (z .slots) (o .given) (s .blocks) (o .going x1 x2 asks) (topValue kids)
+                (child-pend t (topParent t rows kids) (firstValue kids % 8) (parent-stands .long)
+                (child-inside t (topParent t rows kids) parent-stands (firstValue kids % 8) (kid-below (s .kid) u (s .chain) kids-some) .1))
+                (child-poised t x1 x2 k (slotBy t rows) (headBy t rows (o .pick)) (cellBy t q rows (s .kid)) (z .slots) (o .given) (s .blocks) (o .going x1 x2 asks) (firstValue kids)
                 (kid-inside (s .kid) u (s .chain) kids-some)
                 (omega (arith, more .1, cell-floor))
                 (λ j l. omega (arith, low j l, cell-floor))
@@ -221,7 +221,7 @@ module _ {t : List ℕ} {q : Query} {k room : ℕ} {base seen out : List ℕ} {r
           }
 
       module _ {seen' : List ℕ} {rows' kids' heads' : List (List ℕ)} {r : Joined} (v : KidRead t q seen seen' rows rows' kids kids' heads heads' z r) where
-        read : NodeRead t q seen seen' rows rows' (v .via) kids' heads heads' (withKids z (v .fresh .kids)) (placeOf (topSlot t rows kids)) (Child (topEntry t rows kids)) (topValue kids) r
+        read : NodeRead t q seen seen' rows rows' (v .via) kids' heads heads' (withKids z (v .fresh .kids)) (placeOf (topSlot t rows kids)) (Child (topEntry t rows kids)) (firstValue kids) r
         read =
             let y = withKids z (v .fresh .kids) in
             subst (λ (u : ℕ). NodeRead t q seen seen' rows rows' (v .via) kids' heads heads' y (placeOf (topSlot t rows kids)) (Child (topEntry t rows kids)) u r) (v .taken .up)

@@ -25,7 +25,7 @@ use Rattle.frontier.specs.Frontier.{Slot, kidCount, kidEntry, kidPart, kidCell,
 use Rattle.frontier.specs.Picks.{KidBest}
 use Rattle.frontier.proofs.Kids.{cell-says, key-cell, key-some, keys-apart}
 use Rattle.frontier.proofs.Chains.{stands-valid, child-inside}
-use Rattle.top.specs.Rows.{kidRow, topKey, topValue, cellOf, cellBy, Lowered, Kids}
+use Rattle.top.specs.Rows.{kidRow, firstKey, firstValue, cellOf, cellBy, Lowered, Kids}
 use Rattle.top.specs.Runs.{Takable}
 use Rattle.top.proofs.Heaps.{put, put-same, put-other, put-all, First, first-row, first-most}
 
@@ -95,7 +95,7 @@ module _ (t : List ℕ) (q : Query) (s : Slot) where
 
 module _ {t : List ℕ} {q : Query} {rows kids : List (List ℕ)} {m n : ℕ} (kid : ℕ → KidPick) (u : Kids t q rows kids m n kid) where
   -- no cell is above the floor
-  pub cells-low : (floor : ℕ) → floor ≡ cond (eqb m 0) 0 (topKey kids / 65536) → (c : ℕ) → c < 8 * n → cellBy t q rows kid c ≤ floor
+  pub cells-low : (floor : ℕ) → floor ≡ cond (eqb m 0) 0 (firstKey kids / 65536) → (c : ℕ) → c < 8 * n → cellBy t q rows kid c ≤ floor
   cells-low floor e c l =
       let s = c / 8 in
       let i : s < n = omega arith in
@@ -103,7 +103,7 @@ module _ {t : List ℕ} {q : Query} {rows kids : List (List ℕ)} {m n : ℕ} (k
       ⊎-elim (λ (z : kid s .key ≡ 0). omega arith)
       (λ (d : kid s .key ≡ 0 → ⊥).
       let g = first-most (λ j. ltb 0 (kid j .key)) (λ j. kid j .key) (λ j. 8 * j + kid j .at) (u .held) s i (lt-ltb 0 (kid s .key) (omega (arith, d))) in
-      let w : floor ≡ topKey kids / 65536 = e ∙ ap (λ (b : Bool). cond b 0 (topKey kids / 65536)) (ne-eqb m 0 (λ z. let y : ⊥ = omega (arith, g .0) in y)) in
+      let w : floor ≡ firstKey kids / 65536 = e ∙ ap (λ (b : Bool). cond b 0 (firstKey kids / 65536)) (ne-eqb m 0 (λ z. let y : ⊥ = omega (arith, g .0) in y)) in
       omega (arith, g .1))
       (same-or-not (kid s .key) 0)
 
@@ -120,29 +120,29 @@ module _ {t : List ℕ} {q : Query} {rows kids : List (List ℕ)} {m n : ℕ} (k
     index : kid s .at < 8
     index = u .index s (kid-row .inside)
 
-    kid-slot : topValue kids / 8 ≡ s
+    kid-slot : firstValue kids / 8 ≡ s
     kid-slot = let e = kid-row .value-is in let l = index in omega arith
 
-    kid-at : topValue kids % 8 ≡ kid s .at
+    kid-at : firstValue kids % 8 ≡ kid s .at
     kid-at = let e = kid-row .value-is in let l = index in omega arith
 
     key-some-row : 0 < kid s .key
     key-some-row = ltb-true 0 (kid s .key) (kid-row .there)
 
-    kid-key-some : 0 < topKey kids
+    kid-key-some : 0 < firstKey kids
     kid-key-some = let e = kid-row .key-is in let l = key-some-row in omega arith
 
     key-is : kid s .key ≡ kidKey t (parent .block) (parent .span) q (kid s .at)
     key-is = u .key s (kid-row .inside) key-some-row
 
     -- its cell is the floor
-    pub kid-cell : cellBy t q rows kid (topValue kids) ≡ topKey kids / 65536
+    pub kid-cell : cellBy t q rows kid (firstValue kids) ≡ firstKey kids / 65536
     kid-cell =
         let e = key-is in
         ap₂ (λ (a b : ℕ). cellOf t q (slotBy t rows a) (kid a .key) b) kid-slot kid-at ∙ cell-in t q parent (kid s .key) (kid s .at) (omega arith)
         ∙ sym (key-cell t (parent .block) (parent .span) q (kid s .at)) ∙ ap (λ (x : ℕ). x / 65536) (sym key-is ∙ sym (kid-row .key-is))
 
-    pub kid-inside : topValue kids < 8 * n
+    pub kid-inside : firstValue kids < 8 * n
     kid-inside = let e = kid-row .value-is in let l = kid-row .inside in let i = index in omega arith
 
     -- it is a child that the query admits
@@ -152,16 +152,16 @@ module _ {t : List ℕ} {q : Query} {rows kids : List (List ℕ)} {m n : ℕ} (k
         ⊎-elim (λ (z : kidCell t (parent .block) (parent .span) q (kid s .at) ≡ 0). let y : ⊥ = omega arith in absurd y) (λ w. (w .0, w .1))
         (cell-says t (parent .block) (parent .span) q (kid s .at))
 
-    pub kid-below : topValue kids % 8 < kidCount t (slotBy t rows (topValue kids / 8) .block)
+    pub kid-below : firstValue kids % 8 < kidCount t (slotBy t rows (firstValue kids / 8) .block)
     kid-below =
         let e = kid-at in
-        subst (λ (j : ℕ). topValue kids % 8 < kidCount t (slotBy t rows j .block)) (sym kid-slot) (subst (λ (i : ℕ). i < kidCount t (parent .block)) (sym e) (kid-says .0))
+        subst (λ (j : ℕ). firstValue kids % 8 < kidCount t (slotBy t rows j .block)) (sym kid-slot) (subst (λ (i : ℕ). i < kidCount t (parent .block)) (sym e) (kid-says .0))
 
-    pub kid-admitted : admits q (kidPart t (slotBy t rows (topValue kids / 8) .block) (slotBy t rows (topValue kids / 8) .span) (topValue kids % 8)) ≡ true
+    pub kid-admitted : admits q (kidPart t (slotBy t rows (firstValue kids / 8) .block) (slotBy t rows (firstValue kids / 8) .span) (firstValue kids % 8)) ≡ true
     kid-admitted =
         ap₂ (λ (a b : ℕ). admits q (kidPart t (slotBy t rows a .block) (slotBy t rows a .span) b)) kid-slot kid-at ∙ kid-says .1
 
-    pub parent-inside : topValue kids / 8 < n
+    pub parent-inside : firstValue kids / 8 < n
     parent-inside = let e = kid-slot in let l = kid-row .inside in omega arith
 
     pub takable : n ≤ 4096 → Takable t rows kids m
@@ -175,18 +175,18 @@ module _ {t : List ℕ} {q : Query} {rows kids : List (List ℕ)} {m n : ℕ} (k
           near = omega arith;
           hangs = record { n = n; inside = parent-inside; chain = chain };
           below = kid-below;
-          level = child-inside t (slotBy t rows (topValue kids / 8)) (chain .stands (topValue kids / 8) parent-inside) (topValue kids % 8) kid-below .1;
+          level = child-inside t (slotBy t rows (firstValue kids / 8)) (chain .stands (firstValue kids / 8) parent-inside) (firstValue kids % 8) kid-below .1;
         }
 
     -- ---- it is taken
 
-    module _ (next : KidPick) (b : KidBest t (slotBy t rows (topValue kids / 8) .block) (slotBy t rows (topValue kids / 8) .span) q (topKey kids - 1) next) where
+    module _ (next : KidPick) (b : KidBest t (slotBy t rows (firstValue kids / 8) .block) (slotBy t rows (firstValue kids / 8) .span) q (firstKey kids - 1) next) where
       best : KidBest t (parent .block) (parent .span) q (kid s .key - 1) next
       best =
           subst (λ (x : ℕ). KidBest t (parent .block) (parent .span) q (x - 1) next) (kid-row .key-is)
-          (subst (λ (j : ℕ). KidBest t (slotBy t rows j .block) (slotBy t rows j .span) q (topKey kids - 1) next) kid-slot b)
+          (subst (λ (j : ℕ). KidBest t (slotBy t rows j .block) (slotBy t rows j .span) q (firstKey kids - 1) next) kid-slot b)
 
-      pub taken-kids : {kids' : List (List ℕ)} {m' : ℕ} → Lowered kids m (kidRow (topValue kids / 8) next) kids' m' → Kids t q rows kids' m' n (put kid s next)
+      pub taken-kids : {kids' : List (List ℕ)} {m' : ℕ} → Lowered kids m (kidRow (firstValue kids / 8) next) kids' m' → Kids t q rows kids' m' n (put kid s next)
       taken-kids v =
           record {
             held =
@@ -203,13 +203,13 @@ module _ {t : List ℕ} {q : Query} {rows kids : List (List ℕ)} {m n : ℕ} (k
       valid : ValidBlock t (parent .block)
       valid = stands-valid (chain .stands s (kid-row .inside))
 
-      pub cell-clear : cellBy t q rows (put kid s next) (topValue kids) ≡ 0
+      pub cell-clear : cellBy t q rows (put kid s next) (firstValue kids) ≡ 0
       cell-clear =
           ap₂ (λ (a i : ℕ). cellOf t q (slotBy t rows a) (put kid s next a .key) i) kid-slot kid-at
           ∙ ap (λ (k : KidPick). cellOf t q parent (k .key) (kid s .at)) (put-same kid s next)
           ∙ cell-taken t q parent valid (chain .sized) (kid s .key) (kid s .at) key-some-row key-is next best
 
-      pub cell-same : (j : ℕ) → (j ≡ topValue kids → ⊥) → cellBy t q rows (put kid s next) j ≡ cellBy t q rows kid j
+      pub cell-same : (j : ℕ) → (j ≡ firstValue kids → ⊥) → cellBy t q rows (put kid s next) j ≡ cellBy t q rows kid j
       cell-same j d =
           let v = kid-row .value-is in
           ⊎-elim

@@ -37,7 +37,7 @@ use Rattle.frontier.proofs.Spots.{spots-small}
 use Rattle.frontier.proofs.Chains.{stands-valid}
 use Rattle.frontier.proofs.Kids.{kid-next, kid-none, cell-is, cell-past}
 use Rattle.top.specs.Reading.{flat, rev, namedUp, pendOf, childOf, seat, shownOf}
-use Rattle.top.proofs.Lefts.{ranks, ranks-distinct, ranks-keep}
+use Rattle.top.proofs.Lefts.{tops, tops-distinct, tops-keep}
 
 -- ---- named above
 
@@ -85,12 +85,12 @@ module _ (t : List ℕ) (q : Query) (s : Slot) (v : Standing t s) where
   unfolding finds
   shown-small x i = let n = storeOf t (s .block) in node-keys (keep-in (takes q (namedUp t (s .path))) (n .points ++ n .inserts) i)
 
-  pub shown-once : distinct (ranks (shownOf t q s)) ≡ true
+  pub shown-once : distinct (tops (shownOf t q s)) ≡ true
   unfolding finds names
   shown-once =
       let n = storeOf t (s .block) in
-      ranks-keep (takes q (namedUp t (s .path))) (n .points ++ n .inserts)
-      (ranks-distinct (n .points ++ n .inserts) (λ x i. node-keys i)
+      tops-keep (takes q (namedUp t (s .path))) (n .points ++ n .inserts)
+      (tops-distinct (n .points ++ n .inserts) (λ x i. node-keys i)
       (ap distinct (keys-append (n .points) (n .inserts)) ∙ distinct-left (keys (n .points) ++ keys (n .inserts)) (n .deletes) (node-facts (s .level) (v .asked) n (v .ok) .once)))
 
   few : kidCount t (s .block) ≤ 8

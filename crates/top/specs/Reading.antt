@@ -4,12 +4,12 @@ use mathlib.Core.Path.{_≡_}
 use mathlib.Core.Bool.{true, cond}
 use mathlib.Core.Logic.{_⊎_}
 use mathlib.Core.List.{List, [], _∷_, _++_, List·Memᴰ}
-use Prim.Native.Nat.{ℕ, zero, suc, _+_, _*_, _/_, _%_, _≤_, _<_}
+use Prim.Native.Nat.{ℕ, zero, suc, _+_, _*_, _/_, _%_, _<_}
 use lib.ListN.{length}
 use lib.Dec.{leb}
 use lib.IntN.{ℤ}
 use Rattle.octets.specs.Lists.{keep}
-use Rattle.spot.specs.Keys.{rankKey, rankOf}
+use Rattle.spot.specs.Keys.{topKey, rankOf}
 use Rattle.spot.specs.Query.{topQuery}
 use Rattle.spot.specs.declared.Spot.{Spot}
 use Rattle.spot.specs.declared.Query.{Query}
@@ -65,7 +65,7 @@ shownOf t q s = finds q (namedUp t (s .path)) (storeOf t (s .block))
 
 -- those left: the next and what lies below it
 abbrev pub leftOf : List Spot → Next → List Spot
-leftOf ss h = cond (h .there) (keep (λ s. leb (rankKey (s .key)) (rankKey (h .spot .key))) ss) []
+leftOf ss h = cond (h .there) (keep (λ s. leb (topKey (s .key)) (topKey (h .spot .key))) ss) []
 
 unfoldable pub lefts : List ℕ → Query → (ℕ → Slot) → (ℕ → Next) → ℕ → List Spot
 lefts t q slot head s = leftOf (shownOf t q (slot s)) (head s)
@@ -90,9 +90,3 @@ pub record Going (t : List ℕ) (x1 x2 : ℤ) (k : ℕ) (slot : ℕ → Slot) (h
   pub known : Known t (topQuery x1 x2 0) slot head cell n
   pub progress : Progress t x1 x2 k (unreadOf t slot cell n) (foundOf t (topQuery x1 x2 0) slot head n) given blocks
   pub count : length blocks ≡ n
-
--- h is the highest of the spots under the rank key r, if there is one
-pub record Under (r : ℕ) (ss : List Spot) (h : Next) : Type 0 where
-  pub held : h .there ≡ true → List·Memᴰ (h .spot) ss × (rankKey (h .spot .key) < r)
-  pub some : (s : Spot) → List·Memᴰ s ss → rankKey (s .key) < r → h .there ≡ true
-  pub over : (s : Spot) → List·Memᴰ s ss → rankKey (s .key) < r → rankKey (s .key) ≤ rankKey (h .spot .key)

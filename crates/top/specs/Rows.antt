@@ -6,41 +6,47 @@ use mathlib.Core.List.{List, [], _∷_}
 use Prim.Native.Nat.{ℕ, _+_, _*_, _/_, _%_, _≤_, _<_}
 use lib.ListN.{getD}
 use lib.Dec.{leb, ltb}
-use Rattle.spot.specs.Keys.{rankKey}
-use Rattle.spot.specs.declared.Spot.{Spot}
+use Rattle.spot.specs.Keys.{topKey}
 use Rattle.spot.specs.declared.Query.{Query}
-use Rattle.block.specs.Node.{storeOf}
-use Rattle.tree.specs.Walk.{finds}
-use Rattle.visit.specs.Visit.{waitingAbove}
 use Rattle.heap.specs.Heaps.{Heap}
 use Rattle.heap.specs.Held.{Held}
 use Rattle.frontier.specs.declared.Pick.{Pick}
 use Rattle.frontier.specs.declared.KidPick.{KidPick}
 use Rattle.frontier.specs.Frontier.{Slot, kidCell, kidKey, slotBy}
-use Rattle.frontier.specs.Picks.{Next, spotCount, spotBy, nextOf}
-use Rattle.top.specs.Reading.{Under}
+use Rattle.frontier.specs.Picks.{Next, spotCount, nextOf, Laddered}
 
 -- ---- rows
 
--- the row of slot s, whose best spot is p; a slot without one has none
+-- the row of slot s, whose best spot is p: its top key, and its index with the slot and the next ones' indices; a slot without one has none
 abbrev pub pickRow : ℕ → Pick → List ℕ
-pickRow s p = cond (p .there) (p .rank ∷ (128 * s + p .at) ∷ []) []
+pickRow s p = cond (p .there) (p .key ∷ (p .at + 128 * (s + 4096 * p .more)) ∷ []) []
 
 -- the row of slot s, whose best unread child is k
 abbrev pub kidRow : ℕ → KidPick → List ℕ
 kidRow s k = cond (ltb 0 (k .key)) (k .key ∷ (8 * s + k .at) ∷ []) []
 
 -- the key and the value of a heap's first row
-abbrev pub topKey : List (List ℕ) → ℕ
-topKey h = getD (getD h 0 []) 0 0
+abbrev pub firstKey : List (List ℕ) → ℕ
+firstKey h = getD (getD h 0 []) 0 0
 
-abbrev pub topValue : List (List ℕ) → ℕ
-topValue h = getD (getD h 0 []) 1 0
+abbrev pub firstValue : List (List ℕ) → ℕ
+firstValue h = getD (getD h 0 []) 1 0
+
+-- the index, the slot and the next ones' indices in the first row of the heap of spots
+abbrev pub leadAt : List (List ℕ) → ℕ
+leadAt h = firstValue h % 128
+
+abbrev pub leadSlot : List (List ℕ) → ℕ
+leadSlot h = firstValue h / 128 % 4096
+
+abbrev pub leadMore : List (List ℕ) → ℕ
+leadMore h = firstValue h / 524288
 
 -- slot s and its best spot have a row
 pub record Seated (s : ℕ) (p : Pick) : Type 0 where
   pub few : s < 4096
   pub low : p .there ≡ true → p .at < 128
+  pub small : p .there ≡ true → p .more < 8796093022208
 
 -- ---- the heaps
 
@@ -56,25 +62,16 @@ pub record Lowered (h : List (List ℕ)) (m : ℕ) (x : List ℕ) (h' : List (Li
 
 -- ---- spots
 
--- the spots that a query finds in a slot's node, by what waits above it
-abbrev pub foundIn : List ℕ → Query → Slot → List Spot
-foundIn t q s = finds q (waitingAbove t (s .path)) (storeOf t (s .block))
-
 -- the best spot left of each slot
 abbrev pub headBy : List ℕ → List (List ℕ) → (ℕ → Pick) → ℕ → Next
 headBy t rows pick s = nextOf t (slotBy t rows s .block) (pick s)
 
--- p is the best of these spots of the node at b under the rank key r, by its index
-pub record PickedUnder (t : List ℕ) (b r : ℕ) (ss : List Spot) (p : Pick) : Type 0 where
-  pub index : p .there ≡ true → p .at < spotCount t b
-  pub rank : p .there ≡ true → p .rank ≡ rankKey (spotBy t b (p .at) .key)
-  pub under : Under r ss (nextOf t b p)
-
--- m rows have the best spots of n slots
-pub record Heads (t : List ℕ) (rows heads : List (List ℕ)) (m n : ℕ) (pick : ℕ → Pick) : Type 0 where
+-- m rows have the best spots of n slots, with the next ones wanted
+pub record Heads (t : List ℕ) (q : Query) (rows heads : List (List ℕ)) (m n : ℕ) (pick : ℕ → Pick) : Type 0 where
   pub held : Held heads m (λ s. pickRow s (pick s)) n
   pub index : (s : ℕ) → s < n → pick s .there ≡ true → pick s .at < spotCount t (slotBy t rows s .block)
-  pub rank : (s : ℕ) → s < n → pick s .there ≡ true → pick s .rank ≡ rankKey (headBy t rows pick s .spot .key)
+  pub key : (s : ℕ) → s < n → pick s .there ≡ true → pick s .key ≡ topKey (headBy t rows pick s .spot .key)
+  pub more : (s : ℕ) → s < n → pick s .there ≡ true → Laddered t (slotBy t rows s .block) q (pick s .key) (pick s .more)
 
 -- ---- children
 

@@ -9,6 +9,7 @@ use lib.ListN.{length, take, drop, getD, set, replicate}
 use lib.IntN.{ℤ}
 use Rattle.octets.specs.Bitmap.{bit, setBit}
 use Rattle.octets.specs.Lists.{has}
+use Rattle.spot.specs.Keys.{allKeys}
 use Rattle.spot.specs.Spots.{spotsBytes}
 use Rattle.spot.specs.Query.{topQuery}
 use Rattle.spot.specs.declared.Spot.{Spot}
@@ -28,7 +29,7 @@ use Rattle.frontier.specs.declared.Pick.{Pick}
 use Rattle.frontier.specs.declared.KidPick.{KidPick}
 use Rattle.frontier.specs.declared.Place.{Place}
 use Rattle.frontier.specs.Frontier.{Slot, kidCount, kidEntry, placeOf, childSlot, blockBy, slotBy, Chain, Hangs}
-use Rattle.frontier.specs.Picks.{spotCount, Picked, KidBest}
+use Rattle.frontier.specs.Picks.{spotCount, foundIn, Laddered, PickedUnder, KidBest}
 use Rattle.top.specs.declared.Sizes.{Sizes}
 use Rattle.top.specs.declared.Joined.{Joined}
 use Rattle.top.specs.declared.Fresh.{Fresh}
@@ -36,7 +37,7 @@ use Rattle.top.specs.declared.Given.{Given}
 use Rattle.top.specs.declared.Search.{Search}
 use Rattle.top.specs.declared.TopTally.{TopTally}
 use Rattle.top.specs.Reading.{Going}
-use Rattle.top.specs.Rows.{pickRow, kidRow, topKey, topValue, foundIn, headBy, cellBy, Hung, Lowered, PickedUnder, Heads, Kids}
+use Rattle.top.specs.Rows.{pickRow, kidRow, firstKey, firstValue, leadAt, leadSlot, leadMore, headBy, cellBy, Hung, Lowered, Heads, Kids}
 
 -- ---- a node is read
 
@@ -58,7 +59,7 @@ pub record Added (t : List ℕ) (q : Query) (rows rows' kids kids' heads heads' 
   pub slots : z' .slots ≡ z .slots + 1
   pub rowed : rows' ≡ set rows (z .slots) (p .block ∷ up ∷ [])
   pub pick : Pick
-  pub picked : Picked t (slotBy t rows' (z .slots) .block) 18446744073709551615 (foundIn t q (slotBy t rows' (z .slots))) pick
+  pub picked : PickedUnder t (slotBy t rows' (z .slots) .block) q allKeys (foundIn t q (slotBy t rows' (z .slots))) pick
   pub headed : Hung heads (z .heads) (pickRow (z .slots) pick) heads' (z' .heads)
   pub kid : KidPick
   pub best : KidBest t (p .block) (p .span) q 18446744073709551615 kid
@@ -83,33 +84,33 @@ pub record NodeRead (t : List ℕ) (q : Query) (seen seen' : List ℕ) (rows row
 
 -- the slot whose child has the highest key, and the child's slot
 abbrev pub topParent : List ℕ → List (List ℕ) → List (List ℕ) → Slot
-topParent t rows kids = slotBy t rows (topValue kids / 8)
+topParent t rows kids = slotBy t rows (firstValue kids / 8)
 
 abbrev pub topSlot : List ℕ → List (List ℕ) → List (List ℕ) → Slot
-topSlot t rows kids = childSlot t (topParent t rows kids) (topValue kids % 8)
+topSlot t rows kids = childSlot t (topParent t rows kids) (firstValue kids % 8)
 
 abbrev pub topEntry : List ℕ → List (List ℕ) → List (List ℕ) → Entry
-topEntry t rows kids = kidEntry t (topParent t rows kids .block) (topValue kids % 8)
+topEntry t rows kids = kidEntry t (topParent t rows kids .block) (firstValue kids % 8)
 
 -- the first row is that of a slot's child
 pub record Takable (t : List ℕ) (rows kids : List (List ℕ)) (m : ℕ) : Type 0 where
   pub some : 0 < m
   pub room : m ≤ length kids
   pub heap : Heap m kids
-  pub key : 0 < topKey kids
-  pub near : topValue kids < 32768
-  pub hangs : Hangs t rows (topValue kids / 8)
-  pub below : topValue kids % 8 < kidCount t (topParent t rows kids .block)
+  pub key : 0 < firstKey kids
+  pub near : firstValue kids < 32768
+  pub hangs : Hangs t rows (firstValue kids / 8)
+  pub below : firstValue kids % 8 < kidCount t (topParent t rows kids .block)
   pub level : 1 ≤ topParent t rows kids .level
 
 -- it is taken, and the next of its parent's comes in
 pub record Taken (t : List ℕ) (q : Query) (rows kids kids' : List (List ℕ)) (m : ℕ) (r : Fresh) : Type 0 where
   pub place : r .place ≡ placeOf (topSlot t rows kids)
   pub entry : r .entry ≡ topEntry t rows kids
-  pub up : r .up ≡ topValue kids
+  pub up : r .up ≡ firstValue kids
   pub next : KidPick
-  pub best : KidBest t (topParent t rows kids .block) (topParent t rows kids .span) q (topKey kids - 1) next
-  pub lowered : Lowered kids m (kidRow (topValue kids / 8) next) kids' (r .kids)
+  pub best : KidBest t (topParent t rows kids .block) (topParent t rows kids .span) q (firstKey kids - 1) next
+  pub lowered : Lowered kids m (kidRow (firstValue kids / 8) next) kids' (r .kids)
 
 -- the sizes with other numbers of children, or of spots
 abbrev pub withKids : Sizes → ℕ → Sizes
@@ -141,27 +142,27 @@ written room given base = spotsBytes (take room given) ++ drop (12 * length (tak
 -- the first row is that of a slot's spot
 pub record Leads (t : List ℕ) (rows heads : List (List ℕ)) : Type 0 where
   pub some : 0 < length heads
-  pub slot : topValue heads / 128 < length rows
-  pub valid : ValidBlock t (blockBy rows (topValue heads / 128))
-  pub index : topValue heads % 128 < spotCount t (blockBy rows (topValue heads / 128))
+  pub slot : leadSlot heads < length rows
+  pub valid : ValidBlock t (blockBy rows (leadSlot heads))
+  pub index : leadAt heads < spotCount t (blockBy rows (leadSlot heads))
 
-pub record Movable (t : List ℕ) (rows heads : List (List ℕ)) (m : ℕ) : Type 0 where
+pub record Movable (t : List ℕ) (q : Query) (rows heads : List (List ℕ)) (m : ℕ) : Type 0 where
   pub some : 0 < m
   pub room : m ≤ length heads
   pub heap : Heap m heads
-  pub near : topValue heads / 128 < 4096
-  pub hangs : Hangs t rows (topValue heads / 128)
+  pub hangs : Hangs t rows (leadSlot heads)
+  pub more : Laddered t (slotBy t rows (leadSlot heads) .block) q (firstKey heads) (leadMore heads)
 
--- the next spot of its slot, the best under its rank key, takes its place
+-- the next spot of its slot, the best under its top key, takes its place
 pub record Moved (t : List ℕ) (q : Query) (rows heads heads' : List (List ℕ)) (m r : ℕ) : Type 0 where
   pub next : Pick
-  pub under : PickedUnder t (slotBy t rows (topValue heads / 128) .block) (topKey heads) (foundIn t q (slotBy t rows (topValue heads / 128))) next
-  pub lowered : Lowered heads m (pickRow (topValue heads / 128) next) heads' r
+  pub under : PickedUnder t (slotBy t rows (leadSlot heads) .block) q (firstKey heads) (foundIn t q (slotBy t rows (leadSlot heads))) next
+  pub lowered : Lowered heads m (pickRow (leadSlot heads) next) heads' r
 
 -- Top on its way, with these spots given and written, of which there are `count`
 pub record Sofar (t : List ℕ) (q : Query) (k room : ℕ) (rows heads : List (List ℕ)) (m n : ℕ) (cell : ℕ → ℕ) (base out blocks : List ℕ) (count : ℕ) : Type 0 where
   pub pick : ℕ → Pick
-  pub headed : Heads t rows heads m n pick
+  pub headed : Heads t q rows heads m n pick
   pub given : List Spot
   pub going : (x1 x2 : ℤ) → q ≡ topQuery x1 x2 0 → Going t x1 x2 k (slotBy t rows) (headBy t rows pick) cell n given blocks
   pub counted : count ≡ length given
@@ -188,7 +189,7 @@ pub record Givable (t : List ℕ) (q : Query) (k room : ℕ) (rows heads : List 
 -- the spots above the floor are given, or k
 pub record Gave (t : List ℕ) (q : Query) (k room : ℕ) (rows heads heads' : List (List ℕ)) (m floor : ℕ) (out out' : List ℕ) (count : ℕ) (r : Given) : Type 0 where
   pub passes : Passes t q k room rows heads heads' m (r .heads) floor out out' count (r .spots)
-  pub ends : (k ≤ r .spots) ⊎ ((r .heads ≡ 0) ⊎ (topKey heads' / 4294967296 < floor))
+  pub ends : (k ≤ r .spots) ⊎ ((r .heads ≡ 0) ⊎ (firstKey heads' / 4294967296 < floor))
 
 -- ---- the whole of it
 

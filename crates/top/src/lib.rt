@@ -1,15 +1,15 @@
 // Top: reads best first, and gives the highest spots, the highest first.
 ghost use mathlib.Core.Path.{_≡_};
-ghost use mathlib.Core.Bool.{true, false, cond};
-ghost use mathlib.Core.List.{[], _∷_};
-ghost use Prim.Native.Nat.{_+_, _*_, _/_, _%_, _≤_, _<_};
+ghost use mathlib.Core.Bool.{false, cond};
+ghost use mathlib.Core.List.{[]};
+ghost use Prim.Native.Nat.{_*_, _/_, _≤_, _<_};
 ghost use lib.Dec.{eqb, ltb};
-ghost use lib.ListN.{length, getD};
+ghost use lib.ListN.{length};
 ghost use Rattle.spot.specs.Spots.{putSpot};
 ghost use Rattle.heap.specs.Heaps.{Heap};
-ghost use Rattle.frontier.specs.Frontier.{blockBy, slotBy, Hangs};
+ghost use Rattle.frontier.specs.Frontier.{blockBy};
 ghost use Rattle.frontier.specs.Picks.{spotBy};
-ghost use Rattle.top.specs.Rows.{pickRow, topKey, topValue, foundIn, Seated, Hung, Lowered, PickedUnder};
+ghost use Rattle.top.specs.Rows.{pickRow, firstKey, leadAt, leadSlot, Seated, Hung, Lowered};
 ghost use Rattle.top.specs.Runs.{Joinable, Added, Readable, NodeRead, Takable, Taken, NextKid, KidRead, Leads, Movable, Moved, Givable, Gave, Sweepable, Searchable, Searched, Runnable, TopRun, TopFront};
 
 // How many slots there are, and how many rows in the heaps of children and of spots.
@@ -60,7 +60,7 @@ fn head_row(s: usize, p: frontier::Pick) -> [u64; 2]
     if !p.there {
         return [0, 0];
     }
-    [p.rank, (128 * s + p.at) as u64]
+    [p.key, p.at as u64 + 128 * (s as u64 + 4096 * p.more)]
 }
 
 // A slot more in a heap of m rows: its row x comes in, if it has one.
@@ -104,7 +104,7 @@ fn join(
 {
     let n = z.slots;
     rows[n] = [place.block as u16, up as u16];
-    let best = frontier::best_below(t, rows, n, q, 18446744073709551615);
+    let best = frontier::first_pick(t, rows, n, q);
     let head = head_row(n, best);
     let spots = hang(heads, z.heads, best.there, head);
     let kid = frontier::best_kid(t, place.block, place.span, q, 18446744073709551615);
@@ -216,37 +216,30 @@ fn read_kid(
 // The spot at the head of the heap of spots.
 fn lead(t: &[u8], rows: &[[u16; 2]], heads: &[[u64; 2]]) -> spot::Spot
     requires { ⌜ Leads (now t) (now rows) (now heads) ⌝ }
-    ensures { λ r. ⌜ r ≡ spotBy (now (t .entry)) (blockBy (now (rows .entry)) (topValue (now (heads .entry)) / 128)) (topValue (now (heads .entry)) % 128) ⌝ }
+    ensures { λ r. ⌜ r ≡ spotBy (now (t .entry)) (blockBy (now (rows .entry)) (leadSlot (now (heads .entry)))) (leadAt (now (heads .entry))) ⌝ }
 {
     let row = heads[0];
     let v = row[1] as usize;
-    let slot = rows[v / 128];
+    let slot = rows[v / 128 % 4096];
     frontier::spot_by(t, slot[0] as usize, v % 128)
 }
 
-// The best spot of slot i under the rank key r.
-fn next_below(t: &[u8], rows: &[[u16; 2]], i: usize, q: spot::Query, r: u64) -> frontier::Pick
-    requires { ⌜ Hangs (now t) (now rows) i ⌝ }
-    ensures { λ p. ⌜ PickedUnder (now (t .entry)) (slotBy (now (t .entry)) (now (rows .entry)) i .block) r (foundIn (now (t .entry)) q (slotBy (now (t .entry)) (now (rows .entry)) i)) p ⌝ }
-{
-    if r == 0 {
-        return frontier::Pick {
-            there: false,
-            rank: 0,
-            at: 0,
-        };
-    }
-    frontier::best_below(t, rows, i, q, r - 1)
-}
-
-// The first spot is given: the next one of its slot takes its place, if there is one.
-fn move_on(t: &[u8], rows: &[[u16; 2]], heads: &mut [[u64; 2]], m: usize, q: spot::Query) -> usize
-    requires { ⌜ Movable (now t) (now rows) (now heads) m ⌝ }
+// The first spot is given: the next one of its slot takes its place, if there is one. At most `left` more are asked for.
+fn move_on(
+    t: &[u8],
+    rows: &[[u16; 2]],
+    heads: &mut [[u64; 2]],
+    m: usize,
+    q: spot::Query,
+    left: usize,
+) -> usize
+    requires { ⌜ Movable (now t) q (now rows) (now heads) m ⌝ }
     ensures { λ r. ⌜ Moved (now (t .entry)) q (now (rows .entry)) (now (heads .entry)) (now (heads .exit)) m r ⌝ }
 {
     let row = heads[0];
-    let s = row[1] as usize / 128;
-    let next = next_below(t, rows, s, q, row[0]);
+    let v = row[1];
+    let s = (v / 128 % 4096) as usize;
+    let next = frontier::next_pick(t, rows, s, q, row[0], v / 524288, left);
     let head = head_row(s, next);
     lower(heads, m, next.there, head)
 }
@@ -289,7 +282,7 @@ fn give_above(
         }
         let s = lead(t, rows, heads);
         put_out(out, j, room, s);
-        left = move_on(t, rows, heads, left, q);
+        left = move_on(t, rows, heads, left, q, k - j - 1);
         j += 1;
     }
     Given {
@@ -301,7 +294,7 @@ fn give_above(
 // One more than the highest rank that an unread child promises, 0 where there is none.
 fn floor_of(kids: &[[u64; 2]], m: usize) -> u64
     requires { ⌜ m ≤ length (now kids) ⌝ }
-    ensures { λ r. ⌜ r ≡ cond (eqb m 0) 0 (topKey (now (kids .entry)) / 65536) ⌝ }
+    ensures { λ r. ⌜ r ≡ cond (eqb m 0) 0 (firstKey (now (kids .entry)) / 65536) ⌝ }
 {
     if m == 0 {
         return 0;
@@ -433,7 +426,28 @@ fn wide_run(
     }
 }
 
-// The same, tried with few slots first, which are soon cleared and are enough for most.
+// The search with few slots, which are soon cleared; for many spots of more than 128 blocks it is short at once, since they are seldom enough.
+fn narrow_run(
+    t: &[u8],
+    seen: &mut [u8],
+    q: spot::Query,
+    k: usize,
+    out: &mut [u8],
+    room: usize,
+) -> Search
+    requires { ⌜ Runnable (now t) q (now seen) (now out) k room ⌝ }
+    ensures { λ r. ⌜ Searched (now (t .entry)) q k room 128 (now (out .entry)) (now (seen .exit)) (now (out .exit)) r ⌝ }
+{
+    if (513 < k) & (262144 < t.len()) {
+        return stops(true);
+    }
+    let mut rows = [[0u16; 2]; 128];
+    let mut kids = [[0u64; 2]; 128];
+    let mut heads = [[0u64; 2]; 128];
+    look(t, seen, q, k, out, room, &mut rows, &mut kids, &mut heads)
+}
+
+// The same, tried with few slots first, which are enough for most.
 pub fn top_run(
     t: &[u8],
     seen: &mut [u8],
@@ -445,10 +459,7 @@ pub fn top_run(
     requires { ⌜ Runnable (now t) q (now seen) (now out) k room ⌝ }
     ensures { λ r. ⌜ TopFront (now (t .entry)) q k room (now (out .entry)) (now (seen .exit)) (now (out .exit)) r ⌝ }
 {
-    let mut rows = [[0u16; 2]; 128];
-    let mut kids = [[0u64; 2]; 128];
-    let mut heads = [[0u64; 2]; 128];
-    let some = look(t, seen, q, k, out, room, &mut rows, &mut kids, &mut heads);
+    let some = narrow_run(t, seen, q, k, out, room);
     if !some.short {
         return TopTally {
             ok: some.ok,

@@ -17,7 +17,7 @@ use Rattle.octets.proofs.UpTo.{largest-hit, largest-le, largest-above}
 use Rattle.spot.specs.declared.Spot.{Spot}
 use Rattle.spot.specs.Keys.{word, allKeys, rankOf}
 use Rattle.spot.specs.Query.{topQuery}
-use Rattle.spot.proofs.Ranks.{rk, ofRank}
+use Rattle.spot.proofs.Ranks.{tk, ofRank}
 use Rattle.block.specs.Node.{Store, storeOf}
 use Rattle.tree.specs.Walk.{spots, takes, takesKey, finds, walkTable}
 use Rattle.tree.specs.Top.{enough, threshold, topWalk}
@@ -115,10 +115,10 @@ pub at-most : (y : ℕ) (ss : List Spot) → sum (counted (ofRank y) one) ss ≤
 at-most y ss = omega (arith, sum-le (counted (ofRank y) one) one ss (λ s i. counted-le (ofRank y) one s), sum-length ss)
 
 -- the last of a list that descends is no higher than the others
-pub descends-last : (xs : List Spot) (s : Spot) → Descends (xs ++ (s ∷ [])) → (x : Spot) → List·Memᴰ x (xs ++ (s ∷ [])) → rk s ≤ rk x
-descends-last [] s d x i = ⊎-elim (λ (e : x ≡ s). omega (arith, ap rk e)) (λ j. absurd (List·Memᴰ·not-nil j)) (List·Memᴰ·cases-cons i)
+pub descends-last : (xs : List Spot) (s : Spot) → Descends (xs ++ (s ∷ [])) → (x : Spot) → List·Memᴰ x (xs ++ (s ∷ [])) → tk s ≤ tk x
+descends-last [] s d x i = ⊎-elim (λ (e : x ≡ s). omega (arith, ap tk e)) (λ j. absurd (List·Memᴰ·not-nil j)) (List·Memᴰ·cases-cons i)
 descends-last (y ∷ ys) s d x i =
-    ⊎-elim (λ (e : x ≡ y). let z = d .0 s (mem-here ys s []) in omega (arith, ap rk e)) (λ j. descends-last ys s (d .1) x j) (List·Memᴰ·cases-cons i)
+    ⊎-elim (λ (e : x ≡ y). let z = d .0 s (mem-here ys s []) in omega (arith, ap tk e)) (λ j. descends-last ys s (d .1) x j) (List·Memᴰ·cases-cons i)
 
 -- ---- the walks at least ranks that no unread part promises
 

@@ -18,9 +18,10 @@ use Rattle.spot.specs.declared.Spot.{Spot}
 use Rattle.spot.specs.declared.Query.{Query}
 use Rattle.spot.specs.Keys.{word, allKeys, rankKey, rankOf}
 use Rattle.spot.specs.Spots.{keyAt, keys}
-use Rattle.spot.specs.Query.{topQuery, meets, wants}
+use Rattle.spot.specs.Query.{topQuery, fromOf, lastOf, meets, wants}
 use Rattle.spot.proofs.Card.{keyAt-lt}
 use Rattle.spot.proofs.Halves.{rank-of-low}
+use Rattle.spot.proofs.Places.{top-least}
 use Rattle.spot.proofs.Buffers.{keys-mem, spots-small}
 use Rattle.spot.proofs.Ranks.{ofRank, wants-high}
 use Rattle.block.specs.declared.Entry.{Entry}
@@ -52,9 +53,9 @@ due y u = leb y (promised u)
 
 module _ (x1 x2 : ℤ) (y : ℕ) where
   topped-rank : y ≤ word → (a : Asked) → topped (topQuery x1 x2 y) a ≡ topped (topQuery x1 x2 0) a && leb y (promise a)
-  unfolding topped topQuery all
+  unfolding topped all
   topped-rank h (Root b) = sym (le-leb y word h)
-  topped-rank h (Child e) = rw (le-leb 0 (rankOf (e .top)) (omega arith)) (go (not (eqb (e .size) 0)) (leb y (rankOf (e .top))))
+  topped-rank h (Child e) = rw (top-least x1 x2 y, top-least x1 x2 0, le-leb 0 (rankOf (e .top)) (omega arith)) (go (not (eqb (e .size) 0)) (leb y (rankOf (e .top))))
     where
       go : (a b : Bool) → a && (b && true) ≡ (a && (true && true)) && b
       go true true = refl
@@ -62,7 +63,7 @@ module _ (x1 x2 : ℤ) (y : ℕ) where
       go false b = refl
 
   admits-rank : y ≤ word → (c : Part) → admits (topQuery x1 x2 y) c ≡ admits (topQuery x1 x2 0) c && leb y (promise (c .asked))
-  unfolding admits all topQuery meets
+  unfolding admits all topQuery meets fromOf lastOf
   admits-rank h c = rw (topped-rank h (c .asked)) (go (topped (topQuery x1 x2 0) (c .asked)) (leb y (promise (c .asked))) (meets (topQuery x1 x2 0) (c .lo) (c .hi)))
     where
       go : (a b d : Bool) → (a && b) && (d && true) ≡ (a && (d && true)) && b

@@ -15,9 +15,10 @@ use Rattle.octets.proofs.Lists.{mem-here, mem-more, mem-three}
 use Rattle.octets.proofs.Order.{less-or-not}
 use Rattle.octets.proofs.Sets.{distinct-cons, not-has-mem}
 use Rattle.spot.specs.declared.Spot.{Spot}
-use Rattle.spot.specs.Keys.{word, rankKey, rankOf}
+use Rattle.spot.specs.Keys.{word, rankOf, topKey}
 use Rattle.spot.specs.Query.{topQuery}
-use Rattle.spot.proofs.Ranks.{rk}
+use Rattle.spot.proofs.TopKeys.{top-rank}
+use Rattle.spot.proofs.Ranks.{tk}
 use Rattle.block.specs.Header.{headOf}
 use Rattle.block.specs.HeaderRules.{headerOk}
 use Rattle.block.specs.Node.{storeOf}
@@ -35,9 +36,9 @@ use Rattle.tree.proofs.BestFirstParts.{due, admitted-rank, Fit, opened-
 abbrev pub NoneRanks : ℕ → List Spot → Type 0
 NoneRanks r ss = (s : Spot) → List·Memᴰ s ss → rankOf (s .key) ≤ r
 
--- rank keys compare ranks first
-none-ranks : (k r : ℕ) (ss : List Spot) → NoneAbove (rankKey k) ss → rankOf k ≤ r → NoneRanks r ss
-none-ranks k r ss h l s i = let z = h s i in omega arith
+-- top keys compare ranks first
+none-ranks : (k r : ℕ) (ss : List Spot) → NoneAbove (topKey k) ss → rankOf k ≤ r → NoneRanks r ss
+none-ranks k r ss h l s i = let z = h s i in omega (arith, top-rank k, top-rank (s .key))
 
 abbrev pub numbers : List Pending → List ℕ
 numbers [] = []
@@ -69,7 +70,7 @@ pub record Progress (t : List ℕ) (x1 x2 : ℤ) (k : ℕ) (unread : List Pendin
   pub behind : (r : Pending) → List·Memᴰ r read → NonePromises (promised r) unread
   pub ranked : (r : Pending) → List·Memᴰ r read → NoneRanks (promised r) found
   pub falls : Descends given
-  pub lower : (s : Spot) → List·Memᴰ s given → NoneAbove (rk s) found
+  pub lower : (s : Spot) → List·Memᴰ s given → NoneAbove (tk s) found
   pub ahead : (s : Spot) → List·Memᴰ s given → (u : Pending) → List·Memᴰ u unread → promised u < rankOf (s .key)
   pub few : length given ≤ k
   pub places : (b : ℕ) → List·Memᴰ b blocks → InTable t b
@@ -189,7 +190,7 @@ module _ (t : List ℕ) (x1 x2 : ℤ) (k : ℕ) (us : List Pending) (p : Pending
         falls = g .falls;
         lower =
             λ s i x j.
-            ⊎-elim (λ h. let y = own x h in let z = g .ahead s i p (mem-here us p vs) in omega arith) (λ h. g .lower s i x h)
+            ⊎-elim (λ h. let y = own x h in let z = g .ahead s i p (mem-here us p vs) in omega (arith, top-rank (x .key), top-rank (s .key))) (λ h. g .lower s i x h)
             (List·Memᴰ·append-cases (shown m q p) j);
         ahead =
             λ s i u j.
@@ -202,7 +203,7 @@ module _ (t : List ℕ) (x1 x2 : ℤ) (k : ℕ) (us : List Pending) (p : Pending
 
 -- ---- a spot is given
 
-module _ (t : List ℕ) (x1 x2 : ℤ) (k : ℕ) (unread : List Pending) (us : List Spot) (s : Spot) (vs : List Spot) (given : List Spot) (blocks : List ℕ) (g : Progress t x1 x2 k unread (us ++ (s ∷ vs)) given blocks) (top : NoneAbove (rankKey (s .key)) (us ++ vs)) (under : (u : Pending) → List·Memᴰ u unread → promised u < rankOf (s .key)) (room : length given < k) where
+module _ (t : List ℕ) (x1 x2 : ℤ) (k : ℕ) (unread : List Pending) (us : List Spot) (s : Spot) (vs : List Spot) (given : List Spot) (blocks : List ℕ) (g : Progress t x1 x2 k unread (us ++ (s ∷ vs)) given blocks) (top : NoneAbove (tk s) (us ++ vs)) (under : (u : Pending) → List·Memᴰ u unread → promised u < rankOf (s .key)) (room : length given < k) where
   -- the highest of the spots found is given: it moves from one sum to the other, and none found or unread is above it
   pub give : Progress t x1 x2 k unread (us ++ vs) (given ++ (s ∷ [])) blocks
   give =
@@ -222,11 +223,11 @@ module _ (t : List ℕ) (x1 x2 : ℤ) (k : ℕ) (unread : List Pending) (us : Li
         falls =
             descends-join given (s ∷ []) (g .falls) (λ x i. absurd (List·Memᴰ·not-nil i), tt)
             (λ x i y j.
-            ⊎-elim (λ (d : y ≡ s). let z = g .lower x i s here in omega (arith, ap rk d)) (λ h. absurd (List·Memᴰ·not-nil h)) (List·Memᴰ·cases-cons j));
+            ⊎-elim (λ (d : y ≡ s). let z = g .lower x i s here in omega (arith, ap tk d)) (λ h. absurd (List·Memᴰ·not-nil h)) (List·Memᴰ·cases-cons j));
         lower =
             λ x i y j.
             ⊎-elim (λ h. g .lower x h y (mem-more us s vs j))
-            (λ h. ⊎-elim (λ (d : x ≡ s). let z = top y j in omega (arith, ap rk d)) (λ n. absurd (List·Memᴰ·not-nil n)) (List·Memᴰ·cases-cons h))
+            (λ h. ⊎-elim (λ (d : x ≡ s). let z = top y j in omega (arith, ap tk d)) (λ n. absurd (List·Memᴰ·not-nil n)) (List·Memᴰ·cases-cons h))
             (List·Memᴰ·append-cases given i);
         ahead =
             λ x i u j.

@@ -20,9 +20,10 @@ use Rattle.octets.proofs.Tests.{bool-ext, keep-in}
 use Rattle.octets.proofs.Sets.{has-mem, mem-has}
 use Rattle.spot.specs.declared.Spot.{Spot}
 use Rattle.spot.specs.Keys.{word, rankOf}
-use Rattle.spot.specs.Spots.{keys, byRank}
+use Rattle.spot.specs.Spots.{keys, byTop}
 use Rattle.spot.specs.Query.{topQuery}
-use Rattle.spot.proofs.Ranks.{ofRank, byRank-from, byRank-in}
+use Rattle.spot.proofs.TopKeys.{top-rank}
+use Rattle.spot.proofs.Ranks.{ofRank, byTop-from, byTop-in}
 use Rattle.block.specs.Table.{mapBytes}
 use Rattle.block.specs.Header.{headOf}
 use Rattle.block.specs.HeaderRules.{headerOk}
@@ -34,7 +35,7 @@ use Rattle.tree.specs.Top.{enough, threshold, topWalk, topTable}
 use Rattle.tree.specs.BestFirst.{Pending, promised, NonePromises}
 use Rattle.tree.proofs.Sources.{Source}
 use Rattle.tree.proofs.BestFirstSums.{sum, Same, counted, one, counted-yes, counted-no, sum-append, sum-same, sum-mem, sum-length, sum-keep, mark, mark-self, mark-mem, mem-mark, same-length}
-use Rattle.tree.proofs.BestFirstSpots.{sum-byRank, same-spot, Descends, rank-descends, descends-join, Sharp, descends-same, rising-sharp}
+use Rattle.tree.proofs.BestFirstSpots.{sum-byTop, same-spot, Descends, top-descends, descends-join, Sharp, descends-same, rising-sharp}
 use Rattle.tree.proofs.BestFirstTree.{weighs, weigh-first, atNode, onBlock, faultAt, fault, rootOf, Whole, walk-faulty, walk-twice}
 use Rattle.tree.proofs.BestFirstParts.{due, rank-word}
 use Rattle.tree.proofs.BestFirstSteps.{NoneRanks, Last, Progress}
@@ -168,38 +169,38 @@ module _ (t : List ℕ) (x1 x2 : ℤ) (k : ℕ) (unread : List Pending) (found g
 
     -- what is given, and after it what is found of that rank
     ranking : List Spot
-    ranking = given ++ byRank (keep (ofRank y) found)
+    ranking = given ++ byTop (keep (ofRank y) found)
 
-    ranking-same : Same ranking (byRank (whole .found))
+    ranking-same : Same ranking (byTop (whole .found))
     unfolding ranking
     ranking-same f =
         omega (
           arith,
-          sum-append f given (byRank (keep (ofRank y) found)),
-          sum-byRank f (keep (ofRank y) found),
+          sum-append f given (byTop (keep (ofRank y) found)),
+          sum-byTop f (keep (ofRank y) found),
           sum-keep (ofRank y) f found,
-          sum-byRank f (whole .found),
+          sum-byTop f (whole .found),
           spot-sums f,
         )
 
     ranking-falls : Descends ranking
     unfolding ranking
     ranking-falls =
-        descends-join given (byRank (keep (ofRank y) found)) (g .falls) (rank-descends (keep (ofRank y) found))
-        (λ x i s j. g .lower x i s (keep-in (ofRank y) found (byRank-from (keep (ofRank y) found) j)))
+        descends-join given (byTop (keep (ofRank y) found)) (g .falls) (top-descends (keep (ofRank y) found))
+        (λ x i s j. g .lower x i s (keep-in (ofRank y) found (byTop-from (keep (ofRank y) found) j)))
 
     -- every spot of the walk is found or given
-    walk-from : (s : Spot) → List·Memᴰ s (byRank (whole .found)) → List·Memᴰ s found ⊎ List·Memᴰ s given
+    walk-from : (s : Spot) → List·Memᴰ s (byTop (whole .found)) → List·Memᴰ s found ⊎ List·Memᴰ s given
     unfolding ranking
     walk-from s i =
-        ⊎-elim (λ j. inr j) (λ j. inl (keep-in (ofRank y) found (byRank-from (keep (ofRank y) found) j)))
-        (List·Memᴰ·append-cases given (same-spot (byRank (whole .found)) ranking (λ f. sym (ranking-same f)) i))
+        ⊎-elim (λ j. inr j) (λ j. inl (keep-in (ofRank y) found (byTop-from (keep (ofRank y) found) j)))
+        (List·Memᴰ·append-cases given (same-spot (byTop (whole .found)) ranking (λ f. sym (ranking-same f)) i))
 
-    sharp : rising (keys (whole .found)) ≡ true → Sharp (byRank (whole .found))
+    sharp : rising (keys (whole .found)) ≡ true → Sharp (byTop (whole .found))
     sharp h s u i j =
-        rising-sharp 0 (whole .found) h (λ x n. small t x1 x2 k unread found given blocks g x (walk-from x (byRank-in (whole .found) n))) s u
-        (byRank-from (whole .found) i)
-        (byRank-from (whole .found) j)
+        rising-sharp 0 (whole .found) h (λ x n. small t x1 x2 k unread found given blocks g x (walk-from x (byTop-in (whole .found) n))) s u
+        (byTop-from (whole .found) i)
+        (byTop-from (whole .found) j)
 
     first : take k ranking ≡ given
     unfolding ranking
@@ -207,21 +208,21 @@ module _ (t : List ℕ) (x1 x2 : ℤ) (k : ℕ) (unread : List Pending) (found g
         ⊎-elim
         (λ (h : k ≤ length given).
         let e : k ≡ length given = omega (arith, g .few) in
-        ap (λ (n : ℕ). take n (given ++ byRank (keep (ofRank y) found))) e ∙ take-append-seam given (byRank (keep (ofRank y) found)))
+        ap (λ (n : ℕ). take n (given ++ byTop (keep (ofRank y) found))) e ∙ take-append-seam given (byTop (keep (ofRank y) found)))
         (λ (h : found ≡ []).
-        ap (λ (ss : List Spot). take k (given ++ byRank (keep (ofRank y) ss))) h ∙ ap (take k) (append-nil given) ∙ take-all k given (g .few))
+        ap (λ (ss : List Spot). take k (given ++ byTop (keep (ofRank y) ss))) h ∙ ap (take k) (append-nil given) ∙ take-all k given (g .few))
         (a .full)
 
-    best-same : rising (keys (whole .found)) ≡ true → given ≡ take k (byRank (whole .found))
+    best-same : rising (keys (whole .found)) ≡ true → given ≡ take k (byTop (whole .found))
     best-same h =
         sym first ∙
-        ap (take k) (descends-same ranking (byRank (whole .found)) ranking-falls (rank-descends (whole .found)) ranking-same (sharp h))
+        ap (take k) (descends-same ranking (byTop (whole .found)) ranking-falls (top-descends (whole .found)) ranking-same (sharp h))
 
-    best-many : length given ≡ length (take k (byRank (whole .found)))
+    best-many : length given ≡ length (take k (byTop (whole .found)))
     best-many =
         ap length (sym first) ∙ length-take k ranking ∙
-        ap (λ (n : ℕ). min k n) (same-length ranking (byRank (whole .found)) ranking-same) ∙
-        sym (length-take k (byRank (whole .found)))
+        ap (λ (n : ℕ). min k n) (same-length ranking (byTop (whole .found)) ranking-same) ∙
+        sym (length-take k (byTop (whole .found)))
 
     done-at : Done t x1 x2 k given blocks
     unfolding topTable
@@ -247,7 +248,7 @@ module _ (t : List ℕ) (x1 x2 : ℤ) (k : ℕ) (unread : List Pending) (found g
       let ranks : (s : Spot) → List·Memᴰ s given → y ≤ rankOf (s .key) =
       λ s i.
       let z = descends-last (r .before) (r .spot) (subst Descends (r .is) (g .falls)) s (subst (λ (ss : List Spot). List·Memᴰ s ss) (r .is) i) in
-      omega arith in
+      omega (arith, top-rank (r .spot .key), top-rank (s .key)) in
       let many : k ≤ sum (counted (ofRank y) one) given = omega (arith, all-of y one given ranks, sum-length given) in
       record {
         inside = omega arith;

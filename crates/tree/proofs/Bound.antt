@@ -20,7 +20,7 @@ use Rattle.octets.proofs.Once.{Once, fewer, once-append, once-distinct}
 use Rattle.spot.specs.Spots.{keys, find}
 use Rattle.spot.specs.Keys.{rankKey, rankOf, allKeys, within}
 use Rattle.spot.specs.declared.Query.{Query}
-use Rattle.spot.specs.Query.{wantsKey, meets}
+use Rattle.spot.specs.Query.{leastOf, wantsKey, meets}
 use Rattle.spot.proofs.Canon.{find-only}
 use Rattle.spot.proofs.Buffers.{keys-length}
 use Rattle.spot.proofs.Places.{within-yes, within-high, within-from, within-to, cuts, cuts-join, cuts-small, meets-at, meets-some, uncut, wants-yes}
@@ -179,7 +179,7 @@ few-children l m p s = node-facts l (p .asked) (m (p .block)) (all-at _ s 0) .en
 -- what an admitted child shows of its parent
 record Inner (q : Query) (p : Part) (n : Node) : Type 0 where
   full : filled n ≡ true
-  high : (k : ℕ) → List·Memᴰ k (keys (n .points)) → q .least ≤ rankOf k
+  high : (k : ℕ) → List·Memᴰ k (keys (n .points)) → leastOf q ≤ rankOf k
   met : meets q (p .lo) (p .hi) ≡ true
 
 -- a point lies above the tops of the children

@@ -35,3 +35,4 @@ pub mod BestFirst
 pub mod TopMarks
 pub mod Ways
 pub mod Converse
+pub mod TopCounts

@@ -17,7 +17,7 @@ use Rattle.spot.specs.declared.Spot.{Spot}
 use Rattle.spot.specs.Spots.{keys, find, putAll}
 use Rattle.spot.specs.Keys.{rankKey, rankOf, within}
 use Rattle.spot.specs.declared.Query.{Query}
-use Rattle.spot.specs.Query.{wantsKey}
+use Rattle.spot.specs.Query.{leastOf, wantsKey}
 use Rattle.spot.proofs.Canon.{cond-none, find-only}
 use Rattle.spot.proofs.Places.{within-yes, within-low, within-high, within-from, within-to, meets-at, wants-placed, wants-rank}
 use Rattle.spot.proofs.Buffers.{keys-append, keep-distinct, putAll-rises}
@@ -50,13 +50,13 @@ pub topped-size : (q : Query) (e : Entry) → topped q (Child e) ≡ true → e 
 unfolding topped
 topped-size q e h = eqb-false (e .size) 0 (not-true (eqb (e .size) 0) (all-at _ h 0))
 
-pub topped-rank : (q : Query) (e : Entry) → topped q (Child e) ≡ true → q .least ≤ rankOf (e .top)
+pub topped-rank : (q : Query) (e : Entry) → topped q (Child e) ≡ true → leastOf q ≤ rankOf (e .top)
 unfolding topped
-topped-rank q e h = leb-true (q .least) (rankOf (e .top)) (all-at _ h 1)
+topped-rank q e h = leb-true (leastOf q) (rankOf (e .top)) (all-at _ h 1)
 
-pub topped-made : (q : Query) (e : Entry) → (e .size ≡ 0 → ⊥) → q .least ≤ rankOf (e .top) → topped q (Child e) ≡ true
+pub topped-made : (q : Query) (e : Entry) → (e .size ≡ 0 → ⊥) → leastOf q ≤ rankOf (e .top) → topped q (Child e) ≡ true
 unfolding topped
-topped-made q e z h = all-cons _ _ (ap not (ne-eqb (e .size) 0 z)) (all-cons _ _ (le-leb (q .least) (rankOf (e .top)) h) all-nil)
+topped-made q e z h = all-cons _ _ (ap not (ne-eqb (e .size) 0 z)) (all-cons _ _ (le-leb (leastOf q) (rankOf (e .top)) h) all-nil)
 
 -- one that leads to a wanted key is such
 tall : (q : Query) (e : Entry) (k : ℕ) → (e .size ≡ 0 → ⊥) → rankKey k ≤ rankKey (e .top) → wantsKey q k ≡ true → topped q (Child e) ≡ true

@@ -6,7 +6,7 @@ use mathlib.Core.Bool.{true, false}
 use mathlib.Core.List.{List, List·Memᴰ}
 use Rattle.octets.specs.Lists.{isEmpty, maximum}
 use Rattle.spot.specs.Keys.{word, within}
-use Rattle.spot.specs.Query.{placed}
+use Rattle.spot.specs.Query.{leastOf, placed}
 use Rattle.spot.specs.declared.Query.{Query}
 use Rattle.block.specs.Header.{headOf}
 use Rattle.block.specs.Node.{Store, storeOf}
@@ -16,7 +16,7 @@ use Rattle.tree.specs.Part.{Part, whole, children}
 -- what a child shows that is read: points, one of them high enough, and an identity of the places asked for
 pub record KeyShows (m : Store) (q : Query) (c : Part) : Type 0 where
   pub held : isEmpty (m (c .block) .points) ≡ false
-  pub high : q .least ≤ maximum (rankKeys (m (c .block))) / word
+  pub high : leastOf q ≤ maximum (rankKeys (m (c .block))) / word
   pub meets : (k : ℕ) × (within (c .lo) (c .hi) k ≡ true) × (placed q k ≡ true)
 
 -- a part that is read: the whole, or such a child of one

@@ -19,11 +19,11 @@ use Rattle.octets.proofs.Extremes.{maximum-ge, maximum-mem}
 use Rattle.spot.specs.declared.Spot.{Spot}
 use Rattle.spot.specs.Keys.{word, allKeys, signed32, biased, key, placeOf, rankIn, rankKey, rankOf, within}
 use Rattle.spot.specs.Spots.{keys}
-use Rattle.spot.specs.Query.{query, topQuery, placed, wantsKey}
+use Rattle.spot.specs.Query.{query, topQuery, fromOf, lastOf, leastOf, placed, wantsKey}
 use Rattle.spot.proofs.Signed.{Fits, signed-fits, fits-signed, biased-lt, biased-unbiased, leZ-biased}
 use Rattle.spot.proofs.Halves.{pair-small, rank-of-low}
 use Rattle.spot.proofs.Orders.{place-fits, rank-fits, key-of-parts, top-wants}
-use Rattle.spot.proofs.Places.{placed-to}
+use Rattle.spot.proofs.Places.{placed-to, top-least}
 use Rattle.spot.proofs.Buffers.{keys-mem, keys-from, spots-small}
 use Rattle.block.specs.Table.{version1, block}
 use Rattle.block.specs.Node.{Node, pointsFrom, storeOf, nodeOf, nodeFrom}
@@ -75,14 +75,14 @@ rank-words y f k h = leZ-biased y (rankIn k) f (rank-fits k) ∙ ap (leb (biased
 
 module _ (x1 x2 y : ℤ) (f1 : Fits x1) (f2 : Fits x2) (fy : Fits y) where
   place-words : (p r : ℤ) → Fits p → Fits r → leZ x1 p && leZ p x2 ≡ placed (query x1 x2 y) (key p r)
-  unfolding wantsKey topQuery query placed all
+  unfolding wantsKey topQuery query placed all fromOf lastOf
   place-words p r fp fr =
-      top-wants p r x1 x2 fp fr f1 f2 ∙ ap (λ (b : Bool). placed (query x1 x2 y) (key p r) && (b && true)) (le-leb 0 (rankOf (key p r)) (omega arith)) ∙
+      top-wants p r x1 x2 fp fr f1 f2 ∙ ap (λ (b : Bool). placed (query x1 x2 y) (key p r) && (b && true)) (le-leb (leastOf (topQuery x1 x2 0)) (rankOf (key p r)) (omega (arith, top-least x1 x2 0))) ∙
       and-true (placed (query x1 x2 y) (key p r))
 
   -- a key with a place of the query has 64 bits
   placed-small : (k : ℕ) → placed (query x1 x2 y) k ≡ true → k < allKeys
-  unfolding query
+  unfolding query lastOf
   placed-small k h = let e = pair-small (biased x2) 4294967295 (biased-lt x2 f2) (omega arith) in omega (arith, placed-to (query x1 x2 y) k h)
 
   holds-words : (lo hi k : ℕ) → within lo hi k ≡ true → placed (query x1 x2 y) k ≡ true → HoldsPlace x1 x2 lo hi
@@ -108,9 +108,9 @@ module _ (x1 x2 y : ℤ) (f1 : Fits x1) (f2 : Fits x2) (fy : Fits y) where
   )
 
   high-words : (n : Node) → Small n → isEmpty (n .points) ≡ false
-      → query x1 x2 y .least ≤ maximum (rankKeys n) / word
+      → leastOf (query x1 x2 y) ≤ maximum (rankKeys n) / word
       → HighEnough y n
-  unfolding query
+  unfolding query leastOf
   high-words n small held high =
       let s = highest n held in
       record {
@@ -120,8 +120,8 @@ module _ (x1 x2 y : ℤ) (f1 : Fits x1) (f2 : Fits x2) (fy : Fits y) where
         ranked = rank-words y fy (s .0 .key) (small (s .0) (s .1)) ∙ le-leb (biased y) (rankOf (s .0 .key)) (rw (s .2) at high);
       }
 
-  words-high : (n : Node) → Small n → HighEnough y n → query x1 x2 y .least ≤ maximum (rankKeys n) / word
-  unfolding query
+  words-high : (n : Node) → Small n → HighEnough y n → leastOf (query x1 x2 y) ≤ maximum (rankKeys n) / word
+  unfolding query leastOf
   words-high n small h =
       let a : biased y ≤ rankKey (h .spot .key) / word = leb-true (biased y) (rankOf (h .spot .key)) (sym (rank-words y fy (h .spot .key) (small (h .spot) (h .held))) ∙ h .ranked) in
       omega (arith, below-highest n (h .held))

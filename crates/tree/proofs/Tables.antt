@@ -17,7 +17,7 @@ use Rattle.spot.specs.Keys.{rankOf, allKeys, within}
 use Rattle.spot.specs.declared.Query.{Query}
 use Rattle.spot.specs.Query.{wants, wantsKey, placed, everything}
 use Rattle.spot.proofs.Canon.{canon, cond-none, find-only, keep-rises}
-use Rattle.spot.proofs.Places.{everything-placed}
+use Rattle.spot.proofs.Places.{all-least, everything-placed}
 use Rattle.block.specs.Header.{headOf}
 use Rattle.block.specs.Node.{storeOf}
 use Rattle.block.specs.HeaderRules.{headerOk}
@@ -102,7 +102,7 @@ module _ (t : List ℕ) (g : Shaped t) where
 
   everything-wants : (k : ℕ) → cond (wantsKey everything k) (live t k) none ≡ live t k
   unfolding wantsKey all
-  everything-wants k = go (within 0 allKeys k) refl
+  everything-wants k = rw all-least (go (within 0 allKeys k) refl)
     where
       go : (w : Bool) → within 0 allKeys k ≡ w → cond (placed everything k && (leb 0 (rankOf k) && true)) (live t k) none ≡ live t k
       go true w = rw (everything-placed k w, le-leb 0 (rankOf k) (omega arith))

@@ -14,9 +14,10 @@ use Rattle.octets.proofs.Order.{less-or-not}
 use Rattle.octets.proofs.UpTo.{largest-above}
 use Rattle.spot.specs.declared.Spot.{Spot}
 use Rattle.spot.specs.Keys.{rankOf, word}
-use Rattle.spot.specs.Spots.{byRank}
+use Rattle.spot.specs.Spots.{byTop}
 use Rattle.spot.specs.Query.{topQuery, wants}
-use Rattle.spot.proofs.Ranks.{rk, Falls, rank-falls, rank-keep, rank-length, byRank-from, ofRank}
+use Rattle.spot.proofs.TopKeys.{top-rank}
+use Rattle.spot.proofs.Ranks.{tk, Falls, top-falls, top-keep, top-length, byTop-from, ofRank}
 use Rattle.tree.specs.Walk.{walkTable, blocksRead, spots, liveSpots}
 use Rattle.tree.specs.Top.{threshold, topWalk, topTable, enough}
 use Rattle.tree.specs.Sound.{sound}
@@ -27,21 +28,21 @@ use Rattle.tree.proofs.Sources.{table-source}
 use Rattle.tree.proofs.BestFirstParts.{rank-word, held-small}
 
 -- the last of a falling list is its lowest
-falls-last : (a : ℕ) (us : List Spot) (x : Spot) → Falls a (us ++ (x ∷ [])) → rk x ≤ a
+falls-last : (a : ℕ) (us : List Spot) (x : Spot) → Falls a (us ++ (x ∷ [])) → tk x ≤ a
 falls-last a [] x f = f .0
-falls-last a (u ∷ us) x f = let z = falls-last (rk u) us x (f .1) in omega (arith, f .0, z)
+falls-last a (u ∷ us) x f = let z = falls-last (tk u) us x (f .1) in omega (arith, f .0, z)
 
 falls-take : (a n : ℕ) (xs : List Spot) → Falls a xs → Falls a (take n xs)
 falls-take a zero xs f = tt
 falls-take a (suc n) [] f = tt
-falls-take a (suc n) (x ∷ xs) f = (f .0, falls-take (rk x) n xs (f .1))
+falls-take a (suc n) (x ∷ xs) f = (f .0, falls-take (tk x) n xs (f .1))
 
 -- so all have its rank at least
 all-high : (a : ℕ) (us : List Spot) (x : Spot) → Falls a (us ++ (x ∷ [])) → length (keep (ofRank (rankOf (x .key))) (us ++ (x ∷ []))) ≡ suc (length us)
 all-high a [] x f = rw (le-leb (rankOf (x .key)) (rankOf (x .key)) (omega arith))
 all-high a (u ∷ us) x f =
-    let z = falls-last (rk u) us x (f .1) in
-    rw (le-leb (rankOf (x .key)) (rankOf (u .key)) (omega (arith, z))) (ap suc (all-high (rk u) us x (f .1)))
+    let z = falls-last (tk u) us x (f .1) in
+    rw (le-leb (rankOf (x .key)) (rankOf (u .key)) (omega (arith, z, top-rank (x .key), top-rank (u .key)))) (ap suc (all-high (tk u) us x (f .1)))
 
 keep-take : (f : Spot → Bool) (n : ℕ) (xs : List Spot) → length (keep f (take n xs)) ≤ length (keep f xs)
 keep-take f zero xs = omega arith
@@ -54,7 +55,7 @@ keep-take f (suc n) (x ∷ xs) = go (f x) (keep-take f n xs)
 
 module _ (t : List ℕ) (s : sound t ≡ true) (x1 x2 : ℤ) where
   -- what is given are the highest of all that are wanted
-  given-are : (k : ℕ) (us : List Spot) (x : Spot) → spots (topTable t x1 x2 (suc k)) ≡ us ++ (x ∷ []) → take (suc k) (byRank (keep (wants (topQuery x1 x2 0)) (liveSpots t))) ≡ us ++ (x ∷ [])
+  given-are : (k : ℕ) (us : List Spot) (x : Spot) → spots (topTable t x1 x2 (suc k)) ≡ us ++ (x ∷ []) → take (suc k) (byTop (keep (wants (topQuery x1 x2 0)) (liveSpots t))) ≡ us ++ (x ∷ [])
   given-are k us x e = sym (ap spots (top-finds t s x1 x2 (suc k) .1)) ∙ e
 
   -- its keys stand on the table, so its ranks have 32 bits
@@ -62,8 +63,8 @@ module _ (t : List ℕ) (s : sound t ≡ true) (x1 x2 : ℤ) where
   given-rank k us x e =
       let q = topQuery x1 x2 0 in
       let ss = keep (wants q) (liveSpots t) in
-      let first : List·Memᴰ x (take (suc k) (byRank ss)) = subst (List·Memᴰ x) (sym (given-are k us x e)) (Memᴰ·append-right us (List·Memᴰ·head refl)) in
-      let all : List·Memᴰ x ss = byRank-from ss (subst (List·Memᴰ x) (take-append-drop (suc k) (byRank ss)) (Memᴰ·append-left (drop (suc k) (byRank ss)) first)) in
+      let first : List·Memᴰ x (take (suc k) (byTop ss)) = subst (List·Memᴰ x) (sym (given-are k us x e)) (Memᴰ·append-right us (List·Memᴰ·head refl)) in
+      let all : List·Memᴰ x ss = byTop-from ss (subst (List·Memᴰ x) (take-append-drop (suc k) (byTop ss)) (Memᴰ·append-left (drop (suc k) (byTop ss)) first)) in
       let r = table-source t q x (subst (List·Memᴰ x) (sym (ap spots (report-finds t s q .1))) all) in
       rank-word (x .key) (held-small t (r .block) (r .held))
 
@@ -71,15 +72,15 @@ module _ (t : List ℕ) (s : sound t ≡ true) (x1 x2 : ℤ) where
   finds-given : (k : ℕ) (us : List Spot) (x : Spot) → spots (topTable t x1 x2 (suc k)) ≡ us ++ (x ∷ []) → length us ≡ k → suc k ≤ length (ranked t s x1 x2 (rankOf (x .key)))
   unfolding ranked
   finds-given k us x e n =
-      let L = byRank (keep (wants (topQuery x1 x2 0)) (liveSpots t)) in
+      let L = byTop (keep (wants (topQuery x1 x2 0)) (liveSpots t)) in
       let y = rankOf (x .key) in
       let same : take (suc k) L ≡ us ++ (x ∷ []) = given-are k us x e in
-      let fall = falls-take (rank-falls (keep (wants (topQuery x1 x2 0)) (liveSpots t)) .0) (suc k) L (rank-falls (keep (wants (topQuery x1 x2 0)) (liveSpots t)) .1) in
+      let fall = falls-take (top-falls (keep (wants (topQuery x1 x2 0)) (liveSpots t)) .0) (suc k) L (top-falls (keep (wants (topQuery x1 x2 0)) (liveSpots t)) .1) in
       let high = all-high _ us x (subst (Falls _) same fall) in
       let few = keep-take (ofRank y) (suc k) L in
       let made : length (keep (ofRank y) (take (suc k) L)) ≡ suc (length us) = ap (λ (l : List Spot). length (keep (ofRank y) l)) same ∙ high in
       let turn : length (keep (ofRank y) L) ≡ length (keep (wants (topQuery x1 x2 y)) (liveSpots t)) =
-      ap length (sym (rank-keep (ofRank y) (keep (wants (topQuery x1 x2 0)) (liveSpots t)))) ∙ rank-length (keep (ofRank y) (keep (wants (topQuery x1 x2 0)) (liveSpots t))) ∙
+      ap length (sym (top-keep (ofRank y) (keep (wants (topQuery x1 x2 0)) (liveSpots t)))) ∙ top-length (keep (ofRank y) (keep (wants (topQuery x1 x2 0)) (liveSpots t))) ∙
       sym (ap length (ranked-high t s x1 x2 y)) in
       omega (arith, few, made, turn, n)
 

@@ -15,8 +15,8 @@ use Rattle.octets.proofs.Tests.{all-at, all-cons, all-nil, keep-mem, keep-there
 use Rattle.octets.proofs.UpTo.{largest-same}
 use Rattle.spot.specs.Keys.{rankOf, word}
 use Rattle.spot.specs.declared.Query.{Query}
-use Rattle.spot.specs.Query.{topQuery}
-use Rattle.spot.proofs.Places.{meets-same}
+use Rattle.spot.specs.Query.{topQuery, fromOf, lastOf, leastOf}
+use Rattle.spot.proofs.Places.{meets-same, top-from, top-last, top-least}
 use Rattle.block.specs.Node.{Store, storeOf}
 use Rattle.block.specs.Table.{block}
 use Rattle.block.specs.Header.{headOf}
@@ -39,12 +39,19 @@ use Rattle.tree.proofs.Tables.{report-finds}
 
 -- a query that asks for a higher rank, of the same places
 abbrev Higher : Query → Query → Type 0
-Higher r q = (r .from ≡ q .from) × (r .last ≡ q .last) × (q .least ≤ r .least)
+Higher r q = (fromOf r ≡ fromOf q) × (lastOf r ≡ lastOf q) × (leastOf q ≤ leastOf r)
+
+higher : (x1 x2 : ℤ) (y z : ℕ) → y ≤ z → Higher (topQuery x1 x2 z) (topQuery x1 x2 y)
+higher x1 x2 y z h = (
+  top-from x1 x2 z ∙ sym (top-from x1 x2 y),
+  top-last x1 x2 z ∙ sym (top-last x1 x2 y),
+  omega (arith, top-least x1 x2 y, top-least x1 x2 z),
+)
 
 topped-less : (r q : Query) → Higher r q → (a : Asked) → topped r a ≡ true → topped q a ≡ true
 unfolding topped
 topped-less r q h (Root b) e = refl
-topped-less r q h (Child e) t = all-cons _ _ (all-at _ t 0) (all-cons _ _ (le-leb (q .least) (rankOf (e .top)) (omega (arith, h .2, leb-true (r .least) (rankOf (e .top)) (all-at _ t 1)))) all-nil)
+topped-less r q h (Child e) t = all-cons _ _ (all-at _ t 0) (all-cons _ _ (le-leb (leastOf q) (rankOf (e .top)) (omega (arith, h .2, leb-true (leastOf r) (rankOf (e .top)) (all-at _ t 1)))) all-nil)
 
 admits-less : (r q : Query) → Higher r q → (c : Part) → admits r c ≡ true → admits q c ≡ true
 unfolding admits
@@ -75,10 +82,10 @@ module _ (t : List ℕ) (s : sound t ≡ true) (x1 x2 : ℤ) where
 
   -- a higher rank reads no other blocks
   pub W-sub : (y z : ℕ) → y ≤ z → (b : ℕ) → List·Memᴰ b (blocksRead (W z)) → List·Memᴰ b (blocksRead (W y))
-  unfolding W topQuery
+  unfolding W
   W-sub y z h b k =
       rw (table-reads t s (topQuery x1 x2 y))
-      (onto-mem _ (visits-less (headOf t .levels) (storeOf t) (topQuery x1 x2 z) (topQuery x1 x2 y) (refl, refl, h) (whole (headOf t)) (mem-onto _ (rw (table-reads t s (topQuery x1 x2 z)) at k))))
+      (onto-mem _ (visits-less (headOf t .levels) (storeOf t) (topQuery x1 x2 z) (topQuery x1 x2 y) (higher x1 x2 y z h) (whole (headOf t)) (mem-onto _ (rw (table-reads t s (topQuery x1 x2 z)) at k))))
 
   -- the best spots of a walk are chosen from what it found: the blocks read stay
   pub best-blocks : (k : ℕ) (w : Walk) → blocksRead (best k w) ≡ blocksRead w

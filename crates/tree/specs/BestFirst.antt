@@ -4,7 +4,7 @@
 use Prim.Native.Nat.{ℕ, _≤_}
 use mathlib.Core.List.{List, [], _∷_, _++_, List·Memᴰ}
 use Rattle.octets.specs.Lists.{keep}
-use Rattle.spot.specs.Keys.{word, rankKey, rankOf}
+use Rattle.spot.specs.Keys.{word, rankOf, topKey}
 use Rattle.spot.specs.declared.Spot.{Spot}
 use Rattle.spot.specs.declared.Query.{Query}
 use Rattle.block.specs.declared.Asked.{Asked}
@@ -45,6 +45,6 @@ shown m q p = finds q (p .named) (m (p .part .block))
 abbrev pub NonePromises : ℕ → List Pending → Type 0
 NonePromises r ps = (p : Pending) → List·Memᴰ p ps → promised p ≤ r
 
--- no spot is higher in rank order than the rank key r
+-- no spot has a higher top key than r
 abbrev pub NoneAbove : ℕ → List Spot → Type 0
-NoneAbove r ss = (s : Spot) → List·Memᴰ s ss → rankKey (s .key) ≤ r
+NoneAbove r ss = (s : Spot) → List·Memᴰ s ss → topKey (s .key) ≤ r

@@ -8,11 +8,11 @@ use lib.Dec.{leb}
 use lib.IntN.{ℤ}
 use Rattle.octets.specs.Lists.{largest}
 use Rattle.spot.specs.Keys.{word}
-use Rattle.spot.specs.Spots.{byRank}
+use Rattle.spot.specs.Spots.{byTop}
 use Rattle.spot.specs.Query.{topQuery}
 use Rattle.block.specs.Header.{headOf}
 use Rattle.block.specs.HeaderRules.{headerOk}
-use Rattle.tree.specs.Walk.{Walk, broken, walked, walkTable}
+use Rattle.tree.specs.Walk.{Walk, broken, walked, mapSpots, walkTable}
 
 -- a walk that finds enough, or can't be whole
 abbrev pub enough : ℕ → Walk → Bool
@@ -28,9 +28,9 @@ unfoldable pub topWalk : List ℕ → ℤ → ℤ → ℕ → Walk
 topWalk t x1 x2 zero = cond (headerOk (length t) (headOf t)) (walked [] []) broken
 topWalk t x1 x2 (suc k) = walkTable t (topQuery x1 x2 (threshold t x1 x2 (suc k)))
 
+-- of the spots of a walk the first k in the order of Top's answers
 abbrev pub best : ℕ → Walk → Walk
-best k broken = broken
-best k (walked found blocks) = walked (take k (byRank found)) blocks
+best k w = mapSpots (λ found. take k (byTop found)) w
 
 -- "gives, of the live spots with x1 ≤ place ≤ x2, the k highest in rank order (all, if fewer), highest first"
 unfoldable pub topTable : List ℕ → ℤ → ℤ → ℕ → Walk

@@ -9,7 +9,7 @@ use lib.Dec.{leb, eqb}
 use Rattle.octets.specs.Lists.{all, keep, has, distinct}
 use Rattle.spot.specs.Keys.{rankOf}
 use Rattle.spot.specs.Spots.{putAll}
-use Rattle.spot.specs.Query.{meets, wantsKey, everything}
+use Rattle.spot.specs.Query.{leastOf, meets, wantsKey, everything}
 use Rattle.spot.specs.declared.Spot.{Spot}
 use Rattle.spot.specs.declared.Query.{Query}
 use Rattle.block.specs.declared.Asked.{Asked}
@@ -23,7 +23,7 @@ use Rattle.tree.specs.Part.{Part, whole, children}
 -- the size and the highest identity of P that lead to a part
 unfoldable pub topped : Query → Asked → Bool
 topped q (Root b) = true
-topped q (Child e) = all (not (eqb (e .size) 0) ∷ leb (q .least) (rankOf (e .top)) ∷ [])
+topped q (Child e) = all (not (eqb (e .size) 0) ∷ leb (leastOf q) (rankOf (e .top)) ∷ [])
 
 -- "those children of nodes read where P isn't empty, the highest identity of P has a rank of at least y, and the range holds an identity with a place
 -- of the report"
@@ -34,6 +34,11 @@ admits q p = all (topped q (p .asked) ∷ meets q (p .lo) (p .hi) ∷ [])
 pub data Walk : Type 0 where
   broken : Walk
   walked : List Spot → List ℕ → Walk
+
+-- a walk with its spots in another order, or some of them alone: what is read stays
+abbrev pub mapSpots : (List Spot → List Spot) → Walk → Walk
+mapSpots f broken = broken
+mapSpots f (walked found blocks) = walked (f found) blocks
 
 -- a spot that is wanted, and that no node above names
 unfoldable pub takesKey : Query → List ℕ → ℕ → Bool

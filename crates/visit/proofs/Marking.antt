@@ -11,18 +11,19 @@ use native.Mathlib.Omega.{arith}
 use lib.Dec.{eqb, leb}
 use lib.ListN.{length, take, getD, set, replicate, length-append, length-set, length-replicate, getD-replicate, List·getD-eq-default}
 use lib.Seq.{take-suc, take-all, getD-set-same, getD-set-other, getD-take}
-use borrow.Author.Tests.{ne-eqb, eqb-true, leb-true, le-leb, lt-leb}
+use borrow.Author.Tests.{ne-eqb, eqb-true, leb-true, lt-leb}
 use Rattle.octets.specs.Lists.{has, keep, records, rising}
 use Rattle.octets.proofs.Order.{same-or-not, less-or-not}
 use Rattle.octets.proofs.Records.{left, left-cons, length-records, records-at, records-append, records-more}
 use Rattle.octets.proofs.Rising.{rising-rest, rising-make, rising-least, rising-right}
 use Rattle.octets.proofs.Sets.{has-append, has-not}
-use Rattle.octets.proofs.Tests.{keep-append, and-left, and-right, and-both}
+use Rattle.octets.proofs.Tests.{keep-append, and-left, and-right}
 use Rattle.spot.specs.Spots.{keyAt, spotAt}
 use Rattle.spot.specs.Keys.{rankOf}
-use Rattle.spot.specs.Query.{placed, wantsKey}
+use Rattle.spot.specs.Query.{everything, fromOf, lastOf, leastOf, placed, wantsKey}
 use Rattle.spot.specs.declared.Spot.{Spot}
 use Rattle.spot.specs.declared.Query.{Query}
+use Rattle.spot.proofs.Places.{placed-yes, wants-yes}
 use Rattle.block.specs.Node.{storeOf}
 use Rattle.block.proofs.Shut.{all2}
 use Rattle.tree.specs.Walk.{takes, takesKey}
@@ -50,14 +51,14 @@ module _ (t : List ℕ) (at : ℕ) (q : Query) where
             (less-or-not 64 i);
       }
 
-  pub wanted-more : {m : List Bool} {b : Bool} {k : ℕ} (i : ℕ) → Wanted t at i q m → i < 64 → k ≡ keyAt t (at + 12 * i) → b ≡ wantsKey q k
+  pub wanted-more : {m : List Bool} {b : Bool} (i : ℕ) → Wanted t at i q m → i < 64 → b ≡ wantsKey q (keyAt t (at + 12 * i))
       → Wanted t at (i + 1) q (set m i b)
-  wanted-more {m} {b} {k} i v l e g =
+  wanted-more {m} {b} i v l g =
       record {
         sized = length-set m i b ∙ v .sized;
         takes = λ j h.
             ⊎-elim (λ (s : j ≡ i). ap (λ (y : ℕ). getD (set m i b) y false) s ∙ getD-set-same m i b false (omega (arith, v .sized)) ∙ g
-            ∙ ap (wantsKey q) e ∙ sym (ap (λ (y : ℕ). wantsKey q (keyAt t (at + 12 * y))) s))
+            ∙ sym (ap (λ (y : ℕ). wantsKey q (keyAt t (at + 12 * y))) s))
             (λ (d : j ≡ i → ⊥). getD-set-other m i j b false d ∙ v .takes j (omega arith))
             (same-or-not j i);
         rest = λ j h. getD-set-other m i j b false (λ s. omega arith) ∙ v .rest j (omega arith);
@@ -67,7 +68,7 @@ module _ (t : List ℕ) (at : ℕ) (q : Query) where
 
 pub first-none : FirstMarks 0 (replicate 64 false)
 first-none =
-    let none = wanted-none [] 0 (record { from = 0; last = 0; least = 0 }) in
+    let none = wanted-none [] 0 everything in
     record {
       sized = none .sized;
       first = λ i h. absurd (let z : ⊥ = omega arith in z);
@@ -89,51 +90,50 @@ pub first-wanted : {t : List ℕ} {at n : ℕ} {q : Query} {m : List Bool} → F
 first-wanted v w = record { sized = v .sized; takes = λ i h. v .first i h ∙ sym (w i h); rest = v .rest }
 
 -- keys that rise from one of the query's places to another
-pub all-wanted : (t : List ℕ) (at n : ℕ) (q : Query) {lo hi : ℕ} → 0 < n → rising (keysFrom t 12 n at) ≡ true → lo ≡ keyAt t at → hi ≡ keyAt t (at + 12 * (n - 1))
-    → (eqb (q .least) 0 && leb (q .from) lo) && leb hi (q .last) ≡ true → AllWanted t at n q
-unfolding wantsKey placed
-all-wanted t at n q {lo} {hi} some p e g h i l =
+pub all-wanted : (t : List ℕ) (at n : ℕ) (q : Query) {lo hi least from last : ℕ} → 0 < n → rising (keysFrom t 12 n at) ≡ true → lo ≡ keyAt t at
+    → hi ≡ keyAt t (at + 12 * (n - 1)) → least ≡ leastOf q → from ≡ fromOf q → last ≡ lastOf q
+    → (eqb least 0 && leb from lo) && leb hi last ≡ true → AllWanted t at n q
+all-wanted t at n q {lo} {hi} {least} {from} {last} some p e g y f l h i j =
     let k : ℕ = keyAt t (at + 12 * i) in
-    let b : eqb (q .least) 0 && leb (q .from) lo ≡ true = and-left (eqb (q .least) 0 && leb (q .from) lo) (leb hi (q .last)) h in
-    let z : q .least ≡ 0 = eqb-true (q .least) 0 (and-left (eqb (q .least) 0) (leb (q .from) lo) b) in
-    let f : q .from ≤ lo = leb-true (q .from) lo (and-right (eqb (q .least) 0) (leb (q .from) lo) b) in
-    let s : hi ≤ q .last = leb-true hi (q .last) (and-right (eqb (q .least) 0 && leb (q .from) lo) (leb hi (q .last)) h) in
+    let b : eqb least 0 && leb from lo ≡ true = and-left (eqb least 0 && leb from lo) (leb hi last) h in
+    let z : least ≡ 0 = eqb-true least 0 (and-left (eqb least 0) (leb from lo) b) in
+    let u : from ≤ lo = leb-true from lo (and-right (eqb least 0) (leb from lo) b) in
+    let s : hi ≤ last = leb-true hi last (and-right (eqb least 0 && leb from lo) (leb hi last) h) in
     let o : at + 12 * 0 ≡ at = omega arith in
-    let a : keyAt t at ≤ k = subst (λ (x : ℕ). keyAt t x ≤ k) o (run-rises t 12 n at p 0 i (omega arith) l) in
+    let a : keyAt t at ≤ k = subst (λ (x : ℕ). keyAt t x ≤ k) o (run-rises t 12 n at p 0 i (omega arith) j) in
     let c : k ≤ keyAt t (at + 12 * (n - 1)) = run-rises t 12 n at p i (n - 1) (omega arith) (omega arith) in
-    let place : placed q k ≡ true = all2 (leb (q .from) k) (leb k (q .last)) ∙ and-both (leb (q .from) k) (leb k (q .last)) (le-leb (q .from) k (omega arith)) (le-leb k (q .last) (omega arith)) in
-    all2 (placed q k) (leb (q .least) (rankOf k)) ∙ and-both (placed q k) (leb (q .least) (rankOf k)) place (le-leb (q .least) (rankOf k) (omega arith))
+    wants-yes q k (placed-yes q k (omega arith) (omega arith)) (omega arith)
 
 -- ---- where there may be marks
 
-unwanted : (q : Query) (k : ℕ) → (k < q .from) ⊎ (q .last < k) → wantsKey q k ≡ false
+unwanted : (q : Query) (k : ℕ) → (k < fromOf q) ⊎ (lastOf q < k) → wantsKey q k ≡ false
 unfolding wantsKey placed
 unwanted q k o =
     let place : placed q k ≡ false =
-    all2 (leb (q .from) k) (leb k (q .last))
-    ∙ ⊎-elim (λ (l : k < q .from). ap (λ (b : Bool). b && leb k (q .last)) (lt-leb (q .from) k l))
-    (λ (l : q .last < k). ap (λ (b : Bool). leb (q .from) k && b) (lt-leb k (q .last) l) ∙ and-false (leb (q .from) k))
+    all2 (leb (fromOf q) k) (leb k (lastOf q))
+    ∙ ⊎-elim (λ (l : k < fromOf q). ap (λ (b : Bool). b && leb k (lastOf q)) (lt-leb (fromOf q) k l))
+    (λ (l : lastOf q < k). ap (λ (b : Bool). leb (fromOf q) k && b) (lt-leb k (lastOf q) l) ∙ and-false (leb (fromOf q) k))
     o
     in
-    all2 (placed q k) (leb (q .least) (rankOf k)) ∙ ap (λ (b : Bool). b && leb (q .least) (rankOf k)) place
+    all2 (placed q k) (leb (leastOf q) (rankOf k)) ∙ ap (λ (b : Bool). b && leb (leastOf q) (rankOf k)) place
 
 -- none before the query's first place or the run's, nor behind the last
 module _ (t : List ℕ) (at n : ℕ) (q : Query) (some : 0 < n) (p : rising (keysFrom t 12 n at) ≡ true) where
-  before-lo : (i : ℕ) {lo first : ℕ} → i < n → first ≡ keyAt t at → (lo ≡ q .from) ⊎ (lo ≡ first) → keyAt t (at + 12 * i) < lo → keyAt t (at + 12 * i) < q .from
-  before-lo i l e o h =
+  before-lo : (i : ℕ) {lo from first : ℕ} → i < n → from ≡ fromOf q → first ≡ keyAt t at → (lo ≡ from) ⊎ (lo ≡ first) → keyAt t (at + 12 * i) < lo → keyAt t (at + 12 * i) < fromOf q
+  before-lo i l d e o h =
       let z : at + 12 * 0 ≡ at = omega arith in
       let a : keyAt t at ≤ keyAt t (at + 12 * i) = subst (λ (x : ℕ). keyAt t x ≤ keyAt t (at + 12 * i)) z (run-rises t 12 n at p 0 i (omega arith) l) in
       ⊎-elim (λ f. omega arith) (λ f. absurd (omega arith)) o
 
-  behind-hi : (i : ℕ) {hi last : ℕ} → i < n → last ≡ keyAt t (at + 12 * (n - 1)) → (hi ≡ q .last) ⊎ (hi ≡ last) → hi < keyAt t (at + 12 * i) → q .last < keyAt t (at + 12 * i)
-  behind-hi i l e o h =
+  behind-hi : (i : ℕ) {hi to last : ℕ} → i < n → to ≡ lastOf q → last ≡ keyAt t (at + 12 * (n - 1)) → (hi ≡ to) ⊎ (hi ≡ last) → hi < keyAt t (at + 12 * i) → lastOf q < keyAt t (at + 12 * i)
+  behind-hi i l d e o h =
       let a : keyAt t (at + 12 * i) ≤ keyAt t (at + 12 * (n - 1)) = run-rises t 12 n at p i (n - 1) (omega arith) (omega arith) in
       ⊎-elim (λ f. omega arith) (λ f. absurd (omega arith)) o
 
-  pub wanted-blank : {lo hi first last : ℕ} {m : List Bool} → first ≡ keyAt t at → last ≡ keyAt t (at + 12 * (n - 1)) → (lo ≡ q .from) ⊎ (lo ≡ first) → (hi ≡ q .last) ⊎ (hi ≡ last)
+  pub wanted-blank : {lo hi from to first last : ℕ} {m : List Bool} → from ≡ fromOf q → to ≡ lastOf q → first ≡ keyAt t at → last ≡ keyAt t (at + 12 * (n - 1)) → (lo ≡ from) ⊎ (lo ≡ first) → (hi ≡ to) ⊎ (hi ≡ last)
       → Wanted t at n q m → Blank t at n lo hi m
-  wanted-blank e g a b v i l o =
-      v .takes i l ∙ unwanted q (keyAt t (at + 12 * i)) (⊎-elim (λ h. inl (before-lo i l e a h)) (λ h. inr (behind-hi i l g b h)) o)
+  wanted-blank c d e g a b v i l o =
+      v .takes i l ∙ unwanted q (keyAt t (at + 12 * i)) (⊎-elim (λ h. inl (before-lo i l c e a h)) (λ h. inr (behind-hi i l d g b h)) o)
 
 -- ---- those struck
 

@@ -14,7 +14,7 @@ use Rattle.octets.specs.Lists.{all, isEmpty}
 use Rattle.octets.specs.Bytes.{be}
 use Rattle.spot.specs.Keys.{word, allKeys, rankKey}
 use Rattle.spot.specs.Spots.{keyAt}
-use Rattle.spot.specs.Query.{meets}
+use Rattle.spot.specs.Query.{fromOf, lastOf, leastOf, meets}
 use Rattle.spot.specs.declared.Query.{Query}
 use Rattle.block.specs.declared.Entry.{Entry}
 use Rattle.block.specs.declared.Asked.the-variants.{Child}
@@ -34,21 +34,21 @@ pub before-end : (endless : Bool) (x hi : ℕ) → x < allKeys → endless || lt
 before-end true x hi h = sym (lt-ltb x allKeys h)
 before-end false x hi h = refl
 
-pub meets-is : (q : Query) (s : Span) → s .lo < allKeys → q .from < allKeys
-    → (((s .endless || ltb (s .lo) (s .hi)) && leb (q .from) (q .last)) && leb (s .lo) (q .last)) && (s .endless || ltb (q .from) (s .hi))
+pub meets-is : (q : Query) (s : Span) {from last : ℕ} → from ≡ fromOf q → last ≡ lastOf q → s .lo < allKeys → from < allKeys
+    → (((s .endless || ltb (s .lo) (s .hi)) && leb from last) && leb (s .lo) last) && (s .endless || ltb from (s .hi))
     ≡ meets q (s .lo) (endOf s)
 unfolding meets
-meets-is q s g h =
-    ap₂ (λ (a b : Bool). ((a && leb (q .from) (q .last)) && leb (s .lo) (q .last)) && b) (before-end (s .endless) (s .lo) (s .hi) g)
-    (before-end (s .endless) (q .from) (s .hi) h)
-    ∙ sym (all4 (ltb (s .lo) (endOf s)) (leb (q .from) (q .last)) (leb (s .lo) (q .last)) (ltb (q .from) (endOf s)))
+meets-is q s {from} {last} f l g h =
+    ap₂ (λ (a b : Bool). ((a && leb from last) && leb (s .lo) last) && b) (before-end (s .endless) (s .lo) (s .hi) g) (before-end (s .endless) from (s .hi) h)
+    ∙ sym (all4 (ltb (s .lo) (endOf s)) (leb from last) (leb (s .lo) last) (ltb from (endOf s)))
+    ∙ ap₂ (λ (x y : ℕ). all (ltb (s .lo) (endOf s) ∷ leb x y ∷ leb (s .lo) y ∷ ltb x (endOf s) ∷ [])) f l
 
 pub admits-is : (q : Query) (e : Entry) (s : Span)
-    → (not (eqb (e .size) 0) && leb (q .least) (rankKey (e .top) / word)) && meets q (s .lo) (endOf s) ≡ admits q (partOf (e .block) (Child e) s)
+    → (not (eqb (e .size) 0) && leb (leastOf q) (rankKey (e .top) / word)) && meets q (s .lo) (endOf s) ≡ admits q (partOf (e .block) (Child e) s)
 unfolding admits topped
 admits-is q e s =
     let a : Bool = not (eqb (e .size) 0) in
-    let b : Bool = leb (q .least) (rankKey (e .top) / word) in
+    let b : Bool = leb (leastOf q) (rankKey (e .top) / word) in
     let m : Bool = meets q (s .lo) (endOf s) in
     ap (λ (x : Bool). x && m) (sym (all2 a b)) ∙ sym (all2 (all (a ∷ b ∷ [])) m)
 

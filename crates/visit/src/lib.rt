@@ -31,17 +31,16 @@ pub struct Path {
 pub fn meets_span(q: spot::Query, s: Span) -> bool
     ensures { λ r. ⌜ r ≡ meets q (s .lo) (endOf s) ⌝ }
 {
-    (s.endless | (s.lo < s.hi))
-        & (q.from <= q.last)
-        & (s.lo <= q.last)
-        & (s.endless | (q.from < s.hi))
+    let from = spot::from_key(q);
+    let last = spot::last_key(q);
+    (s.endless | (s.lo < s.hi)) & (from <= last) & (s.lo <= last) & (s.endless | (from < s.hi))
 }
 
 // The child that an entry leads to is read.
 pub fn admits_child(q: spot::Query, e: block::Entry, s: Span) -> bool
     ensures { λ r. ⌜ r ≡ admits q (partOf (e .block) (Child e) s) ⌝ }
 {
-    (e.size != 0) & (q.least <= spot::rank_key(e.top) / 4294967296) & meets_span(q, s)
+    (e.size != 0) & (spot::least_of(q) <= spot::rank_key(e.top) / 4294967296) & meets_span(q, s)
 }
 
 // The nodes above a child of the node at b.
@@ -120,7 +119,7 @@ fn wants_all(t: &[u8], at: usize, n: usize, q: spot::Query) -> bool
     }
     let first = spot::read_key(t, at);
     let last = spot::read_key(t, at + 12 * (n - 1));
-    (q.least == 0) & (q.from <= first) & (last <= q.last)
+    (spot::least_of(q) == 0) & (spot::from_key(q) <= first) & (last <= spot::last_key(q))
 }
 
 // Marks at the first n.
@@ -145,8 +144,9 @@ fn wanted_each(t: &[u8], at: usize, n: usize, q: spot::Query) -> [bool; 64]
     let mut m = [false; 64];
     let mut i = 0;
     while i < n {
-        let k = spot::read_key(t, at + 12 * i);
-        m[i] = spot::wants(q, k);
+        let place = spot::read_i32(t, at + 12 * i);
+        let rank = spot::read_i32(t, at + 12 * i + 4);
+        m[i] = spot::wanted(place, rank, q.x1, q.x2, q.y);
         i += 1;
     }
     m
@@ -245,8 +245,8 @@ pub fn marks(t: &[u8], at: usize, n: usize, q: spot::Query, p: Path) -> [bool; 6
     if n == 0 {
         return m;
     }
-    let lo = later(q.from, spot::read_key(t, at));
-    let hi = earlier(q.last, spot::read_key(t, at + 12 * (n - 1)));
+    let lo = later(spot::from_key(q), spot::read_key(t, at));
+    let hi = earlier(spot::last_key(q), spot::read_key(t, at + 12 * (n - 1)));
     let c = p.n;
     let mut i = 0;
     while i < c {

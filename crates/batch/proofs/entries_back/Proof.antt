@@ -5,16 +5,10 @@ use borrow.Author.Needs.{needs}
 use Rattle.batch.proofs.entries_back.Statement.{statement}
 use Rattle.batch.proofs.entries_back.Tie as tie
 
-replace-two-requires : tie.Need-replace-two-requires
-replace-two-requires c κs = search needs
-
 returns : tie.Need-returns
 returns c =
     let e = c .replace-two .ensures in
     rw (c .before .if1 .taken) (record { entries = e .1; count = omega (arith, e .0) })
-
-replace-requires : tie.Need-replace-requires
-replace-requires c κs = search needs
 
 returns-2 : tie.Need-returns-2
 returns-2 c =
@@ -22,4 +16,4 @@ returns-2 c =
     rw (c .before .if1 .left) (record { entries = e .1; count = omega (arith, e .0) })
 
 pub entries-back-spec : {M : Type 1} → statement M
-entries-back-spec = tie.close (tie.spec replace-two-requires returns replace-requires returns-2)
+entries-back-spec = tie.close (tie.spec (λ c κs. search needs) returns (λ c κs. search needs) returns-2)

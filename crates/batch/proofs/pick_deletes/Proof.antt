@@ -32,9 +32,6 @@ entry-count c =
 long : (c : tie.Start) → length (named (c .args .n .deletes)) ≡ c .args .n .deletes .n
 long c = named-length (c .args .n .deletes) (search (needs, length-image)) (c .pre .0 .deletes .fits)
 
-fullest-keys-requires : tie.Need-fullest-keys-requires
-fullest-keys-requires c κs = search needs
-
 keys-start-of-requires : tie.Need-keys-start-of-requires
 keys-start-of-requires c κs =
     let s = c .before .before .before .before .before in
@@ -42,9 +39,6 @@ keys-start-of-requires c κs =
 
 add-keys-end-of : tie.Need-add-keys-end-of
 add-keys-end-of c = omega (arith, c .before .fullest-keys .ensures .there, entry-count (c .before .before .before .before .before .before), c .before .before .before .before .before .before .pre .2)
-
-keys-end-of-requires : tie.Need-keys-end-of-requires
-keys-end-of-requires c κs = search needs
 
 abbrev Ended : Type 0
 Ended = lts.After-keys-end-of (fullest-keys-reads.Asked, fullest-keys-reads.Learnt, keys-start-of-reads.Asked, keys-start-of-reads.Learnt, keys-end-of-reads.Asked, keys-end-of-reads.Learnt, part-end-reads.Asked, part-end-reads.Learnt, keys-between-reads.Asked, keys-between-reads.Learnt, keys-outside-reads.Asked, keys-outside-reads.Learnt, empty-reads.Asked, empty-reads.Learnt) reads.Pre reads.Post
@@ -55,9 +49,6 @@ share c =
     let n = s .args .n in
     share-of n (s .pre .3) (entry-count s) (s .pre .2) (named (n .deletes)) (n .deletes .n) (c .before .before .fullest-keys .result) (c .before .keys-start-of .result) (c .keys-end-of .result) (sym (long s))
     (c .before .before .fullest-keys .ensures) (c .before .keys-start-of .ensures) (c .keys-end-of .ensures)
-
-add-part-end : tie.Need-add-part-end
-add-part-end c = search needs
 
 few : (c : tie.Start) → (c .args .n .deletes .n + 7) / 8 ≤ 16
 few c = omega (arith, c .pre .0 .deletes .fits)
@@ -76,9 +67,6 @@ keys-outside-requires c κs =
     let e = share (c .before .before .before) in
     (c .before .before .before .before .before .before .before .before .before .before .pre .0 .deletes, omega (arith, b .from, b .to, e .order), omega (arith, b .to, e .inside))
 
-empty-requires : tie.Need-empty-requires
-empty-requires c κs = search needs
-
 returns : tie.Need-returns
 returns c =
     let s = c .before .before .before .before .before .before .before .before .before .before .before .before in
@@ -93,13 +81,13 @@ pub pick-deletes-spec : {M : Type 1} → statement M
 pick-deletes-spec =
     tie.close
     (tie.spec
-    fullest-keys-requires
+    (λ c κs. search needs)
     keys-start-of-requires
     add-keys-end-of
-    keys-end-of-requires
-    add-part-end
+    (λ c κs. search needs)
+    (λ c. search needs)
     part-end-requires
     keys-between-requires
     keys-outside-requires
-    empty-requires
+    (λ c κs. search needs)
     returns)

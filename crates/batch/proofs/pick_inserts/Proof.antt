@@ -34,9 +34,6 @@ entry-count c =
 long : (c : tie.Start) → length (held (c .args .n .inserts)) ≡ c .args .n .inserts .n
 long c = held-length (c .args .n .inserts) (search (needs, length-image)) (c .pre .0 .inserts .fits)
 
-fullest-requires : tie.Need-fullest-requires
-fullest-requires c κs = search needs
-
 start-of-requires : tie.Need-start-of-requires
 start-of-requires c κs =
     let s = c .before .before .before .before .before in
@@ -44,9 +41,6 @@ start-of-requires c κs =
 
 add-end-of : tie.Need-add-end-of
 add-end-of c = omega (arith, c .before .fullest .ensures .there, entry-count (c .before .before .before .before .before .before), c .before .before .before .before .before .before .pre .2)
-
-end-of-requires : tie.Need-end-of-requires
-end-of-requires c κs = search needs
 
 abbrev Ended : Type 0
 Ended = lts.After-end-of (fullest-reads.Asked, fullest-reads.Learnt, start-of-reads.Asked, start-of-reads.Learnt, end-of-reads.Asked, end-of-reads.Learnt, part-end-reads.Asked, part-end-reads.Learnt, between-reads.Asked, between-reads.Learnt, outside-reads.Asked, outside-reads.Learnt, empty-keys-reads.Asked, empty-keys-reads.Learnt) reads.Pre reads.Post
@@ -57,9 +51,6 @@ share c =
     let n = s .args .n in
     share-of n (s .pre .3) (entry-count s) (s .pre .2) (keys (held (n .inserts))) (n .inserts .n) (c .before .before .fullest .result) (c .before .start-of .result) (c .end-of .result) (sym (keys-length (held (n .inserts)) ∙ long s))
     (c .before .before .fullest .ensures) (c .before .start-of .ensures) (c .end-of .ensures)
-
-add-part-end : tie.Need-add-part-end
-add-part-end c = search needs
 
 few : (c : tie.Start) → (c .args .n .inserts .n + 7) / 8 ≤ 16
 few c = omega (arith, c .pre .0 .inserts .fits)
@@ -78,9 +69,6 @@ outside-requires c κs =
     let e = share (c .before .before .before) in
     (c .before .before .before .before .before .before .before .before .before .before .pre .0 .inserts, omega (arith, b .from, b .to, e .order), omega (arith, b .to, e .inside))
 
-empty-keys-requires : tie.Need-empty-keys-requires
-empty-keys-requires c κs = search needs
-
 returns : tie.Need-returns
 returns c =
     let s = c .before .before .before .before .before .before .before .before .before .before .before .before in
@@ -95,13 +83,13 @@ pub pick-inserts-spec : {M : Type 1} → statement M
 pick-inserts-spec =
     tie.close
     (tie.spec
-    fullest-requires
+    (λ c κs. search needs)
     start-of-requires
     add-end-of
-    end-of-requires
-    add-part-end
+    (λ c κs. search needs)
+    (λ c. search needs)
     part-end-requires
     between-requires
     outside-requires
-    empty-keys-requires
+    (λ c κs. search needs)
     returns)

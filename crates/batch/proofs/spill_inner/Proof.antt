@@ -8,11 +8,8 @@ use Rattle.batch.proofs.spill_inner.Tie as tie
 returns : tie.Need-returns
 returns c = record { leaf = λ e. refl; inner = λ z. absurd (z (c .if1 .taken)) }
 
-spill-requires : tie.Need-spill-requires
-spill-requires c κs = search needs
-
 returns-2 : tie.Need-returns-2
 returns-2 c = record { leaf = λ e. absurd (c .before .if1 .left e); inner = λ z. c .spill .ensures }
 
 pub spill-inner-spec : {M : Type 1} → statement M
-spill-inner-spec = tie.close (tie.spec returns spill-requires returns-2)
+spill-inner-spec = tie.close (tie.spec returns (λ c κs. search needs) returns-2)

@@ -17,15 +17,6 @@ use Rattle.batch.proofs.take_in.Reads as reads
 use Rattle.batch.proofs.take_in.Lts as lts
 use Rattle.batch.proofs.spill_inner.Reads as spill-inner-reads
 
-threshold-requires : tie.Need-threshold-requires
-threshold-requires c κs = search needs
-
-insert-all-requires : tie.Need-insert-all-requires
-insert-all-requires c κs = search needs
-
-delete-all-requires : tie.Need-delete-all-requires
-delete-all-requires c κs = search needs
-
 -- the buffers that were lent, and those of the node before
 long-inserts : (c : tie.Start) → length (held (c .args .inserts)) ≡ c .args .inserts .n
 long-inserts c = held-length (c .args .inserts) (search (needs, length-image)) (omega (arith, c .pre .fewI))
@@ -80,4 +71,4 @@ returns : tie.Need-returns
 returns c = taken-in (changed (c .before)) (c .spill-inner .result) (c .spill-inner .ensures)
 
 pub take-in-spec : {M : Type 1} → statement M
-take-in-spec = tie.close (tie.spec threshold-requires insert-all-requires delete-all-requires spill-inner-requires returns)
+take-in-spec = tie.close (tie.spec (λ c κs. search needs) (λ c κs. search needs) (λ c κs. search needs) spill-inner-requires returns)

@@ -7,15 +7,6 @@ use Rattle.batch.proofs.Middle.{right-bare, right-count}
 use Rattle.batch.proofs.upper_leaf.Statement.{statement}
 use Rattle.batch.proofs.upper_leaf.Tie as tie
 
-from-key-requires : tie.Need-from-key-requires
-from-key-requires c κs = search needs
-
-from-key-requires-2 : tie.Need-from-key-requires-2
-from-key-requires-2 c κs = search needs
-
-keys-from-requires : tie.Need-keys-from-requires
-keys-from-requires c κs = search needs
-
 returns : tie.Need-returns
 returns c =
     let es = c .before .before .before .before .args .n .entries in
@@ -35,4 +26,4 @@ returns c =
 
 pub upper-leaf-spec : {M : Type 1} → statement M
 upper-leaf-spec =
-    tie.close (tie.spec from-key-requires from-key-requires-2 keys-from-requires returns)
+    tie.close (tie.spec (λ c κs. search needs) (λ c κs. search needs) (λ c κs. search needs) returns)

@@ -11,24 +11,6 @@ use Rattle.block.specs.Node.{storeOf, nodeOf}
 use Rattle.block.proofs.block_ok.Statement.{statement}
 use Rattle.block.proofs.block_ok.Tie as tie
 
-mul-from : tie.Need-mul-from
-mul-from c = search needs
-
-add-to : tie.Need-add-to
-add-to c = search needs
-
-sub-node-ok : tie.Need-sub-node-ok
-sub-node-ok c = search needs
-
-part-node-ok-start : tie.Need-part-node-ok-start
-part-node-ok-start c = search needs
-
-part-node-ok-end : tie.Need-part-node-ok-end
-part-node-ok-end c = search needs
-
-node-ok-requires : tie.Need-node-ok-requires
-node-ok-requires c κs = search needs
-
 returns : tie.Need-returns
 unfolding storeOf
 returns c =
@@ -40,10 +22,10 @@ pub block-ok-spec : {M : Type 1} → statement M
 block-ok-spec =
     tie.close
     (tie.spec
-    mul-from
-    add-to
-    sub-node-ok
-    part-node-ok-start
-    part-node-ok-end
-    node-ok-requires
+    (λ c. search needs)
+    (λ c. search needs)
+    (λ c. search needs)
+    (λ c. search needs)
+    (λ c. search needs)
+    (λ c κs. search needs)
     returns)

@@ -11,39 +11,6 @@ use Rattle.block.proofs.Shut.{and-stop, and-go}
 use Rattle.block.proofs.body_ok.Statement.{statement}
 use Rattle.block.proofs.body_ok.Tie as tie
 
-mul-at : tie.Need-mul-at
-mul-at c = search needs
-
-add-at : tie.Need-add-at
-add-at c = search needs
-
-mul-ai : tie.Need-mul-ai
-mul-ai c = search needs
-
-add-ai : tie.Need-add-ai
-add-ai c = search needs
-
-add-ad : tie.Need-add-ad
-add-ad c = search needs
-
-mul-ad : tie.Need-mul-ad
-mul-ad c = search needs
-
-add-ad-2 : tie.Need-add-ad-2
-add-ad-2 c = search needs
-
-floor-of-requires : tie.Need-floor-of-requires
-floor-of-requires c κs = search needs
-
-points-of-requires : tie.Need-points-of-requires
-points-of-requires c κs = search needs
-
-rises-under-requires : tie.Need-rises-under-requires
-rises-under-requires c κs = search needs
-
-rises-under-requires-2 : tie.Need-rises-under-requires-2
-rises-under-requires-2 c κs = search needs
-
 returns : tie.Need-returns
 unfolding bodyFine
 returns c =
@@ -65,26 +32,11 @@ apart-ok-requires c κs =
     in
     (omega (arith, start .pre), omega (arith, start .pre), inserts-rise (now (a .s)) (a .blocks) (a .a) (a .h) ok, deletes-rise (now (a .s)) (a .blocks) (a .a) (a .h) ok)
 
-zeros-requires : tie.Need-zeros-requires
-zeros-requires c κs = search needs
-
-own-of-requires : tie.Need-own-of-requires
-own-of-requires c κs = search needs
-
-above-tops-requires : tie.Need-above-tops-requires
-above-tops-requires c κs = search needs
-
-entries-ok-requires : tie.Need-entries-ok-requires
-entries-ok-requires c κs = search needs
-
 blocks-ok-requires : tie.Need-blocks-ok-requires
 blocks-ok-requires c κs =
     let at-lists = c .before .before .before .before .before in
     let at-floor = at-lists .before .before .before .before .before in
     omega (arith, at-floor .before .before .before .before .before .pre)
-
-agrees-ok-requires : tie.Need-agrees-ok-requires
-agrees-ok-requires c κs = search needs
 
 returns-2 : tie.Need-returns-2
 unfolding bodyFine
@@ -105,23 +57,23 @@ pub body-ok-spec : {M : Type 1} → statement M
 body-ok-spec =
     tie.close
     (tie.spec
-    mul-at
-    add-at
-    mul-ai
-    add-ai
-    add-ad
-    mul-ad
-    add-ad-2
-    floor-of-requires
-    points-of-requires
-    rises-under-requires
-    rises-under-requires-2
+    (λ c. search needs)
+    (λ c. search needs)
+    (λ c. search needs)
+    (λ c. search needs)
+    (λ c. search needs)
+    (λ c. search needs)
+    (λ c. search needs)
+    (λ c κs. search needs)
+    (λ c κs. search needs)
+    (λ c κs. search needs)
+    (λ c κs. search needs)
     returns
     apart-ok-requires
-    zeros-requires
-    own-of-requires
-    above-tops-requires
-    entries-ok-requires
+    (λ c κs. search needs)
+    (λ c κs. search needs)
+    (λ c κs. search needs)
+    (λ c κs. search needs)
     blocks-ok-requires
-    agrees-ok-requires
+    (λ c κs. search needs)
     returns-2)

@@ -9,9 +9,6 @@ use Rattle.block.proofs.Heads.{head-number}
 use Rattle.block.proofs.bound_of.Statement.{statement}
 use Rattle.block.proofs.bound_of.Tie as tie
 
-read32-requires : tie.Need-read32-requires
-read32-requires c κs = search needs
-
 returns : tie.Need-returns
 unfolding headOf headerOf
 returns c =
@@ -19,4 +16,4 @@ returns c =
     (c .read32 .ensures .0 ∙ sym (head-number 4 t 8 (omega arith)), c .read32 .ensures .1)
 
 pub bound-of-spec : {M : Type 1} → statement M
-bound-of-spec = tie.close (tie.spec read32-requires returns)
+bound-of-spec = tie.close (tie.spec (λ c κs. search needs) returns)

@@ -14,18 +14,6 @@ use Rattle.block.proofs.clear_from.Tie as tie
 returns : tie.Need-returns
 returns c = let a = c .before .before .args in clear-none (now (a .m)) (a .b) (c .if1 .taken)
 
-count-at-requires : tie.Need-count-at-requires
-count-at-requires c κs = search needs
-
-shr-result : tie.Need-shr-result
-shr-result c = search needs
-
-add-zeros : tie.Need-add-zeros
-add-zeros c = search needs
-
-zeros-requires : tie.Need-zeros-requires
-zeros-requires c κs = search needs
-
 returns-2 : tie.Need-returns-2
 returns-2 c =
     let a = c .before .before .before .before .args in
@@ -35,4 +23,4 @@ returns-2 c =
 
 pub clear-from-spec : {M : Type 1} → statement M
 clear-from-spec =
-    tie.close (tie.spec returns count-at-requires shr-result add-zeros zeros-requires returns-2)
+    tie.close (tie.spec returns (λ c κs. search needs) (λ c. search needs) (λ c. search needs) (λ c κs. search needs) returns-2)

@@ -6,57 +6,6 @@ use Rattle.block.proofs.Marks.{entry-made}
 use Rattle.block.proofs.entry_ok.Statement.{statement}
 use Rattle.block.proofs.entry_ok.Tie as tie
 
-read16-requires : tie.Need-read16-requires
-read16-requires c κs = search needs
-
-add-count-at : tie.Need-add-count-at
-add-count-at c = search needs
-
-count-at-requires : tie.Need-count-at-requires
-count-at-requires c κs = search needs
-
-add-count-at-2 : tie.Need-add-count-at-2
-add-count-at-2 c = search needs
-
-count-at-requires-2 : tie.Need-count-at-requires-2
-count-at-requires-2 c κs = search needs
-
-mul-n : tie.Need-mul-n
-mul-n c = search needs
-
-add-n : tie.Need-add-n
-add-n c = search needs
-
-add-read-key : tie.Need-add-read-key
-add-read-key c = search needs
-
-read-key-requires : tie.Need-read-key-requires
-read-key-requires c κs = search needs
-
-add-read-key-2 : tie.Need-add-read-key-2
-add-read-key-2 c = search needs
-
-read-key-requires-2 : tie.Need-read-key-requires-2
-read-key-requires-2 c κs = search needs
-
-add-read64 : tie.Need-add-read64
-add-read64 c = search needs
-
-read64-requires : tie.Need-read64-requires
-read64-requires c κs = search needs
-
-add-read64-2 : tie.Need-add-read64-2
-add-read64-2 c = search needs
-
-read64-requires-2 : tie.Need-read64-requires-2
-read64-requires-2 c κs = search needs
-
-rank-key-requires : tie.Need-rank-key-requires
-rank-key-requires c κs = search needs
-
-credible-requires : tie.Need-credible-requires
-credible-requires c κs = search needs
-
 returns : tie.Need-returns
 returns c =
     let at-read64 = c .before .before .before in
@@ -69,21 +18,21 @@ pub entry-ok-spec : {M : Type 1} → statement M
 entry-ok-spec =
     tie.close
     (tie.spec
-    read16-requires
-    add-count-at
-    count-at-requires
-    add-count-at-2
-    count-at-requires-2
-    mul-n
-    add-n
-    add-read-key
-    read-key-requires
-    add-read-key-2
-    read-key-requires-2
-    add-read64
-    read64-requires
-    add-read64-2
-    read64-requires-2
-    rank-key-requires
-    credible-requires
+    (λ c κs. search needs)
+    (λ c. search needs)
+    (λ c κs. search needs)
+    (λ c. search needs)
+    (λ c κs. search needs)
+    (λ c. search needs)
+    (λ c. search needs)
+    (λ c. search needs)
+    (λ c κs. search needs)
+    (λ c. search needs)
+    (λ c κs. search needs)
+    (λ c. search needs)
+    (λ c κs. search needs)
+    (λ c. search needs)
+    (λ c κs. search needs)
+    (λ c κs. search needs)
+    (λ c κs. search needs)
     returns)

@@ -11,12 +11,6 @@ use Rattle.block.specs.Checks.{keyed}
 use Rattle.block.proofs.fewest_of.Statement.{statement}
 use Rattle.block.proofs.fewest_of.Tie as tie
 
-enum-told : tie.Need-enum-told
-enum-told c = search needs
-
-enum-known-a : tie.Need-enum-known-a
-enum-known-a c = search needs
-
 returns : tie.Need-returns
 unfolding fewest keyed
 returns c = search needs
@@ -30,4 +24,4 @@ returns-2 c =
     (search needs, ap keyed (c .before .a .given .1) ∙ and-both _ _ (le-leb (e .top) 18446744073709551615 t) (le-leb (e .bottom) 18446744073709551615 b))
 
 pub fewest-of-spec : {M : Type 1} → statement M
-fewest-of-spec = tie.close (tie.spec enum-told enum-known-a returns returns-2)
+fewest-of-spec = tie.close (tie.spec (λ c. search needs) (λ c. search needs) returns returns-2)

@@ -16,17 +16,11 @@ use Rattle.block.proofs.Making.{sized-least, written-is}
 use Rattle.block.proofs.format.Statement.{statement}
 use Rattle.block.proofs.format.Tie as tie
 
-sized-requires : tie.Need-sized-requires
-sized-requires c κs = search needs
-
 returns : tie.Need-returns
 returns c =
     let t = now (c .before .before .before .args .table) in
     let e : tableSized (length t) ≡ false = sym (c .before .sized .ensures) ∙ not-true _ (c .if1 .taken) in
     rw e (refl, refl)
-
-zero-requires : tie.Need-zero-requires
-zero-requires c κs = search needs
 
 write32-requires : tie.Need-write32-requires
 write32-requires c κs =
@@ -39,9 +33,6 @@ write-fresh-requires c κs =
     let t = now (c .before .before .before .before .before .before .before .before .before .before .before .before .args .table) in
     let e : tableSized (length t) ≡ true = sym (c .before .before .before .before .before .before .before .before .before .before .sized .ensures) ∙ not-false _ (c .before .before .before .before .before .before .before .before .before .if1 .left) in
     omega (arith, sized-least (length t) e, c .before .before .before .before .before .before .before .zero .kept .0, c .before .before .before .write32 .kept .0)
-
-same-length : tie.Need-same-length
-same-length c = search needs
 
 returns-2 : tie.Need-returns-2
 returns-2 c =
@@ -58,10 +49,10 @@ pub format-spec : {M : Type 1} → statement M
 format-spec =
     tie.close
     (tie.spec
-    sized-requires
+    (λ c κs. search needs)
     returns
-    zero-requires
+    (λ c κs. search needs)
     write32-requires
     write-fresh-requires
-    same-length
+    (λ c. search needs)
     returns-2)

@@ -7,27 +7,6 @@ use Rattle.block.specs.Access.{frontOf}
 use Rattle.block.proofs.front_of.Statement.{statement}
 use Rattle.block.proofs.front_of.Tie as tie
 
-read16-requires : tie.Need-read16-requires
-read16-requires c κs = search needs
-
-count-at-requires : tie.Need-count-at-requires
-count-at-requires c κs = search needs
-
-count-at-requires-2 : tie.Need-count-at-requires-2
-count-at-requires-2 c κs = search needs
-
-count-at-requires-3 : tie.Need-count-at-requires-3
-count-at-requires-3 c κs = search needs
-
-count-at-requires-4 : tie.Need-count-at-requires-4
-count-at-requires-4 c κs = search needs
-
-count-at-requires-5 : tie.Need-count-at-requires-5
-count-at-requires-5 c κs = search needs
-
-count-at-requires-6 : tie.Need-count-at-requires-6
-count-at-requires-6 c κs = search needs
-
 returns : tie.Need-returns
 unfolding frontOf
 returns c =
@@ -38,11 +17,11 @@ pub front-of-spec : {M : Type 1} → statement M
 front-of-spec =
     tie.close
     (tie.spec
-    read16-requires
-    count-at-requires
-    count-at-requires-2
-    count-at-requires-3
-    count-at-requires-4
-    count-at-requires-5
-    count-at-requires-6
+    (λ c κs. search needs)
+    (λ c κs. search needs)
+    (λ c κs. search needs)
+    (λ c κs. search needs)
+    (λ c κs. search needs)
+    (λ c κs. search needs)
+    (λ c κs. search needs)
     returns)

@@ -9,34 +9,16 @@ use Rattle.block.proofs.Heads.{head-stop, head-go, numbers-blocks, numb
 use Rattle.block.proofs.head_ok.Statement.{statement}
 use Rattle.block.proofs.head_ok.Tie as tie
 
-numbers-ok-requires : tie.Need-numbers-ok-requires
-numbers-ok-requires c κs = search needs
-
 returns : tie.Need-returns
 returns c =
     let a = c .before .before .before .args in
     head-stop (a .bytes) (now (a .s)) (c .before .numbers-ok .ensures) (c .if1 .taken)
-
-sub-map-ok : tie.Need-sub-map-ok
-sub-map-ok c = search needs
-
-part-map-ok-start : tie.Need-part-map-ok-start
-part-map-ok-start c = search needs
-
-part-map-ok-end : tie.Need-part-map-ok-end
-part-map-ok-end c = search needs
-
-read16-requires : tie.Need-read16-requires
-read16-requires c κs = search needs
 
 map-ok-requires : tie.Need-map-ok-requires
 map-ok-requires c κs =
     let a = c .before .before .before .before .before .args in
     let ok = sym (c .before .before .before .numbers-ok .ensures) ∙ not-false _ (c .before .before .if1 .left) in
     omega (arith, numbers-blocks (a .bytes) (now (a .s)) ok, numbers-root (a .bytes) (now (a .s)) ok)
-
-zeros-requires : tie.Need-zeros-requires
-zeros-requires c κs = search needs
 
 returns-2 : tie.Need-returns-2
 returns-2 c =
@@ -47,12 +29,12 @@ pub head-ok-spec : {M : Type 1} → statement M
 head-ok-spec =
     tie.close
     (tie.spec
-    numbers-ok-requires
+    (λ c κs. search needs)
     returns
-    sub-map-ok
-    part-map-ok-start
-    part-map-ok-end
-    read16-requires
+    (λ c. search needs)
+    (λ c. search needs)
+    (λ c. search needs)
+    (λ c κs. search needs)
     map-ok-requires
-    zeros-requires
+    (λ c κs. search needs)
     returns-2)

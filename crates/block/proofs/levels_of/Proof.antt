@@ -10,9 +10,6 @@ use Rattle.block.proofs.Heads.{head-number}
 use Rattle.block.proofs.levels_of.Statement.{statement}
 use Rattle.block.proofs.levels_of.Tie as tie
 
-count-at-requires : tie.Need-count-at-requires
-count-at-requires c κs = search needs
-
 returns : tie.Need-returns
 unfolding headOf headerOf
 returns c =
@@ -20,4 +17,4 @@ returns c =
     (c .count-at .ensures .0 ∙ sym (head-number 1 t 5 (omega arith) ∙ be-one t 5), c .count-at .ensures .1)
 
 pub levels-of-spec : {M : Type 1} → statement M
-levels-of-spec = tie.close (tie.spec count-at-requires returns)
+levels-of-spec = tie.close (tie.spec (λ c κs. search needs) returns)

@@ -9,15 +9,6 @@ use Rattle.block.proofs.Bridge.{node-stop, node-go, used-fits, used-is}
 use Rattle.block.proofs.node_ok.Statement.{statement}
 use Rattle.block.proofs.node_ok.Tie as tie
 
-front-of-requires : tie.Need-front-of-requires
-front-of-requires c κs = search needs
-
-fewest-of-requires : tie.Need-fewest-of-requires
-fewest-of-requires c κs = search needs
-
-front-ok-requires : tie.Need-front-ok-requires
-front-ok-requires c κs = search needs
-
 returns : tie.Need-returns
 returns c =
     let a = c .before .before .before .before .before .args in
@@ -40,9 +31,9 @@ pub node-ok-spec : {M : Type 1} → statement M
 node-ok-spec =
     tie.close
     (tie.spec
-    front-of-requires
-    fewest-of-requires
-    front-ok-requires
+    (λ c κs. search needs)
+    (λ c κs. search needs)
+    (λ c κs. search needs)
     returns
     body-ok-requires
     returns-2)

@@ -9,9 +9,6 @@ use Rattle.block.proofs.Heads.{head-number}
 use Rattle.block.proofs.root_of.Statement.{statement}
 use Rattle.block.proofs.root_of.Tie as tie
 
-read16-requires : tie.Need-read16-requires
-read16-requires c κs = search needs
-
 returns : tie.Need-returns
 unfolding headOf headerOf
 returns c =
@@ -19,4 +16,4 @@ returns c =
     (c .read16 .ensures .0 ∙ sym (head-number 2 t 6 (omega arith)), c .read16 .ensures .1)
 
 pub root-of-spec : {M : Type 1} → statement M
-root-of-spec = tie.close (tie.spec read16-requires returns)
+root-of-spec = tie.close (tie.spec (λ c κs. search needs) returns)

@@ -8,9 +8,6 @@ use Rattle.block.specs.Checks.{freshMarks}
 use Rattle.block.proofs.write_fresh.Statement.{statement}
 use Rattle.block.proofs.write_fresh.Tie as tie
 
-slice-write-t : tie.Need-slice-write-t
-slice-write-t c = search needs
-
 slice-write-t-2 : tie.Need-slice-write-t-2
 slice-write-t-2 c = simp length-set (omega arith)
 
@@ -26,9 +23,6 @@ slice-write-t-5 c = simp length-set (omega arith)
 slice-write-t-6 : tie.Need-slice-write-t-6
 slice-write-t-6 c = simp length-set (omega arith)
 
-same-length : tie.Need-same-length
-same-length c = search needs
-
 returns : tie.Need-returns
 unfolding freshMarks
 returns c = refl
@@ -37,11 +31,11 @@ pub write-fresh-spec : {M : Type 1} → statement M
 write-fresh-spec =
     tie.close
     (tie.spec
-    slice-write-t
+    (λ c. search needs)
     slice-write-t-2
     slice-write-t-3
     slice-write-t-4
     slice-write-t-5
     slice-write-t-6
-    same-length
+    (λ c. search needs)
     returns)

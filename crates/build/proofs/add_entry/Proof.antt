@@ -9,15 +9,6 @@ use native.Mathlib.Omega.{arith}
 use Rattle.build.proofs.add_entry.Statement.{statement}
 use Rattle.build.proofs.add_entry.Tie as tie
 
-mul-e : tie.Need-mul-e
-mul-e c = search needs
-
-element-set-from-e : tie.Need-element-set-from-e
-element-set-from-e c = search needs
-
-add-next : tie.Need-add-next
-add-next c = search needs
-
 returns : tie.Need-returns
 returns c = (search needs, take-push (c .args .es .list) (c .args .es .n) (c .args .e) (omega (arith, long c)))
   where
@@ -25,4 +16,4 @@ returns c = (search needs, take-push (c .args .es .list) (c .args .es .n) (c .ar
     long c = search (needs, length-image)
 
 pub add-entry-spec : {M : Type 1} → statement M
-add-entry-spec = tie.close (tie.spec mul-e element-set-from-e add-next returns)
+add-entry-spec = tie.close (tie.spec (λ c. search needs) (λ c. search needs) (λ c. search needs) returns)

@@ -5,17 +5,8 @@ use borrow.Author.Needs.{needs}
 use Rattle.build.proofs.build_table.Statement.{statement}
 use Rattle.build.proofs.build_table.Tie as tie
 
-shape-of-requires : tie.Need-shape-of-requires
-shape-of-requires c κs = search needs
-
 build-requires : tie.Need-build-requires
 build-requires c κs = let p = c .before .before .before .before .pre in table-ready _ _ _ (p .0) (p .1) (p .2) _ (c .before .shape-of .ensures)
-
-nodes-of-requires : tie.Need-nodes-of-requires
-nodes-of-requires c κs = search needs
-
-add-write-header : tie.Need-add-write-header
-add-write-header c = search needs
 
 write-header-requires : tie.Need-write-header-requires
 write-header-requires c κs =
@@ -25,9 +16,6 @@ write-header-requires c κs =
     let p = start .pre in
     let a = start .args in
     header-ready (a .t .now) (a .list .now) (a .n) (p .0) (p .1) (p .2) (at-shape-of .shape-of .result) (at-shape-of .shape-of .ensures) {u = at-build .build .last .0} (at-build .build .ensures .0 .sized) (c .before .before .nodes-of .ensures .0)
-
-same-length : tie.Need-same-length
-same-length c = search needs
 
 returns : tie.Need-returns
 returns c =
@@ -42,10 +30,10 @@ pub build-table-spec : {M : Type 1} → statement M
 build-table-spec =
     tie.close
     (tie.spec
-    shape-of-requires
+    (λ c κs. search needs)
     build-requires
-    nodes-of-requires
-    add-write-header
+    (λ c κs. search needs)
+    (λ c. search needs)
     write-header-requires
-    same-length
+    (λ c. search needs)
     returns)

@@ -8,9 +8,6 @@ use borrow.Author.Needs.{needs}
 use Rattle.build.proofs.cut_fits.Statement.{statement}
 use Rattle.build.proofs.cut_fits.Tie as tie
 
-count-band-requires : tie.Need-count-band-requires
-count-band-requires c κs = search needs
-
 returns : tie.Need-returns
 returns c = λ e. absurd (true≢false (sym e))
 
@@ -21,4 +18,4 @@ returns-3 : tie.Need-returns-3
 returns-3 c = λ e. cut-some _ _ _ _ (c .before .before .before .before .pre) (c .before .before .count-band .ensures .0) (c .before .if1 .left) (leb-true 32 (c .before .before .count-band .result) e)
 
 pub cut-fits-spec : {M : Type 1} → statement M
-cut-fits-spec = tie.close (tie.spec count-band-requires returns returns-2 returns-3)
+cut-fits-spec = tie.close (tie.spec (λ c κs. search needs) returns returns-2 returns-3)

@@ -17,12 +17,6 @@ returns c =
     let a = c .before .args in
     entry-none _ _ (held (a .points)) (c .before .pre .2) (ap (λ (k : ℕ). take k (a .points .spots)) (c .if1 .taken))
 
-highest-requires : tie.Need-highest-requires
-highest-requires c κs = search needs
-
-lowest-requires : tie.Need-lowest-requires
-lowest-requires c κs = search needs
-
 returns-2 : tie.Need-returns-2
 returns-2 c =
     let a = c .before .before .before .args in
@@ -33,4 +27,4 @@ returns-2 c =
     long c = search (needs, length-image)
 
 pub entry-for-spec : {M : Type 1} → statement M
-entry-for-spec = tie.close (tie.spec returns highest-requires lowest-requires returns-2)
+entry-for-spec = tie.close (tie.spec returns (λ c κs. search needs) (λ c κs. search needs) returns-2)

@@ -9,14 +9,8 @@ use Rattle.build.proofs.first_key.Tie as tie
 returns : tie.Need-returns
 returns c = first-none _ _ _ (c .if1 .taken)
 
-mul-read-key : tie.Need-mul-read-key
-mul-read-key c = search needs
-
-read-key-requires : tie.Need-read-key-requires
-read-key-requires c κs = search needs
-
 returns-2 : tie.Need-returns-2
 returns-2 c = c .read-key .ensures ∙ first-some _ _ _ (c .before .if1 .left)
 
 pub first-key-spec : {M : Type 1} → statement M
-first-key-spec = tie.close (tie.spec returns mul-read-key read-key-requires returns-2)
+first-key-spec = tie.close (tie.spec returns (λ c. search needs) (λ c κs. search needs) returns-2)

@@ -8,9 +8,6 @@ use borrow.Author.Needs.{needs}
 use Rattle.build.proofs.in_band.Statement.{statement}
 use Rattle.build.proofs.in_band.Tie as tie
 
-rank-key-requires : tie.Need-rank-key-requires
-rank-key-requires c κs = search needs
-
 returns : tie.Need-returns
 returns c =
     let l = c .before .before .before .args .limit in
@@ -18,4 +15,4 @@ returns c =
     test-is k l _ ∙ ap (within k (limitOf l)) (c .before .before .rank-key .ensures)
 
 pub in-band-spec : {M : Type 1} → statement M
-in-band-spec = tie.close (tie.spec rank-key-requires returns)
+in-band-spec = tie.close (tie.spec (λ c κs. search needs) returns)

@@ -9,12 +9,6 @@ use native.Mathlib.Omega.{arith}
 use Rattle.build.proofs.open_first.Statement.{statement}
 use Rattle.build.proofs.open_first.Tie as tie
 
-element-copy-out-e : tie.Need-element-copy-out-e
-element-copy-out-e c = search needs
-
-element-set-from-next : tie.Need-element-set-from-next
-element-set-from-next c = search needs
-
 returns : tie.Need-returns
 returns c = (search needs, opened (c .before .args .es .list) (c .before .args .es .n) (omega (arith, long (c .before))))
   where
@@ -22,4 +16,4 @@ returns c = (search needs, opened (c .before .args .es .list) (c .before .args .
     long c = search (needs, length-image)
 
 pub open-first-spec : {M : Type 1} → statement M
-open-first-spec = tie.close (tie.spec element-copy-out-e element-set-from-next returns)
+open-first-spec = tie.close (tie.spec (λ c. search needs) (λ c. search needs) returns)

@@ -8,18 +8,6 @@ use borrow.Author.Needs.{needs}
 use Rattle.build.proofs.put_own.Statement.{statement}
 use Rattle.build.proofs.put_own.Tie as tie
 
-take-band-requires : tie.Need-take-band-requires
-take-band-requires c κs = search needs
-
-open-first-requires : tie.Need-open-first-requires
-open-first-requires c κs = search needs
-
-empty-requires : tie.Need-empty-requires
-empty-requires c κs = search needs
-
-empty-keys-requires : tie.Need-empty-keys-requires
-empty-keys-requires c κs = search needs
-
 put-node-requires : tie.Need-put-node-requires
 put-node-requires c κs =
     let at-open-first = c .before .before .before in
@@ -31,15 +19,6 @@ put-node-requires c κs =
       own-storable (a .level) (a .es) (at-open-first .open-first .result) (at-take-band .take-band .result) (c .before .before .empty .result) (c .before .empty-keys .result)
           (at-open-first .open-first .ensures .0) (at-open-first .open-first .ensures .1) (c .before .before .empty .ensures .0) (c .before .empty-keys .ensures .0) (p .shallow) (p .entries) (at-take-band .take-band .ensures .2),
     )
-
-first-key-requires : tie.Need-first-key-requires
-first-key-requires c κs = search needs
-
-entry-for-requires : tie.Need-entry-for-requires
-entry-for-requires c κs = search needs
-
-same-length : tie.Need-same-length
-same-length c = search needs
 
 returns : tie.Need-returns
 returns c =
@@ -58,12 +37,12 @@ pub put-own-spec : {M : Type 1} → statement M
 put-own-spec =
     tie.close
     (tie.spec
-    take-band-requires
-    open-first-requires
-    empty-requires
-    empty-keys-requires
+    (λ c κs. search needs)
+    (λ c κs. search needs)
+    (λ c κs. search needs)
+    (λ c κs. search needs)
     put-node-requires
-    first-key-requires
-    entry-for-requires
-    same-length
+    (λ c κs. search needs)
+    (λ c κs. search needs)
+    (λ c. search needs)
     returns)

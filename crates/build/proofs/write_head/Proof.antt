@@ -6,24 +6,6 @@ use borrow.Author.Needs.{needs}
 use Rattle.build.proofs.write_head.Statement.{statement}
 use Rattle.build.proofs.write_head.Tie as tie
 
-write-numbers-requires : tie.Need-write-numbers-requires
-write-numbers-requires c κs = search needs
-
-sub-mark-to : tie.Need-sub-mark-to
-sub-mark-to c = search needs
-
-part-mark-to-start : tie.Need-part-mark-to-start
-part-mark-to-start c = search needs
-
-part-mark-to-end : tie.Need-part-mark-to-end
-part-mark-to-end c = search needs
-
-mark-to-requires : tie.Need-mark-to-requires
-mark-to-requires c κs = search needs
-
-same-length : tie.Need-same-length
-same-length c = search needs
-
 returns : tie.Need-returns
 returns c =
     let at-write-numbers = c .before .before .before .before .before .before in
@@ -34,10 +16,10 @@ pub write-head-spec : {M : Type 1} → statement M
 write-head-spec =
     tie.close
     (tie.spec
-    write-numbers-requires
-    sub-mark-to
-    part-mark-to-start
-    part-mark-to-end
-    mark-to-requires
-    same-length
+    (λ c κs. search needs)
+    (λ c. search needs)
+    (λ c. search needs)
+    (λ c. search needs)
+    (λ c κs. search needs)
+    (λ c. search needs)
     returns)

@@ -11,20 +11,8 @@ use native.Mathlib.Omega.{arith}
 use Rattle.build.proofs.write_header.Statement.{statement}
 use Rattle.build.proofs.write_header.Tie as tie
 
-sub-write-head : tie.Need-sub-write-head
-sub-write-head c = search needs
-
-part-write-head-start : tie.Need-part-write-head-start
-part-write-head-start c = search needs
-
-part-write-head-end : tie.Need-part-write-head-end
-part-write-head-end c = search needs
-
 write-head-requires : tie.Need-write-head-requires
 write-head-requires c κs = let t = c .before .before .args .t .now in omega (arith, sized-most (length t) (c .before .before .pre .sized), c .write-head-arg .given)
-
-same-length : tie.Need-same-length
-same-length c = search needs
 
 returns : tie.Need-returns
 returns c =
@@ -36,9 +24,9 @@ pub write-header-spec : {M : Type 1} → statement M
 write-header-spec =
     tie.close
     (tie.spec
-    sub-write-head
-    part-write-head-start
-    part-write-head-end
+    (λ c. search needs)
+    (λ c. search needs)
+    (λ c. search needs)
     write-head-requires
-    same-length
+    (λ c. search needs)
     returns)

@@ -5,27 +5,6 @@ use borrow.Author.Needs.{needs}
 use Rattle.build.proofs.write_numbers.Statement.{statement}
 use Rattle.build.proofs.write_numbers.Tie as tie
 
-zero-requires : tie.Need-zero-requires
-zero-requires c κs = search needs
-
-write32-requires : tie.Need-write32-requires
-write32-requires c κs = search needs
-
-write8-requires : tie.Need-write8-requires
-write8-requires c κs = search needs
-
-write8-requires-2 : tie.Need-write8-requires-2
-write8-requires-2 c κs = search needs
-
-write16-requires : tie.Need-write16-requires
-write16-requires c κs = search needs
-
-write32-requires-2 : tie.Need-write32-requires-2
-write32-requires-2 c κs = search needs
-
-same-length : tie.Need-same-length
-same-length c = search needs
-
 returns : tie.Need-returns
 returns c =
     let at-write16 = c .before .before .before .before .before .before in
@@ -43,11 +22,11 @@ pub write-numbers-spec : {M : Type 1} → statement M
 write-numbers-spec =
     tie.close
     (tie.spec
-    zero-requires
-    write32-requires
-    write8-requires
-    write8-requires-2
-    write16-requires
-    write32-requires-2
-    same-length
+    (λ c κs. search needs)
+    (λ c κs. search needs)
+    (λ c κs. search needs)
+    (λ c κs. search needs)
+    (λ c κs. search needs)
+    (λ c κs. search needs)
+    (λ c. search needs)
     returns)

@@ -6,18 +6,6 @@ use borrow.Author.Needs.{needs}
 use Rattle.cabi.proofs.spot_add.Statement.{statement}
 use Rattle.cabi.proofs.spot_add.Tie as tie
 
-add-requires : tie.Need-add-requires
-add-requires c κs = search needs
-
-pack-requires : tie.Need-pack-requires
-pack-requires c κs = search needs
-
-same-length : tie.Need-same-length
-same-length c = search needs
-
-same-length-2 : tie.Need-same-length-2
-same-length-2 c = search needs
-
 returns : tie.Need-returns
 returns c =
     record {
@@ -28,4 +16,4 @@ returns c =
     }
 
 pub spot-add-spec : {M : Type 1} → statement M
-spot-add-spec = tie.close (tie.spec add-requires pack-requires same-length same-length-2 returns)
+spot-add-spec = tie.close (tie.spec (λ c κs. search needs) (λ c κs. search needs) (λ c. search needs) (λ c. search needs) returns)

@@ -4,19 +4,10 @@ use borrow.Author.Needs.{needs}
 use Rattle.cabi.proofs.spot_format.Statement.{statement}
 use Rattle.cabi.proofs.spot_format.Tie as tie
 
-format-requires : tie.Need-format-requires
-format-requires c κs = search needs
-
-pack-requires : tie.Need-pack-requires
-pack-requires c κs = search needs
-
-same-length : tie.Need-same-length
-same-length c = search needs
-
 returns : tie.Need-returns
 returns c =
     let call = c .before .before .before in
     record { answer = call .format .result; number = search needs; detail = search needs; keeps = call .format .ensures }
 
 pub spot-format-spec : {M : Type 1} → statement M
-spot-format-spec = tie.close (tie.spec format-requires pack-requires same-length returns)
+spot-format-spec = tie.close (tie.spec (λ c κs. search needs) (λ c κs. search needs) (λ c. search needs) returns)

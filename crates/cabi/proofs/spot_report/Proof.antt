@@ -3,25 +3,12 @@
 use mir.Syntax.{w32}
 use mir.ValLaws.{toZ-ofZ}
 use borrow.Author.Needs.{needs}
-use native.Mathlib.Omega.{arith}
 use Rattle.cabi.proofs.spot_report.Statement.{statement}
 use Rattle.cabi.proofs.spot_report.Tie as tie
 use Rattle.cabi.proofs.spot_report.Reads as reads
 use Rattle.cabi.proofs.spot_report.Lts as lts
 use Rattle.cabi.proofs.pack.Reads as pack-reads
 use Rattle.table.proofs.report.Reads as report-reads
-
-report-requires : tie.Need-report-requires
-report-requires c κs = search needs
-
-pack-requires : tie.Need-pack-requires
-pack-requires c κs = search needs
-
-same-length : tie.Need-same-length
-same-length c = search needs
-
-same-length-2 : tie.Need-same-length-2
-same-length-2 c = search needs
 
 returns : tie.Need-returns
 returns c =
@@ -35,4 +22,4 @@ returns c =
 
 pub spot-report-spec : {M : Type 1} → statement M
 spot-report-spec =
-    tie.close (tie.spec report-requires pack-requires same-length same-length-2 returns)
+    tie.close (tie.spec (λ c κs. search needs) (λ c κs. search needs) (λ c. search needs) (λ c. search needs) returns)

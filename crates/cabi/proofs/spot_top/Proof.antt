@@ -6,18 +6,6 @@ use borrow.Author.Needs.{needs}
 use Rattle.cabi.proofs.spot_top.Statement.{statement}
 use Rattle.cabi.proofs.spot_top.Tie as tie
 
-top-requires : tie.Need-top-requires
-top-requires c κs = search needs
-
-pack-requires : tie.Need-pack-requires
-pack-requires c κs = search needs
-
-same-length : tie.Need-same-length
-same-length c = search needs
-
-same-length-2 : tie.Need-same-length-2
-same-length-2 c = search needs
-
 returns : tie.Need-returns
 returns c =
     record {
@@ -30,4 +18,4 @@ returns c =
 
 pub spot-top-spec : {M : Type 1} → statement M
 spot-top-spec =
-    tie.close (tie.spec top-requires pack-requires same-length same-length-2 returns)
+    tie.close (tie.spec (λ c κs. search needs) (λ c κs. search needs) (λ c. search needs) (λ c. search needs) returns)

@@ -6,18 +6,6 @@ use borrow.Author.Needs.{needs}
 use Rattle.cabi.proofs.spot_withdraw.Statement.{statement}
 use Rattle.cabi.proofs.spot_withdraw.Tie as tie
 
-withdraw-requires : tie.Need-withdraw-requires
-withdraw-requires c κs = search needs
-
-pack-requires : tie.Need-pack-requires
-pack-requires c κs = search needs
-
-same-length : tie.Need-same-length
-same-length c = search needs
-
-same-length-2 : tie.Need-same-length-2
-same-length-2 c = search needs
-
 returns : tie.Need-returns
 returns c =
     record {
@@ -29,4 +17,4 @@ returns c =
 
 pub spot-withdraw-spec : {M : Type 1} → statement M
 spot-withdraw-spec =
-    tie.close (tie.spec withdraw-requires pack-requires same-length same-length-2 returns)
+    tie.close (tie.spec (λ c κs. search needs) (λ c κs. search needs) (λ c. search needs) (λ c. search needs) returns)

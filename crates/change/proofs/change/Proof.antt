@@ -29,9 +29,6 @@ sub-level c = let z = start-levels (c .before .before .before .before .before .b
 block-ok-requires : tie.Need-block-ok-requires
 block-ok-requires c κs = start-inside (c .before .before .before .before .before .before .before .pre) (c .before .before .before .root-of .ensures .0) (level-is (c .before))
 
-same-length : tie.Need-same-length
-same-length c = search needs
-
 returns : tie.Need-returns
 returns c = start-refused (c .before .before .before .before .before .before .before .before .before .pre) (c .before .before .before .before .before .root-of .ensures .0) (level-is (c .before .before .before)) _ _ (sym (c .before .block-ok .ensures) ∙ not-true _ (c .if1 .taken))
 
@@ -47,20 +44,11 @@ light-requires : tie.Need-light-requires
 light-requires c κs =
     start-light (c .before .before .before .before .before .before .before .before .before .before .before .before .before .before .pre) (c .before .before .before .before .before .before .before .before .before .before .root-of .ensures .0) (level-is (c .before .before .before .before .before .before .before .before)) (c .before .before .before .load .ensures) (c .before .before .is-roomy .ensures) (sym (c .before .before .before .before .before .before .block-ok .ensures) ∙ not-false _ (c .before .before .before .before .before .if1 .left)) (c .before .if2 .taken)
 
-same-length-2 : tie.Need-same-length-2
-same-length-2 c = search needs
-
 returns-2 : tie.Need-returns-2
 returns-2 c = start-done _ (c .before .before .light .ensures)
 
 heavy-requires : tie.Need-heavy-requires
 heavy-requires c κs = start-heavy (c .before .before .before .before .before .before .before .before .before .before .before .before .before .before .before .pre) (c .before .before .before .before .before .before .before .before .before .before .before .root-of .ensures .0) (level-is (c .before .before .before .before .before .before .before .before .before)) (c .before .before .before .before .load .ensures) (c .before .before .before .is-roomy .ensures) (c .before .before .if2 .left)
-
-same-length-3 : tie.Need-same-length-3
-same-length-3 c = search needs
-
-same-length-4 : tie.Need-same-length-4
-same-length-4 c = search needs
 
 returns-3 : tie.Need-returns-3
 returns-3 c = c .before .before .before .before .heavy .ensures
@@ -73,14 +61,14 @@ change-spec =
     levels-of-requires
     sub-level
     block-ok-requires
-    same-length
+    (λ c. search needs)
     returns
     load-requires
     is-roomy-requires
     light-requires
-    same-length-2
+    (λ c. search needs)
     returns-2
     heavy-requires
-    same-length-3
-    same-length-4
+    (λ c. search needs)
+    (λ c. search needs)
     returns-3)

@@ -10,36 +10,12 @@ use Rattle.spare.specs.Spares.{takenOf, HeadFits, Reheaded}
 use Rattle.change.proofs.finish.Statement.{statement}
 use Rattle.change.proofs.finish.Tie as tie
 
-sub-copy : tie.Need-sub-copy
-sub-copy c = search needs
-
-part-copy-start : tie.Need-part-copy-start
-part-copy-start c = search needs
-
-part-copy-end : tie.Need-part-copy-end
-part-copy-end c = search needs
-
-sub-copy-2 : tie.Need-sub-copy-2
-sub-copy-2 c = search needs
-
-part-copy-start-2 : tie.Need-part-copy-start-2
-part-copy-start-2 c = search needs
-
-part-copy-end-2 : tie.Need-part-copy-end-2
-part-copy-end-2 c = search needs
-
-copy-requires : tie.Need-copy-requires
-copy-requires c κs = search needs
-
 rehead-requires : tie.Need-rehead-requires
 rehead-requires c κs =
     let a = c .before .before .before .before .before .before .before .before .args in
     let p = c .before .before .before .before .before .before .before .before .pre in
     subst⁻¹ (λ (x : List ℕ). HeadFits x (a .spare) (a .left) (a .levels) (a .root) (a .bound))
     (ap (putMid 0 2048 (a .t .now)) (c .before .before .before .copy .ensures) ∙ copied-is (a .t .now) (a .w .now) 0 (p .long) (p .room)) (p .head)
-
-same-length : tie.Need-same-length
-same-length c = search needs
 
 returns : tie.Need-returns
 returns c =
@@ -52,13 +28,13 @@ pub finish-spec : {M : Type 1} → statement M
 finish-spec =
     tie.close
     (tie.spec
-    sub-copy
-    part-copy-start
-    part-copy-end
-    sub-copy-2
-    part-copy-start-2
-    part-copy-end-2
-    copy-requires
+    (λ c. search needs)
+    (λ c. search needs)
+    (λ c. search needs)
+    (λ c. search needs)
+    (λ c. search needs)
+    (λ c. search needs)
+    (λ c κs. search needs)
     rehead-requires
-    same-length
+    (λ c. search needs)
     returns)

@@ -32,39 +32,18 @@ all-spots c = spots-within (c .args .inserts .n) (c .args .inserts .spots) (fit-
 all-keys : (c : tie.Start) (k : ℕ) → List·Memᴰ k (named (c .args .deletes)) → within 0 allKeys k ≡ true
 all-keys c = keys-within (c .args .deletes .n) (c .args .deletes .keys) (fit-keys c)
 
-slice-aggregate-save : tie.Need-slice-aggregate-save
-slice-aggregate-save c = search needs
-
 save-requires : tie.Need-save-requires
 save-requires c κs = (heavy-starts (c .before .before .before .before .before .pre), let z = nine-blocks (c .before .before .before .before .before .args .t .now) (c .before .before .before .before .before .pre .start .header) in omega (arith, z))
-
-spare-blocks-requires : tie.Need-spare-blocks-requires
-spare-blocks-requires c κs = search needs
-
-slice-aggregate-grow : tie.Need-slice-aggregate-grow
-slice-aggregate-grow c = search needs
 
 grow-requires : tie.Need-grow-requires
 grow-requires c κs =
     let s = c .before .before .before .before .before .before .before .before .save .ensures in
     heavy-settles (c .before .before .before .before .before .before .before .before .before .before .before .before .before .before .pre) (s .0) (s .1) (c .before .before .before .spare-blocks .ensures)
 
-slice-aggregate-undo : tie.Need-slice-aggregate-undo
-slice-aggregate-undo c = search needs
-
 undo-requires : tie.Need-undo-requires
 undo-requires c κs =
     let s = c .before .before .before .before .before .before .before .before .before .before .before .before .before .before .before .before .before .before .before .save .ensures in
     undoable-kept (kept-trans (s .0) (c .before .before .before .before .before .before .before .before .before .before .grow .ensures .0)) (heavy-starts (c .before .before .before .before .before .before .before .before .before .before .before .before .before .before .before .before .before .before .before .before .before .before .before .before .before .pre))
-
-refused-requires : tie.Need-refused-requires
-refused-requires c κs = search needs
-
-same-length : tie.Need-same-length
-same-length c = search needs
-
-same-length-2 : tie.Need-same-length-2
-same-length-2 c = search needs
 
 returns : tie.Need-returns
 returns c =
@@ -78,12 +57,6 @@ finish-requires c κs =
     let g = c .before .before .before .before .before .before .before .before .before .grow .ensures in
     heavy-finishes (c .before .before .before .before .before .before .before .before .before .before .before .before .before .before .before .before .before .before .before .before .before .before .before .before .pre) (s .0) (s .1) (c .before .before .before .before .before .before .before .before .before .before .before .before .before .spare-blocks .ensures) (g .0) (g .1) (not-false _ (c .before .before .if1 .left))
 
-same-length-3 : tie.Need-same-length-3
-same-length-3 c = search needs
-
-same-length-4 : tie.Need-same-length-4
-same-length-4 c = search needs
-
 returns-2 : tie.Need-returns-2
 returns-2 c =
     let s = c .before .before .before .before .before .before .before .before .before .before .before .before .before .before .before .before .before .before .before .before .before .save .ensures in
@@ -94,18 +67,18 @@ pub heavy-spec : {M : Type 1} → statement M
 heavy-spec =
     tie.close
     (tie.spec
-    slice-aggregate-save
+    (λ c. search needs)
     save-requires
-    spare-blocks-requires
-    slice-aggregate-grow
+    (λ c κs. search needs)
+    (λ c. search needs)
     grow-requires
-    slice-aggregate-undo
+    (λ c. search needs)
     undo-requires
-    refused-requires
-    same-length
-    same-length-2
+    (λ c κs. search needs)
+    (λ c. search needs)
+    (λ c. search needs)
     returns
     finish-requires
-    same-length-3
-    same-length-4
+    (λ c. search needs)
+    (λ c. search needs)
     returns-2)

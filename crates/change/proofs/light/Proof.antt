@@ -36,9 +36,6 @@ add-rehead c = let z = light-deep (c .before .before .before .before .before .be
 rehead-requires : tie.Need-rehead-requires
 rehead-requires c κs = light-head (c .before .before .before .before .before .before .before .pre) (c .before .before .before .before .before .take-in .ensures) (c .before .before .before .put-node .ensures) _
 
-same-length : tie.Need-same-length
-same-length c = search needs
-
 returns : tie.Need-returns
 returns c =
     let a = c .before .before .before .before .before .before .before .before .before .before .args in
@@ -49,4 +46,4 @@ returns c =
 pub light-spec : {M : Type 1} → statement M
 light-spec =
     tie.close
-    (tie.spec take-in-requires put-node-requires add-rehead rehead-requires same-length returns)
+    (tie.spec take-in-requires put-node-requires add-rehead rehead-requires (λ c. search needs) returns)

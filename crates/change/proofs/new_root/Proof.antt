@@ -12,9 +12,6 @@ use Rattle.change.proofs.Crown.{crown-works, crown-stores, crown-whole}
 use Rattle.change.proofs.new_root.Statement.{statement}
 use Rattle.change.proofs.new_root.Tie as tie
 
-not-grown-requires : tie.Need-not-grown-requires
-not-grown-requires c κs = search needs
-
 returns : tie.Need-returns
 returns c = (kept-refl, crown-fails (c .not-grown .ensures) (λ f low high kids finds. refl))
 
@@ -25,26 +22,11 @@ last-of-requires c κs =
     let z = room-above (a .left) (a .level) (c .if1 .left) in
     (z .0, omega (arith, p .less, p .spares .few))
 
-over-requires : tie.Need-over-requires
-over-requires c κs = search needs
-
 fill-requires : tie.Need-fill-requires
 fill-requires c κs =
     let a = c .before .before .before .before .before .before .before .before .before .args in
     let p = c .before .before .before .before .before .before .before .before .before .pre in
     crown-works (c .before .before .before .over .ensures) (p .undoable) (room-above (a .left) (a .level) (c .before .before .before .before .before .if1 .left) .1) (p .fits) (p .inside) (p .insideToo)
-
-not-grown-requires-2 : tie.Need-not-grown-requires-2
-not-grown-requires-2 c κs = search needs
-
-same-length : tie.Need-same-length
-same-length c = search needs
-
-same-length-2 : tie.Need-same-length-2
-same-length-2 c = search needs
-
-same-length-3 : tie.Need-same-length-3
-same-length-3 c = search needs
 
 returns-2 : tie.Need-returns-2
 returns-2 c =
@@ -71,15 +53,6 @@ sub-t30 c =
     let z = room-above (a .left) (a .level) (c .before .before .before .before .before .before .before .before .before .before .before .before .before .before .before .before .before .before .before .before .before .before .before .before .before .if1 .left) in
     omega (arith, z .0)
 
-same-length-4 : tie.Need-same-length-4
-same-length-4 c = search needs
-
-same-length-5 : tie.Need-same-length-5
-same-length-5 c = search needs
-
-same-length-6 : tie.Need-same-length-6
-same-length-6 c = search needs
-
 returns-3 : tie.Need-returns-3
 returns-3 c =
     let a = c .before .before .before .before .before .before .before .before .before .before .before .before .before .before .before .before .before .before .before .before .before .before .before .before .before .before .before .before .before .args in
@@ -93,20 +66,20 @@ pub new-root-spec : {M : Type 1} → statement M
 new-root-spec =
     tie.close
     (tie.spec
-    not-grown-requires
+    (λ c κs. search needs)
     returns
     last-of-requires
-    over-requires
+    (λ c κs. search needs)
     fill-requires
-    not-grown-requires-2
-    same-length
-    same-length-2
-    same-length-3
+    (λ c κs. search needs)
+    (λ c. search needs)
+    (λ c. search needs)
+    (λ c. search needs)
     returns-2
     write-node-requires
     add-t29
     sub-t30
-    same-length-4
-    same-length-5
-    same-length-6
+    (λ c. search needs)
+    (λ c. search needs)
+    (λ c. search needs)
     returns-3)

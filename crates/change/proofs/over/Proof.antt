@@ -11,18 +11,6 @@ use Rattle.spot.specs.declared.Spot.{Spot}
 use Rattle.change.proofs.over.Statement.{statement}
 use Rattle.change.proofs.over.Tie as tie
 
-array-set-from-list : tie.Need-array-set-from-list
-array-set-from-list c = search needs
-
-empty-requires : tie.Need-empty-requires
-empty-requires c κs = search needs
-
-empty-requires-2 : tie.Need-empty-requires-2
-empty-requires-2 c κs = search needs
-
-empty-keys-requires : tie.Need-empty-keys-requires
-empty-keys-requires c κs = search needs
-
 returns : tie.Need-returns
 returns c =
     let p = c .before .before .empty .ensures in
@@ -46,4 +34,4 @@ returns c =
 pub over-spec : {M : Type 1} → statement M
 over-spec =
     tie.close
-    (tie.spec array-set-from-list empty-requires empty-requires-2 empty-keys-requires returns)
+    (tie.spec (λ c. search needs) (λ c κs. search needs) (λ c κs. search needs) (λ c κs. search needs) returns)

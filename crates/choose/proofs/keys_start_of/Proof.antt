@@ -9,15 +9,6 @@ use Rattle.choose.proofs.Chosen.{start-later}
 use Rattle.choose.proofs.keys_start_of.Statement.{statement}
 use Rattle.choose.proofs.keys_start_of.Tie as tie
 
-returns : tie.Need-returns
-returns c = search needs
-
-low-at-requires : tie.Need-low-at-requires
-low-at-requires c κs = search needs
-
-key-position-requires : tie.Need-key-position-requires
-key-position-requires c κs = search needs
-
 returns-2 : tie.Need-returns-2
 returns-2 c =
     let s = c .before .before .before in
@@ -27,4 +18,4 @@ returns-2 c =
     ∙ start-later (entriesOf (s .args .es)) (named b) (b .n) (s .args .i) (c .before .before .if1 .left)
 
 pub keys-start-of-spec : {M : Type 1} → statement M
-keys-start-of-spec = tie.close (tie.spec returns low-at-requires key-position-requires returns-2)
+keys-start-of-spec = tie.close (tie.spec (λ c. search needs) (λ c κs. search needs) (λ c κs. search needs) returns-2)

@@ -9,12 +9,6 @@ use Rattle.choose.proofs.Chosen.{low-is}
 use Rattle.choose.proofs.low_at.Statement.{statement}
 use Rattle.choose.proofs.low_at.Tie as tie
 
-mul-result : tie.Need-mul-result
-mul-result c = search needs
-
-element-copy-out-result : tie.Need-element-copy-out-result
-element-copy-out-result c = search needs
-
 long : (c : tie.Start) → length (c .args .t1 .list) ≡ 8
 long c = search (needs, length-image)
 
@@ -23,4 +17,4 @@ returns c =
     low-is (c .args .t1 .list) (c .args .t1 .n) (c .args .i) (omega (arith, long c, c .pre .1)) (c .pre .0)
 
 pub low-at-spec : {M : Type 1} → statement M
-low-at-spec = tie.close (tie.spec mul-result element-copy-out-result returns)
+low-at-spec = tie.close (tie.spec (λ c. search needs) (λ c. search needs) returns)

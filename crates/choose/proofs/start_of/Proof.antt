@@ -10,15 +10,6 @@ use Rattle.choose.proofs.Chosen.{start-later}
 use Rattle.choose.proofs.start_of.Statement.{statement}
 use Rattle.choose.proofs.start_of.Tie as tie
 
-returns : tie.Need-returns
-returns c = search needs
-
-low-at-requires : tie.Need-low-at-requires
-low-at-requires c κs = search needs
-
-position-requires : tie.Need-position-requires
-position-requires c κs = search needs
-
 returns-2 : tie.Need-returns-2
 returns-2 c =
     let s = c .before .before .before in
@@ -28,4 +19,4 @@ returns-2 c =
     ∙ start-later (entriesOf (s .args .es)) (keys (held b)) (b .n) (s .args .i) (c .before .before .if1 .left)
 
 pub start-of-spec : {M : Type 1} → statement M
-start-of-spec = tie.close (tie.spec returns low-at-requires position-requires returns-2)
+start-of-spec = tie.close (tie.spec (λ c. search needs) (λ c κs. search needs) (λ c κs. search needs) returns-2)

@@ -11,15 +11,6 @@ use Rattle.commands.proofs.obey.Tie as tie
 returns : tie.Need-returns
 returns c = not-obeyed _ _ _ _ _ _ (c .if1 .taken)
 
-parse-requires : tie.Need-parse-requires
-parse-requires c κs = search needs
-
-room-for-requires : tie.Need-room-for-requires
-room-for-requires c κs = search needs
-
-slice-relend-prefix-carry-out : tie.Need-slice-relend-prefix-carry-out
-slice-relend-prefix-carry-out c = search needs
-
 slice-aggregate-carry-out : tie.Need-slice-aggregate-carry-out
 slice-aggregate-carry-out c =
     let p = c .before .before .before in
@@ -29,21 +20,6 @@ carry-out-requires : tie.Need-carry-out-requires
 carry-out-requires c κs =
     let p = c .before .before .before .before .before in
     room-printable (p .before .before .before .before .before .before .before .before .before .args .output .now) _ (p .room-for .result) (p .room-for .ensures .0) (p .room-for .ensures .1) (omega arith)
-
-same-length : tie.Need-same-length
-same-length c = search needs
-
-same-length-2 : tie.Need-same-length-2
-same-length-2 c = search needs
-
-same-length-3 : tie.Need-same-length-3
-same-length-3 c = search needs
-
-same-length-4 : tie.Need-same-length-4
-same-length-4 c = search needs
-
-same-length-5 : tie.Need-same-length-5
-same-length-5 c = search needs
 
 returns-2 : tie.Need-returns-2
 returns-2 c =
@@ -62,14 +38,14 @@ obey-spec =
     tie.close
     (tie.spec
     returns
-    parse-requires
-    room-for-requires
-    slice-relend-prefix-carry-out
+    (λ c κs. search needs)
+    (λ c κs. search needs)
+    (λ c. search needs)
     slice-aggregate-carry-out
     carry-out-requires
-    same-length
-    same-length-2
-    same-length-3
-    same-length-4
-    same-length-5
+    (λ c. search needs)
+    (λ c. search needs)
+    (λ c. search needs)
+    (λ c. search needs)
+    (λ c. search needs)
     returns-2)

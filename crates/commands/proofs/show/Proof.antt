@@ -1,7 +1,6 @@
 -- `commands::show` meets its contract: the spots, or the line of the refusal.
 -- Assumes nothing.
 use borrow.Author.Needs.{needs}
-use native.Mathlib.Omega.{arith}
 use lib.ListN.{length}
 use Rattle.text.proofs.Written.{wrote-within}
 use Rattle.commands.specs.Obeyed.{spotsText}
@@ -9,17 +8,11 @@ use Rattle.commands.proofs.Telling.{lists-spots, lists-none}
 use Rattle.commands.proofs.show.Statement.{statement}
 use Rattle.commands.proofs.show.Tie as tie
 
-cast-write-spots : tie.Need-cast-write-spots
-cast-write-spots c = search needs
-
 write-spots-requires : tie.Need-write-spots-requires
 write-spots-requires c κs =
     let p = c .before .before .before .before .before .before .pre in
     let e = c .before .before .if1 .taken in
     (search needs, p .held e, p .room e)
-
-same-length : tie.Need-same-length
-same-length c = search needs
 
 returns : tie.Need-returns
 returns c =
@@ -28,12 +21,6 @@ returns c =
     let e = p .if1 .taken in
     wrote-within (length (s .out .now)) (spotsText (s .a) (s .output .now)) (p .before .before .before .before .pre .room e) (lists-spots (s .a) (s .output .now) e)
     (c .before .before .write-spots .ensures)
-
-write-refusal-line-requires : tie.Need-write-refusal-line-requires
-write-refusal-line-requires c κs = search needs
-
-same-length-2 : tie.Need-same-length-2
-same-length-2 c = search needs
 
 returns-2 : tie.Need-returns-2
 returns-2 c =
@@ -46,10 +33,10 @@ pub show-spec : {M : Type 1} → statement M
 show-spec =
     tie.close
     (tie.spec
-    cast-write-spots
+    (λ c. search needs)
     write-spots-requires
-    same-length
+    (λ c. search needs)
     returns
-    write-refusal-line-requires
-    same-length-2
+    (λ c κs. search needs)
+    (λ c. search needs)
     returns-2)

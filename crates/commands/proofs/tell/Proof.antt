@@ -13,16 +13,10 @@ returns c =
     let s = c .before .before .before .args in
     wrote-within 13 (changeText (s .a)) (omega arith) (says-nothing (s .a) (c .if1 .taken)) (wrote-none (s .out .now) 13)
 
-write-refusal-line-requires : tie.Need-write-refusal-line-requires
-write-refusal-line-requires c κs = search needs
-
-same-length : tie.Need-same-length
-same-length c = search needs
-
 returns-2 : tie.Need-returns-2
 returns-2 c =
     let s = c .before .before .before .before .before .before .before .args in
     wrote-within 13 (changeText (s .a)) (omega arith) (says-refusal (s .a) (c .before .before .before .before .if1 .left)) (c .before .before .write-refusal-line .ensures)
 
 pub tell-spec : {M : Type 1} → statement M
-tell-spec = tie.close (tie.spec returns write-refusal-line-requires same-length returns-2)
+tell-spec = tie.close (tie.spec returns (λ c κs. search needs) (λ c. search needs) returns-2)

@@ -5,18 +5,6 @@ use Rattle.commands.proofs.Lines.{all}
 use Rattle.commands.proofs.write_spots.Statement.{statement}
 use Rattle.commands.proofs.write_spots.Tie as tie
 
-cast-write-count-line : tie.Need-cast-write-count-line
-cast-write-count-line c = search needs
-
-write-count-line-requires : tie.Need-write-count-line-requires
-write-count-line-requires c κs = search needs
-
-write-lines-requires : tie.Need-write-lines-requires
-write-lines-requires c κs = search needs
-
-same-length : tie.Need-same-length
-same-length c = search needs
-
 returns : tie.Need-returns
 returns c =
     let w = c .before .before .before .before .before .before in
@@ -27,8 +15,8 @@ pub write-spots-spec : {M : Type 1} → statement M
 write-spots-spec =
     tie.close
     (tie.spec
-    cast-write-count-line
-    write-count-line-requires
-    write-lines-requires
-    same-length
+    (λ c. search needs)
+    (λ c κs. search needs)
+    (λ c κs. search needs)
+    (λ c. search needs)
     returns)

@@ -17,11 +17,5 @@ returns c =
     let none : held (a .gathered) ≡ [] = ap (λ k. take k (a .gathered .spots)) (c .if1 .taken) in
     (omega arith, sym (ap (λ (l : List Spot). merged l (held (a .b))) none ∙ merged-none (held (a .b))), c .before .pre .1)
 
-merge-requires : tie.Need-merge-requires
-merge-requires c κs = search needs
-
-returns-2 : tie.Need-returns-2
-returns-2 c = search needs
-
 pub bring-in-spec : {M : Type 1} → statement M
-bring-in-spec = tie.close (tie.spec returns merge-requires returns-2)
+bring-in-spec = tie.close (tie.spec returns (λ c κs. search needs) (λ c. search needs))

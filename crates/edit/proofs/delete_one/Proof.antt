@@ -12,18 +12,6 @@ use Rattle.edit.proofs.Buffered.{key-gone, deleted-high, deleted-low}
 use Rattle.edit.proofs.delete_one.Statement.{statement}
 use Rattle.edit.proofs.delete_one.Tie as tie
 
-without-requires : tie.Need-without-requires
-without-requires c κs = search needs
-
-without-requires-2 : tie.Need-without-requires-2
-without-requires-2 c κs = search needs
-
-without-key-requires : tie.Need-without-key-requires
-without-key-requires c κs = search needs
-
-rank-key-requires : tie.Need-rank-key-requires
-rank-key-requires c κs = search needs
-
 put-key-requires : tie.Need-put-key-requires
 put-key-requires c κs =
     let w = c .before .before .before .without-key in
@@ -70,10 +58,10 @@ pub delete-one-spec : {M : Type 1} → statement M
 delete-one-spec =
     tie.close
     (tie.spec
-    without-requires
-    without-requires-2
-    without-key-requires
-    rank-key-requires
+    (λ c κs. search needs)
+    (λ c κs. search needs)
+    (λ c κs. search needs)
+    (λ c κs. search needs)
     put-key-requires
     returns
     returns-2)

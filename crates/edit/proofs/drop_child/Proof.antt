@@ -7,9 +7,6 @@ use Rattle.edit.proofs.Buffered.{same-held}
 use Rattle.edit.proofs.drop_child.Statement.{statement}
 use Rattle.edit.proofs.drop_child.Tie as tie
 
-keys-under-requires : tie.Need-keys-under-requires
-keys-under-requires c κs = search needs
-
 returns : tie.Need-returns
 returns c =
     let s = c .before .before .before .before in
@@ -25,4 +22,4 @@ returns c =
     }
 
 pub drop-child-spec : {M : Type 1} → statement M
-drop-child-spec = tie.close (tie.spec keys-under-requires returns)
+drop-child-spec = tie.close (tie.spec (λ c κs. search needs) returns)

@@ -28,12 +28,6 @@ returns c =
       size = refl;
     }
 
-highest-requires : tie.Need-highest-requires
-highest-requires c κs = search needs
-
-lowest-requires : tie.Need-lowest-requires
-lowest-requires c κs = search needs
-
 returns-2 : tie.Need-returns-2
 returns-2 c =
     let s = c .before .before .before in
@@ -49,4 +43,4 @@ returns-2 c =
     }
 
 pub entry-for-spec : {M : Type 1} → statement M
-entry-for-spec = tie.close (tie.spec returns highest-requires lowest-requires returns-2)
+entry-for-spec = tie.close (tie.spec returns (λ c κs. search needs) (λ c κs. search needs) returns-2)

@@ -10,12 +10,6 @@ use Rattle.edit.proofs.Buffered.{inserts-one, edited-same}
 use Rattle.edit.proofs.insert_all.Statement.{statement}
 use Rattle.edit.proofs.insert_all.Tie as tie
 
-element-copy-out-s : tie.Need-element-copy-out-s
-element-copy-out-s c = search needs
-
-insert-one-requires : tie.Need-insert-one-requires
-insert-one-requires c κs = search needs
-
 long : (c : tie.Start) → length (c .args .t2 .spots) ≡ 80
 long c = search (needs, length-image)
 
@@ -26,11 +20,5 @@ returns c =
     let one : a .t2 .n ≡ 1 = c .before .before .if1 .taken in
     edited-same (c .insert-one .ensures) (omega arith) (omega arith) (omega arith) (inserts-one (a .r) (a .t2 .spots) (a .t2 .n) (omega (arith, long s)) (heldIn (a .n)) one)
 
-insert-parts-requires : tie.Need-insert-parts-requires
-insert-parts-requires c κs = search needs
-
-returns-2 : tie.Need-returns-2
-returns-2 c = search needs
-
 pub insert-all-spec : {M : Type 1} → statement M
-insert-all-spec = tie.close (tie.spec element-copy-out-s insert-one-requires returns insert-parts-requires returns-2)
+insert-all-spec = tie.close (tie.spec (λ c. search needs) (λ c κs. search needs) returns (λ c κs. search needs) (λ c. search needs))

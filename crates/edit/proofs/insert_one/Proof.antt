@@ -15,18 +15,6 @@ use Rattle.edit.proofs.Buffered.{spot-gone, inserted-high, inserted-low
 use Rattle.edit.proofs.insert_one.Statement.{statement}
 use Rattle.edit.proofs.insert_one.Tie as tie
 
-without-requires : tie.Need-without-requires
-without-requires c κs = search needs
-
-without-requires-2 : tie.Need-without-requires-2
-without-requires-2 c κs = search needs
-
-without-key-requires : tie.Need-without-key-requires
-without-key-requires c κs = search needs
-
-rank-key-requires : tie.Need-rank-key-requires
-rank-key-requires c κs = search needs
-
 put-requires : tie.Need-put-requires
 put-requires c κs =
     let w = c .before .before .before .before .before .without in
@@ -81,10 +69,10 @@ pub insert-one-spec : {M : Type 1} → statement M
 insert-one-spec =
     tie.close
     (tie.spec
-    without-requires
-    without-requires-2
-    without-key-requires
-    rank-key-requires
+    (λ c κs. search needs)
+    (λ c κs. search needs)
+    (λ c κs. search needs)
+    (λ c κs. search needs)
     put-requires
     returns
     put-requires-2

@@ -13,18 +13,6 @@ use Rattle.edit.proofs.left_half.Tie as tie
 long : (c : tie.Start) → length (c .args .n .entries .list) ≡ 8
 long c = search (needs, length-image)
 
-entries-before-requires : tie.Need-entries-before-requires
-entries-before-requires c κs = search needs
-
-below-key-requires : tie.Need-below-key-requires
-below-key-requires c κs = search needs
-
-below-key-requires-2 : tie.Need-below-key-requires-2
-below-key-requires-2 c κs = search needs
-
-keys-below-requires : tie.Need-keys-below-requires
-keys-below-requires c κs = search needs
-
 returns : tie.Need-returns
 returns c =
     let s = c .before .before .before .before in
@@ -48,8 +36,8 @@ pub left-half-spec : {M : Type 1} → statement M
 left-half-spec =
     tie.close
     (tie.spec
-    entries-before-requires
-    below-key-requires
-    below-key-requires-2
-    keys-below-requires
+    (λ c κs. search needs)
+    (λ c κs. search needs)
+    (λ c κs. search needs)
+    (λ c κs. search needs)
     returns)

@@ -7,12 +7,6 @@ use Rattle.edit.proofs.Buffered.{same-held}
 use Rattle.edit.proofs.raise_child.Statement.{statement}
 use Rattle.edit.proofs.raise_child.Tie as tie
 
-put-requires : tie.Need-put-requires
-put-requires c κs = search needs
-
-keys-under-requires : tie.Need-keys-under-requires
-keys-under-requires c κs = search needs
-
 returns : tie.Need-returns
 returns c =
     let s = c .before .before .before .before in
@@ -29,4 +23,4 @@ returns c =
     }
 
 pub raise-child-spec : {M : Type 1} → statement M
-raise-child-spec = tie.close (tie.spec put-requires keys-under-requires returns)
+raise-child-spec = tie.close (tie.spec (λ c κs. search needs) (λ c κs. search needs) returns)

@@ -7,15 +7,6 @@ use Rattle.edit.proofs.Buffered.{same-held}
 use Rattle.edit.proofs.raise_insert.Statement.{statement}
 use Rattle.edit.proofs.raise_insert.Tie as tie
 
-put-requires : tie.Need-put-requires
-put-requires c κs = search needs
-
-without-requires : tie.Need-without-requires
-without-requires c κs = search needs
-
-keys-under-requires : tie.Need-keys-under-requires
-keys-under-requires c κs = search needs
-
 returns : tie.Need-returns
 returns c =
     let p = c .before .before .before .put .ensures in
@@ -32,4 +23,4 @@ returns c =
     }
 
 pub raise-insert-spec : {M : Type 1} → statement M
-raise-insert-spec = tie.close (tie.spec put-requires without-requires keys-under-requires returns)
+raise-insert-spec = tie.close (tie.spec (λ c κs. search needs) (λ c κs. search needs) (λ c κs. search needs) returns)

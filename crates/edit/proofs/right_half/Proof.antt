@@ -14,24 +14,6 @@ use Rattle.edit.proofs.right_half.Tie as tie
 long : (c : tie.Start) → length (c .args .n .entries .list) ≡ 8
 long c = search (needs, length-image)
 
-entries-from-requires : tie.Need-entries-from-requires
-entries-from-requires c κs = search needs
-
-entry-requires : tie.Need-entry-requires
-entry-requires c κs = search needs
-
-replace-requires : tie.Need-replace-requires
-replace-requires c κs = search needs
-
-from-key-requires : tie.Need-from-key-requires
-from-key-requires c κs = search needs
-
-from-key-requires-2 : tie.Need-from-key-requires-2
-from-key-requires-2 c κs = search needs
-
-keys-from-requires : tie.Need-keys-from-requires
-keys-from-requires c κs = search needs
-
 returns : tie.Need-returns
 returns c =
     let s = c .before .before .before .before .before .before in
@@ -58,10 +40,10 @@ pub right-half-spec : {M : Type 1} → statement M
 right-half-spec =
     tie.close
     (tie.spec
-    entries-from-requires
-    entry-requires
-    replace-requires
-    from-key-requires
-    from-key-requires-2
-    keys-from-requires
+    (λ c κs. search needs)
+    (λ c κs. search needs)
+    (λ c κs. search needs)
+    (λ c κs. search needs)
+    (λ c κs. search needs)
+    (λ c κs. search needs)
     returns)

@@ -23,9 +23,6 @@ lowest-requires c κs =
     let n = c .before .before .args .n in
     (c .before .before .pre .points, omega (arith, either-no (n .level) 0 (n .points .n) 32 (c .if1 .left) .1))
 
-rank-key-requires : tie.Need-rank-key-requires
-rank-key-requires c κs = search needs
-
 returns-2 : tie.Need-returns-2
 returns-2 c =
     let n = c .before .before .before .before .args .n in
@@ -36,4 +33,4 @@ returns-2 c =
     }
 
 pub threshold-spec : {M : Type 1} → statement M
-threshold-spec = tie.close (tie.spec returns lowest-requires rank-key-requires returns-2)
+threshold-spec = tie.close (tie.spec returns lowest-requires (λ c κs. search needs) returns-2)

@@ -9,9 +9,6 @@ use Rattle.fill.proofs.Turns.{replaced-ready, carry-failed, carry-child
 use Rattle.fill.proofs.carry_out.Statement.{statement}
 use Rattle.fill.proofs.carry_out.Tie as tie
 
-failed-requires : tie.Need-failed-requires
-failed-requires c κs = search needs
-
 returns : tie.Need-returns
 returns c = let e = c .failed .ensures in carry-failed (not-true _ (c .before .if1 .taken)) (e .0) (e .2) (e .3)
 
@@ -34,18 +31,12 @@ from-top-requires c κs = let w = c .before .before .before .before .before .pre
 returns-3 : tie.Need-returns-3
 returns-3 c = carry-child (not-false _ (c .before .before .before .before .if1 .left)) (c .before .before .before .if2 .taken) (c .before .if3 .left) (record { next = c .before .before .with-child .result; replaced = c .before .before .with-child .ensures; up = c .from-top .ensures })
 
-from-inserts-requires-2 : tie.Need-from-inserts-requires-2
-from-inserts-requires-2 c κs = search needs
-
 returns-4 : tie.Need-returns-4
 returns-4 c = carry-insert (not-false _ (c .before .before .before .if1 .left)) (c .before .before .if2 .left) (c .before .if4 .taken) (c .from-inserts2 .ensures)
-
-without-deletes-requires : tie.Need-without-deletes-requires
-without-deletes-requires c κs = search needs
 
 returns-5 : tie.Need-returns-5
 returns-5 c = carry-over (not-false _ (c .before .before .before .if1 .left)) (c .before .before .if2 .left) (c .before .if4 .left) (record { node = c .without-deletes .result; is = refl; edited = c .without-deletes .ensures })
 
 pub carry-out-spec : {M : Type 1} → statement M
 carry-out-spec =
-    tie.close (tie.spec failed-requires returns with-child-requires from-inserts-requires returns-2 from-top-requires returns-3 from-inserts-requires-2 returns-4 without-deletes-requires returns-5)
+    tie.close (tie.spec (λ c κs. search needs) returns with-child-requires from-inserts-requires returns-2 from-top-requires returns-3 (λ c κs. search needs) returns-4 (λ c κs. search needs) returns-5)

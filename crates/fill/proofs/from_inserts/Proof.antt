@@ -8,12 +8,6 @@ use Rattle.fill.proofs.Works.{lifted-failed}
 use Rattle.fill.proofs.from_inserts.Statement.{statement}
 use Rattle.fill.proofs.from_inserts.Tie as tie
 
-holds-requires : tie.Need-holds-requires
-holds-requires c κs = search needs
-
-failed-requires : tie.Need-failed-requires
-failed-requires c κs = search needs
-
 returns : tie.Need-returns
 returns c =
     let s = c .before .before .before in
@@ -25,8 +19,5 @@ raise-insert-requires c κs =
     let s = c .before .before in
     (s .pre .0, omega (arith, s .pre .1), sym (c .before .holds .ensures) ∙ c .if1 .left)
 
-returns-2 : tie.Need-returns-2
-returns-2 c = search needs
-
 pub from-inserts-spec : {M : Type 1} → statement M
-from-inserts-spec = tie.close (tie.spec holds-requires failed-requires returns raise-insert-requires returns-2)
+from-inserts-spec = tie.close (tie.spec (λ c κs. search needs) (λ c κs. search needs) returns raise-insert-requires (λ c. search needs))

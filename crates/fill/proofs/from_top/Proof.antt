@@ -8,12 +8,6 @@ use Rattle.fill.proofs.Works.{lifted-failed}
 use Rattle.fill.proofs.from_top.Statement.{statement}
 use Rattle.fill.proofs.from_top.Tie as tie
 
-holds-key-requires : tie.Need-holds-key-requires
-holds-key-requires c κs = search needs
-
-drop-child-requires : tie.Need-drop-child-requires
-drop-child-requires c κs = search needs
-
 returns : tie.Need-returns
 returns c =
     let d = c .drop-child .ensures in
@@ -23,12 +17,6 @@ returns c =
       raised = λ h g. absurd (true≢false (sym there ∙ g));
       dropped = λ h g. d .holds;
     }
-
-holds-requires : tie.Need-holds-requires
-holds-requires c κs = search needs
-
-failed-requires : tie.Need-failed-requires
-failed-requires c κs = search needs
 
 returns-2 : tie.Need-returns-2
 returns-2 c =
@@ -57,4 +45,4 @@ returns-3 c =
 
 pub from-top-spec : {M : Type 1} → statement M
 from-top-spec =
-    tie.close (tie.spec holds-key-requires drop-child-requires returns holds-requires failed-requires returns-2 raise-child-requires returns-3)
+    tie.close (tie.spec (λ c κs. search needs) (λ c κs. search needs) returns (λ c κs. search needs) (λ c κs. search needs) returns-2 raise-child-requires returns-3)

@@ -7,20 +7,8 @@ use Rattle.fill.proofs.Turns.{child-bare, child-above, both-same, tops-
 use Rattle.fill.proofs.next_turn.Statement.{statement}
 use Rattle.fill.proofs.next_turn.Tie as tie
 
-best-child-requires : tie.Need-best-child-requires
-best-child-requires c κs = search needs
-
-turn-above-requires : tie.Need-turn-above-requires
-turn-above-requires c κs = search needs
-
 returns : tie.Need-returns
 returns c = let e = c .turn-above .ensures in plan-over (e .0) (e .1) (e .2) (record { bare = c .before .before .if1 .taken; best = c .before .before .before .best-child .ensures; outside = c .before .if2 .taken })
-
-entry-requires : tie.Need-entry-requires
-entry-requires c κs = search needs
-
-turn-below-requires : tie.Need-turn-below-requires
-turn-below-requires c κs = search needs
 
 returns-2 : tie.Need-returns-2
 returns-2 c = plan-child (c .turn-below .ensures) (c .before .entry .ensures) (child-bare (c .before .before .before .before .before .args .n) (c .before .before .before .before .best-child .result) (c .before .before .if2 .left) (c .before .before .before .before .best-child .ensures) (c .before .before .before .if1 .taken))
@@ -28,23 +16,8 @@ returns-2 c = plan-child (c .turn-below .ensures) (c .before .entry .ensures) (c
 highest-requires : tie.Need-highest-requires
 highest-requires c κs = let h = c .if1 .left in (c .before .before .pre .0 .inserts, omega (arith, h))
 
-turn-above-requires-2 : tie.Need-turn-above-requires-2
-turn-above-requires-2 c κs = search needs
-
 returns-3 : tie.Need-returns-3
 returns-3 c = let e = c .turn-above2 .ensures in plan-insert (e .0) (e .1) (e .3) (record { highest = c .before .before .highest .ensures; tops = tops-bare (c .before .before .before .before .before .args .n) (c .before .before .before .before .best-child .result) (c .before .before .before .before .best-child .ensures) (c .before .if3 .taken) })
-
-entry-requires-2 : tie.Need-entry-requires-2
-entry-requires-2 c κs = search needs
-
-rank-key-requires : tie.Need-rank-key-requires
-rank-key-requires c κs = search needs
-
-rank-key-requires-2 : tie.Need-rank-key-requires-2
-rank-key-requires-2 c κs = search needs
-
-turn-below-requires-2 : tie.Need-turn-below-requires-2
-turn-below-requires-2 c κs = search needs
 
 returns-4 : tie.Need-returns-4
 returns-4 c =
@@ -53,16 +26,10 @@ returns-4 c =
     (child-above (c .before .before .before .before .before .before .before .before .before .args .n) (c .before .before .before .before .before .before .before .before .best-child .result) (c .before .before .before .before .entry2 .result) (c .before .before .before .before .before .before .highest .result) (c .before .before .before .before .before .if3 .left) (c .before .before .before .before .before .before .before .before .best-child .ensures) (c .before .before .before .before .entry2 .ensures) (c .before .before .before .before .before .before .highest .ensures)
     (omega (arith, h, c .before .before .before .rank-key .ensures, c .before .before .rank-key2 .ensures)))
 
-turn-below-requires-3 : tie.Need-turn-below-requires-3
-turn-below-requires-3 c κs = search needs
-
 returns-5 : tie.Need-returns-5
 returns-5 c =
     plan-both (c .turn-below3 .ensures) (c .before .before .before .before .before .before .before .entry2 .ensures)
     (both-same (c .before .before .before .before .before .before .before .before .before .before .before .before .args .n) (c .before .before .before .before .before .before .before .before .before .before .before .best-child .result) (c .before .before .before .before .before .before .before .entry2 .result) (c .before .before .before .before .before .before .before .before .before .highest .result) (c .before .before .before .before .before .before .before .before .if3 .left) (c .before .before .before .before .before .before .before .before .before .before .before .best-child .ensures) (c .before .before .before .before .before .before .before .entry2 .ensures) (c .before .before .before .before .before .before .before .before .before .highest .ensures) (c .before .if5 .taken))
-
-turn-above-requires-3 : tie.Need-turn-above-requires-3
-turn-above-requires-3 c κs = search needs
 
 returns-6 : tie.Need-returns-6
 returns-6 c =
@@ -79,4 +46,4 @@ returns-6 c =
 
 pub next-turn-spec : {M : Type 1} → statement M
 next-turn-spec =
-    tie.close (tie.spec best-child-requires turn-above-requires returns entry-requires turn-below-requires returns-2 highest-requires turn-above-requires-2 returns-3 entry-requires-2 rank-key-requires rank-key-requires-2 turn-below-requires-2 returns-4 turn-below-requires-3 returns-5 turn-above-requires-3 returns-6)
+    tie.close (tie.spec (λ c κs. search needs) (λ c κs. search needs) returns (λ c κs. search needs) (λ c κs. search needs) returns-2 highest-requires (λ c κs. search needs) returns-3 (λ c κs. search needs) (λ c κs. search needs) (λ c κs. search needs) (λ c κs. search needs) returns-4 (λ c κs. search needs) returns-5 (λ c κs. search needs) returns-6)

@@ -8,9 +8,6 @@ use Rattle.edit.proofs.Buffered.{same-held}
 use Rattle.fill.proofs.without_deletes.Statement.{statement}
 use Rattle.fill.proofs.without_deletes.Tie as tie
 
-empty-keys-requires : tie.Need-empty-keys-requires
-empty-keys-requires c κs = search needs
-
 returns : tie.Need-returns
 returns c =
     let s = c .before .before .before .before in
@@ -26,4 +23,4 @@ returns c =
     }
 
 pub without-deletes-spec : {M : Type 1} → statement M
-without-deletes-spec = tie.close (tie.spec empty-keys-requires returns)
+without-deletes-spec = tie.close (tie.spec (λ c κs. search needs) returns)

@@ -7,9 +7,6 @@ use Rattle.edit.proofs.Buffered.{same-held}
 use Rattle.fill.proofs.without_point.Statement.{statement}
 use Rattle.fill.proofs.without_point.Tie as tie
 
-without-requires : tie.Need-without-requires
-without-requires c κs = search needs
-
 returns : tie.Need-returns
 returns c =
     let s = c .before .before .before .before in
@@ -25,4 +22,4 @@ returns c =
     }
 
 pub without-point-spec : {M : Type 1} → statement M
-without-point-spec = tie.close (tie.spec without-requires returns)
+without-point-spec = tie.close (tie.spec (λ c κs. search needs) returns)

@@ -18,24 +18,6 @@ use Rattle.frontier.proofs.kid_key.Tie as tie
 count : (c : tie.After-front-of) → let s = c .before .before .before in c .front-of .result .c ≡ kidCount (now (s .args .t)) (s .args .b)
 count c = let s = c .before .before .before in part-sizes (now (s .args .t)) (s .args .b) (s .pre) (c .front-of .ensures .0) .children
 
-mul-from : tie.Need-mul-from
-mul-from c = search needs
-
-add-to : tie.Need-add-to
-add-to c = search needs
-
-sub-front-of : tie.Need-sub-front-of
-sub-front-of c = search needs
-
-part-front-of-start : tie.Need-part-front-of-start
-part-front-of-start c = search needs
-
-part-front-of-end : tie.Need-part-front-of-end
-part-front-of-end c = search needs
-
-front-of-requires : tie.Need-front-of-requires
-front-of-requires c κs = search needs
-
 returns : tie.Need-returns
 returns c =
     let start = c .before .before .before .before in
@@ -44,9 +26,6 @@ returns c =
 
 kid-of-requires : tie.Need-kid-of-requires
 kid-of-requires c κs = (c .before .before .before .before .pre, omega (arith, c .if1 .left, count (c .before)))
-
-admits-child-requires : tie.Need-admits-child-requires
-admits-child-requires c κs = search needs
 
 returns-2 : tie.Need-returns-2
 returns-2 c =
@@ -57,21 +36,6 @@ returns-2 c =
     key-none (now (a .t)) (a .b) (a .span) (a .q) (a .i)
     (cell-no (now (a .t)) (a .b) (a .span) (a .q) (a .i) (omega (arith, at-kid .before .if1 .left, count at-front)) (k .entry) (k .span) (c .before .admits-child .ensures)
     (not-true _ (c .if2 .taken)))
-
-rank-key-requires : tie.Need-rank-key-requires
-rank-key-requires c κs = search needs
-
-add-cell : tie.Need-add-cell
-add-cell c = search needs
-
-mul-result : tie.Need-mul-result
-mul-result c = search needs
-
-sub-result : tie.Need-sub-result
-sub-result c = search needs
-
-add-result : tie.Need-add-result
-add-result c = search needs
 
 returns-3 : tie.Need-returns-3
 returns-3 c =
@@ -91,19 +55,19 @@ pub kid-key-spec : {M : Type 1} → statement M
 kid-key-spec =
     tie.close
     (tie.spec
-    mul-from
-    add-to
-    sub-front-of
-    part-front-of-start
-    part-front-of-end
-    front-of-requires
+    (λ c. search needs)
+    (λ c. search needs)
+    (λ c. search needs)
+    (λ c. search needs)
+    (λ c. search needs)
+    (λ c κs. search needs)
     returns
     kid-of-requires
-    admits-child-requires
+    (λ c κs. search needs)
     returns-2
-    rank-key-requires
-    add-cell
-    mul-result
-    sub-result
-    add-result
+    (λ c κs. search needs)
+    (λ c. search needs)
+    (λ c. search needs)
+    (λ c. search needs)
+    (λ c. search needs)
     returns-3)

@@ -8,12 +8,6 @@ use borrow.Author.Needs.{needs}
 use Rattle.frontier.proofs.kid_place.Statement.{statement}
 use Rattle.frontier.proofs.kid_place.Tie as tie
 
-kid-of-requires : tie.Need-kid-of-requires
-kid-of-requires c κs = search needs
-
-sub-t6 : tie.Need-sub-t6
-sub-t6 c = search needs
-
 returns : tie.Need-returns
 returns c =
     let at-kid = c .before .before in
@@ -22,4 +16,4 @@ returns c =
     ap₂ (λ (e : Entry) (s : Span). record { block = e .block; level = p .level - 1; span = s }) (k .entry) (k .span)
 
 pub kid-place-spec : {M : Type 1} → statement M
-kid-place-spec = tie.close (tie.spec kid-of-requires sub-t6 returns)
+kid-place-spec = tie.close (tie.spec (λ c κs. search needs) (λ c. search needs) returns)

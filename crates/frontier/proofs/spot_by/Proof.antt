@@ -24,29 +24,8 @@ start c = omega (arith, known (c .before) .children, c .points-from .ensures)
 few : (c : tie.After-points-from) → let a = c .before .before .before .before .args in spotsAt (now (a .t)) (a .b) + 12 * a .j + 12 ≤ length (now (a .t))
 few c = let s = c .before .before .before .before in omega (arith, s .pre .0 .inside, spots-fit (now (s .args .t)) (s .args .b) (s .pre .0) (s .args .j) (s .pre .1))
 
-mul-from : tie.Need-mul-from
-mul-from c = search needs
-
-add-to : tie.Need-add-to
-add-to c = search needs
-
-sub-front-of : tie.Need-sub-front-of
-sub-front-of c = search needs
-
-part-front-of-start : tie.Need-part-front-of-start
-part-front-of-start c = search needs
-
-part-front-of-end : tie.Need-part-front-of-end
-part-front-of-end c = search needs
-
-front-of-requires : tie.Need-front-of-requires
-front-of-requires c κs = search needs
-
 points-from-requires : tie.Need-points-from-requires
 points-from-requires c κs = omega (arith, known c .runs .used)
-
-add-read-spot : tie.Need-add-read-spot
-add-read-spot c = search needs
 
 mul-read-spot : tie.Need-mul-read-spot
 mul-read-spot c = omega (arith, few c)
@@ -66,14 +45,14 @@ pub spot-by-spec : {M : Type 1} → statement M
 spot-by-spec =
     tie.close
     (tie.spec
-    mul-from
-    add-to
-    sub-front-of
-    part-front-of-start
-    part-front-of-end
-    front-of-requires
+    (λ c. search needs)
+    (λ c. search needs)
+    (λ c. search needs)
+    (λ c. search needs)
+    (λ c. search needs)
+    (λ c κs. search needs)
     points-from-requires
-    add-read-spot
+    (λ c. search needs)
     mul-read-spot
     add-read-spot-2
     read-spot-requires

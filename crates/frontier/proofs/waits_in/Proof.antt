@@ -14,29 +14,8 @@ use Rattle.frontier.proofs.waits_in.Tie as tie
 known : (c : tie.After-front-of) → let a = c .before .before .before .args in Runs (now (a .t)) (a .b) (c .front-of .result)
 known c = let s = c .before .before .before in part-sizes (now (s .args .t)) (s .args .b) (s .pre) (c .front-of .ensures .0) .runs
 
-mul-from : tie.Need-mul-from
-mul-from c = search needs
-
-add-to : tie.Need-add-to
-add-to c = search needs
-
-sub-front-of : tie.Need-sub-front-of
-sub-front-of c = search needs
-
-part-front-of-start : tie.Need-part-front-of-start
-part-front-of-start c = search needs
-
-part-front-of-end : tie.Need-part-front-of-end
-part-front-of-end c = search needs
-
-front-of-requires : tie.Need-front-of-requires
-front-of-requires c κs = search needs
-
 inserts-from-requires : tie.Need-inserts-from-requires
 inserts-from-requires c κs = omega (arith, known c .used)
-
-add-ai : tie.Need-add-ai
-add-ai c = search needs
 
 has-key-requires : tie.Need-has-key-requires
 has-key-requires c κs =
@@ -56,9 +35,6 @@ returns c =
 
 deletes-from-requires : tie.Need-deletes-from-requires
 deletes-from-requires c κs = omega (arith, known (c .before .before .before) .used)
-
-add-ad : tie.Need-add-ad
-add-ad c = search needs
 
 has-key-requires-2 : tie.Need-has-key-requires-2
 has-key-requires-2 c κs =
@@ -82,17 +58,17 @@ pub waits-in-spec : {M : Type 1} → statement M
 waits-in-spec =
     tie.close
     (tie.spec
-    mul-from
-    add-to
-    sub-front-of
-    part-front-of-start
-    part-front-of-end
-    front-of-requires
+    (λ c. search needs)
+    (λ c. search needs)
+    (λ c. search needs)
+    (λ c. search needs)
+    (λ c. search needs)
+    (λ c κs. search needs)
     inserts-from-requires
-    add-ai
+    (λ c. search needs)
     has-key-requires
     returns
     deletes-from-requires
-    add-ad
+    (λ c. search needs)
     has-key-requires-2
     returns-2)

@@ -10,26 +10,8 @@ use Rattle.journal.proofs.Kept.{kept-refl, kept-save}
 use Rattle.journal.proofs.save.Statement.{statement}
 use Rattle.journal.proofs.save.Tie as tie
 
-test-bit-requires : tie.Need-test-bit-requires
-test-bit-requires c κs = search needs
-
-same-length : tie.Need-same-length
-same-length c = search needs
-
 returns : tie.Need-returns
 returns c = (kept-refl, sym (c .before .test-bit .ensures) ∙ c .if1 .taken)
-
-copy-block-requires : tie.Need-copy-block-requires
-copy-block-requires c κs = search needs
-
-set-bit-requires : tie.Need-set-bit-requires
-set-bit-requires c κs = search needs
-
-same-length-2 : tie.Need-same-length-2
-same-length-2 c = search needs
-
-same-length-3 : tie.Need-same-length-3
-same-length-3 c = search needs
 
 returns-2 : tie.Need-returns-2
 returns-2 c =
@@ -48,11 +30,11 @@ pub save-spec : {M : Type 1} → statement M
 save-spec =
     tie.close
     (tie.spec
-    test-bit-requires
-    same-length
+    (λ c κs. search needs)
+    (λ c. search needs)
     returns
-    copy-block-requires
-    set-bit-requires
-    same-length-2
-    same-length-3
+    (λ c κs. search needs)
+    (λ c κs. search needs)
+    (λ c. search needs)
+    (λ c. search needs)
     returns-2)

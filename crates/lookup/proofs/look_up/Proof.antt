@@ -30,9 +30,6 @@ sub-level c =
     let o = sym (c .before .before .before .header-ok .ensures) ∙ c .before .before .if1 .taken in
     levels-some (now (s .args .t)) o (c .before .root-of .ensures .0) (c .levels-of .ensures .0)
 
-root-span-requires : tie.Need-root-span-requires
-root-span-requires c κs = search needs
-
 look-in-requires : tie.Need-look-in-requires
 look-in-requires c κs =
     let s = c .before .before .before .before .before .before in
@@ -66,7 +63,7 @@ look-up-spec =
     root-of-requires
     levels-of-requires
     sub-level
-    root-span-requires
+    (λ c κs. search needs)
     look-in-requires
     returns
     returns-2)

@@ -12,24 +12,6 @@ use Rattle.lookup.proofs.Finds.{points-find, inserts-find, deletes-has,
 use Rattle.lookup.proofs.node_says.Statement.{statement}
 use Rattle.lookup.proofs.node_says.Tie as tie
 
-mul-from : tie.Need-mul-from
-mul-from c = search needs
-
-add-to : tie.Need-add-to
-add-to c = search needs
-
-sub-front-of : tie.Need-sub-front-of
-sub-front-of c = search needs
-
-part-front-of-start : tie.Need-part-front-of-start
-part-front-of-start c = search needs
-
-part-front-of-end : tie.Need-part-front-of-end
-part-front-of-end c = search needs
-
-front-of-requires : tie.Need-front-of-requires
-front-of-requires c κs = search needs
-
 -- the buffers of the node
 runs : (c : tie.After-front-of) → Runs (now (c .before .before .before .args .t)) (c .before .before .before .args .b) (c .front-of .result)
 runs c =
@@ -40,20 +22,11 @@ runs c =
 points-from-requires : tie.Need-points-from-requires
 points-from-requires c κs = omega (arith, runs c .used)
 
-add-ap : tie.Need-add-ap
-add-ap c = search needs
-
 inserts-from-requires : tie.Need-inserts-from-requires
 inserts-from-requires c κs = omega (arith, runs (c .before) .used)
 
-add-ai : tie.Need-add-ai
-add-ai c = search needs
-
 deletes-from-requires : tie.Need-deletes-from-requires
 deletes-from-requires c κs = omega (arith, runs (c .before .before) .used)
-
-add-ad : tie.Need-add-ad
-add-ad c = search needs
 
 find-run-requires : tie.Need-find-run-requires
 find-run-requires c κs =
@@ -104,18 +77,18 @@ pub node-says-spec : {M : Type 1} → statement M
 node-says-spec =
     tie.close
     (tie.spec
-    mul-from
-    add-to
-    sub-front-of
-    part-front-of-start
-    part-front-of-end
-    front-of-requires
+    (λ c. search needs)
+    (λ c. search needs)
+    (λ c. search needs)
+    (λ c. search needs)
+    (λ c. search needs)
+    (λ c κs. search needs)
     points-from-requires
-    add-ap
+    (λ c. search needs)
     inserts-from-requires
-    add-ai
+    (λ c. search needs)
     deletes-from-requires
-    add-ad
+    (λ c. search needs)
     find-run-requires
     returns
     find-run-requires-2

@@ -9,12 +9,6 @@ use Rattle.node.proofs.Listed.{entry-there}
 use Rattle.node.proofs.entry.Statement.{statement}
 use Rattle.node.proofs.entry.Tie as tie
 
-mul-result : tie.Need-mul-result
-mul-result c = search needs
-
-element-copy-out-result : tie.Need-element-copy-out-result
-element-copy-out-result c = search needs
-
 long : (c : tie.Start) → length (c .args .t1 .list) ≡ 8
 long c = search (needs, length-image)
 
@@ -24,4 +18,4 @@ returns c =
     entry-there (s .args .t1 .list) (s .args .t1 .n) (s .args .i) (omega (arith, long s)) (s .pre .0)
 
 pub entry-spec : {M : Type 1} → statement M
-entry-spec = tie.close (tie.spec mul-result element-copy-out-result returns)
+entry-spec = tie.close (tie.spec (λ c. search needs) (λ c. search needs) returns)

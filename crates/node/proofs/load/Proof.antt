@@ -6,21 +6,6 @@ use Rattle.node.proofs.Loads.{valid-part, loaded-part}
 use Rattle.node.proofs.load.Statement.{statement}
 use Rattle.node.proofs.load.Tie as tie
 
-mul-from : tie.Need-mul-from
-mul-from c = search needs
-
-add-to : tie.Need-add-to
-add-to c = search needs
-
-sub-load-block : tie.Need-sub-load-block
-sub-load-block c = search needs
-
-part-load-block-start : tie.Need-part-load-block-start
-part-load-block-start c = search needs
-
-part-load-block-end : tie.Need-part-load-block-end
-part-load-block-end c = search needs
-
 load-block-requires : tie.Need-load-block-requires
 load-block-requires c κs =
     let s = c .before .before in
@@ -35,10 +20,10 @@ pub load-spec : {M : Type 1} → statement M
 load-spec =
     tie.close
     (tie.spec
-    mul-from
-    add-to
-    sub-load-block
-    part-load-block-start
-    part-load-block-end
+    (λ c. search needs)
+    (λ c. search needs)
+    (λ c. search needs)
+    (λ c. search needs)
+    (λ c. search needs)
     load-block-requires
     returns)

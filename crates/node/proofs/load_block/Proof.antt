@@ -11,14 +11,8 @@ use Rattle.node.proofs.Loads.{Counts, counts, loaded-in}
 use Rattle.node.proofs.load_block.Statement.{statement}
 use Rattle.node.proofs.load_block.Tie as tie
 
-front-of-requires : tie.Need-front-of-requires
-front-of-requires c κs = search needs
-
 counted : (c : tie.After-front-of) → Counts (c .front-of .result)
 counted c = let s = c .before .before in counts (now (s .args .s)) (s .pre) (c .front-of .result) (c .front-of .ensures .0)
-
-count-at-requires : tie.Need-count-at-requires
-count-at-requires c κs = search needs
 
 load-entries-requires : tie.Need-load-entries-requires
 load-entries-requires c κs =
@@ -71,8 +65,8 @@ pub load-block-spec : {M : Type 1} → statement M
 load-block-spec =
     tie.close
     (tie.spec
-    front-of-requires
-    count-at-requires
+    (λ c κs. search needs)
+    (λ c κs. search needs)
     load-entries-requires
     points-from-requires
     load-spots-requires

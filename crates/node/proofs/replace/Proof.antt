@@ -9,12 +9,6 @@ use Rattle.node.proofs.Listed.{replaced}
 use Rattle.node.proofs.replace.Statement.{statement}
 use Rattle.node.proofs.replace.Tie as tie
 
-mul-e : tie.Need-mul-e
-mul-e c = search needs
-
-element-set-from-e : tie.Need-element-set-from-e
-element-set-from-e c = search needs
-
 long : (c : tie.Start) → length (c .args .es .list) ≡ 8
 long c = search (needs, length-image)
 
@@ -24,4 +18,4 @@ returns c =
     (search needs, replaced (a .es .list) (a .es .n) (a .i) (omega (arith, long c)) (c .pre .0) (a .e))
 
 pub replace-spec : {M : Type 1} → statement M
-replace-spec = tie.close (tie.spec mul-e element-set-from-e returns)
+replace-spec = tie.close (tie.spec (λ c. search needs) (λ c. search needs) returns)

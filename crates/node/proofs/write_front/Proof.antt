@@ -6,30 +6,6 @@ use Rattle.node.proofs.Put.{front-written}
 use Rattle.node.proofs.write_front.Statement.{statement}
 use Rattle.node.proofs.write_front.Tie as tie
 
-write16-requires : tie.Need-write16-requires
-write16-requires c κs = search needs
-
-write8-requires : tie.Need-write8-requires
-write8-requires c κs = search needs
-
-write8-requires-2 : tie.Need-write8-requires-2
-write8-requires-2 c κs = search needs
-
-write8-requires-3 : tie.Need-write8-requires-3
-write8-requires-3 c κs = search needs
-
-write8-requires-4 : tie.Need-write8-requires-4
-write8-requires-4 c κs = search needs
-
-write8-requires-5 : tie.Need-write8-requires-5
-write8-requires-5 c κs = search needs
-
-write8-requires-6 : tie.Need-write8-requires-6
-write8-requires-6 c κs = search needs
-
-same-length : tie.Need-same-length
-same-length c = search needs
-
 returns : tie.Need-returns
 returns c =
     let w7 = c .before .before in
@@ -47,12 +23,12 @@ pub write-front-spec : {M : Type 1} → statement M
 write-front-spec =
     tie.close
     (tie.spec
-    write16-requires
-    write8-requires
-    write8-requires-2
-    write8-requires-3
-    write8-requires-4
-    write8-requires-5
-    write8-requires-6
-    same-length
+    (λ c κs. search needs)
+    (λ c κs. search needs)
+    (λ c κs. search needs)
+    (λ c κs. search needs)
+    (λ c κs. search needs)
+    (λ c κs. search needs)
+    (λ c κs. search needs)
+    (λ c. search needs)
     returns)

@@ -10,18 +10,6 @@ use Rattle.node.proofs.Fits.{key-fits}
 use Rattle.node.proofs.write_unless.Statement.{statement}
 use Rattle.node.proofs.write_unless.Tie as tie
 
-write32-requires : tie.Need-write32-requires
-write32-requires c κs = search needs
-
-add-write32 : tie.Need-add-write32
-add-write32 c = search needs
-
-write32-requires-2 : tie.Need-write32-requires-2
-write32-requires-2 c κs = search needs
-
-same-length : tie.Need-same-length
-same-length c = search needs
-
 returns : tie.Need-returns
 unfolding bytesUnless
 returns c =
@@ -30,12 +18,6 @@ returns c =
     let s = w1 .before .before .before .before in
     let a = s .args in
     (rw (w1 .before .before .if1 .taken) (unused-bytes (now (a .s)) (a .at) (a .k) (s .pre) (w1 .write32 .ensures) (w2 .write322 .ensures)), key-fits (a .k) (omega (arith, s .fits .k)))
-
-write-key-requires : tie.Need-write-key-requires
-write-key-requires c κs = search needs
-
-same-length-2 : tie.Need-same-length-2
-same-length-2 c = search needs
 
 returns-2 : tie.Need-returns-2
 unfolding bytesUnless
@@ -49,11 +31,11 @@ pub write-unless-spec : {M : Type 1} → statement M
 write-unless-spec =
     tie.close
     (tie.spec
-    write32-requires
-    add-write32
-    write32-requires-2
-    same-length
+    (λ c κs. search needs)
+    (λ c. search needs)
+    (λ c κs. search needs)
+    (λ c. search needs)
     returns
-    write-key-requires
-    same-length-2
+    (λ c κs. search needs)
+    (λ c. search needs)
     returns-2)

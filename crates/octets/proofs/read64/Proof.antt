@@ -6,21 +6,6 @@ use Rattle.octets.proofs.Bytes.{be-split}
 use Rattle.octets.proofs.read64.Statement.{statement}
 use Rattle.octets.proofs.read64.Tie as tie
 
-read32-requires : tie.Need-read32-requires
-read32-requires c κs = search needs
-
-mul-result : tie.Need-mul-result
-mul-result c = search needs
-
-add-read32 : tie.Need-add-read32
-add-read32 c = search needs
-
-read32-requires-2 : tie.Need-read32-requires-2
-read32-requires-2 c κs = search needs
-
-add-result : tie.Need-add-result
-add-result c = search needs
-
 returns : tie.Need-returns
 returns c =
     let a = c .before .before .before .args in
@@ -28,4 +13,4 @@ returns c =
 
 pub read64-spec : {M : Type 1} → statement M
 read64-spec =
-    tie.close (tie.spec read32-requires mul-result add-read32 read32-requires-2 add-result returns)
+    tie.close (tie.spec (λ c κs. search needs) (λ c. search needs) (λ c. search needs) (λ c κs. search needs) (λ c. search needs) returns)

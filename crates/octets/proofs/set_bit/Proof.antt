@@ -11,21 +11,6 @@ use Rattle.octets.proofs.Bits.{shl-one}
 use Rattle.octets.proofs.set_bit.Statement.{statement}
 use Rattle.octets.proofs.set_bit.Tie as tie
 
-slice-read-map : tie.Need-slice-read-map
-slice-read-map c = search needs
-
-cast-map : tie.Need-cast-map
-cast-map c = search needs
-
-shl-map : tie.Need-shl-map
-shl-map c = search needs
-
-slice-write-map : tie.Need-slice-write-map
-slice-write-map c = search needs
-
-same-length : tie.Need-same-length
-same-length c = search needs
-
 returns : tie.Need-returns
 unfolding setBit
 returns c =
@@ -34,4 +19,4 @@ returns c =
 
 pub set-bit-spec : {M : Type 1} → statement M
 set-bit-spec =
-    tie.close (tie.spec slice-read-map cast-map shl-map slice-write-map same-length returns)
+    tie.close (tie.spec (λ c. search needs) (λ c. search needs) (λ c. search needs) (λ c. search needs) (λ c. search needs) returns)

@@ -6,18 +6,9 @@ use native.Mathlib.Nat.{add-zero}
 use Rattle.octets.proofs.write8.Statement.{statement}
 use Rattle.octets.proofs.write8.Tie as tie
 
-cast-s : tie.Need-cast-s
-cast-s c = search needs
-
-slice-write-s : tie.Need-slice-write-s
-slice-write-s c = search needs
-
-same-length : tie.Need-same-length
-same-length c = search needs
-
 returns : tie.Need-returns
 unfolding putBe
 returns c = simp add-zero
 
 pub write8-spec : {M : Type 1} → statement M
-write8-spec = tie.close (tie.spec cast-s slice-write-s same-length returns)
+write8-spec = tie.close (tie.spec (λ c. search needs) (λ c. search needs) (λ c. search needs) returns)

@@ -20,38 +20,8 @@ use Rattle.edit.proofs.threshold.Reads as threshold-reads
 use Rattle.node.proofs.load.Reads as load-reads
 use Rattle.node.proofs.put_node.Reads as put-node-reads
 
-returns : tie.Need-returns
-returns c = search needs
-
-block-ok-requires : tie.Need-block-ok-requires
-block-ok-requires c κs = search needs
-
-same-length : tie.Need-same-length
-same-length c = search needs
-
-returns-2 : tie.Need-returns-2
-returns-2 c = search needs
-
 load-requires : tie.Need-load-requires
 load-requires c κs = record { level = _; asked = Root 1; ok = sym (c .before .before .block-ok .ensures) ∙ not-false _ (c .before .if2 .left); inside = omega arith }
-
-threshold-requires : tie.Need-threshold-requires
-threshold-requires c κs = search needs
-
-insert-one-requires : tie.Need-insert-one-requires
-insert-one-requires c κs = search needs
-
-same-length-2 : tie.Need-same-length-2
-same-length-2 c = search needs
-
-returns-3 : tie.Need-returns-3
-returns-3 c = search needs
-
-same-length-3 : tie.Need-same-length-3
-same-length-3 c = search needs
-
-returns-4 : tie.Need-returns-4
-returns-4 c = search needs
 
 put-node-requires : tie.Need-put-node-requires
 put-node-requires c κs =
@@ -68,27 +38,21 @@ put-node-requires c κs =
       },
     )
 
-same-length-4 : tie.Need-same-length-4
-same-length-4 c = search needs
-
-returns-5 : tie.Need-returns-5
-returns-5 c = search needs
-
 pub perf-change-spec : {M : Type 1} → statement M
 perf-change-spec =
     tie.close
     (tie.spec
-    returns
-    block-ok-requires
-    same-length
-    returns-2
+    (λ c. search needs)
+    (λ c κs. search needs)
+    (λ c. search needs)
+    (λ c. search needs)
     load-requires
-    threshold-requires
-    insert-one-requires
-    same-length-2
-    returns-3
-    same-length-3
-    returns-4
+    (λ c κs. search needs)
+    (λ c κs. search needs)
+    (λ c. search needs)
+    (λ c. search needs)
+    (λ c. search needs)
+    (λ c. search needs)
     put-node-requires
-    same-length-4
-    returns-5)
+    (λ c. search needs)
+    (λ c. search needs))

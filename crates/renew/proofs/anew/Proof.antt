@@ -9,15 +9,6 @@ use borrow.Author.Needs.{needs}
 use Rattle.renew.proofs.anew.Statement.{statement}
 use Rattle.renew.proofs.anew.Tie as tie
 
-gather-requires : tie.Need-gather-requires
-gather-requires c κs = search needs
-
-same-length : tie.Need-same-length
-same-length c = search needs
-
-same-length-2 : tie.Need-same-length-2
-same-length-2 c = search needs
-
 returns : tie.Need-returns
 returns c = renew-broken _ _ (c .before .before .before .before .gather .ensures) (not-true _ (c .if1 .taken))
 
@@ -28,12 +19,6 @@ build-table-requires c κs =
     let ok = not-false _ (c .before .before .if1 .left) in
     let few = renew-few (start .pre .0) (start .pre .1) (at-gather .gather .ensures) ok in
     (start .pre .0, few, renew-segment (start .pre .0) (start .pre .1) (at-gather .gather .ensures) ok (λ (l : List Spot). l) (amended-none _ _) few (λ u. u))
-
-same-length-3 : tie.Need-same-length-3
-same-length-3 c = search needs
-
-same-length-4 : tie.Need-same-length-4
-same-length-4 c = search needs
 
 returns-2 : tie.Need-returns-2
 returns-2 c =
@@ -46,11 +31,11 @@ pub anew-spec : {M : Type 1} → statement M
 anew-spec =
     tie.close
     (tie.spec
-    gather-requires
-    same-length
-    same-length-2
+    (λ c κs. search needs)
+    (λ c. search needs)
+    (λ c. search needs)
     returns
     build-table-requires
-    same-length-3
-    same-length-4
+    (λ c. search needs)
+    (λ c. search needs)
     returns-2)

@@ -15,15 +15,6 @@ use native.Mathlib.Omega.{arith}
 use Rattle.renew.proofs.with_spot.Statement.{statement}
 use Rattle.renew.proofs.with_spot.Tie as tie
 
-gather-requires : tie.Need-gather-requires
-gather-requires c κs = search needs
-
-same-length : tie.Need-same-length
-same-length c = search needs
-
-same-length-2 : tie.Need-same-length-2
-same-length-2 c = search needs
-
 returns : tie.Need-returns
 returns c = renew-broken _ _ (c .before .before .before .before .gather .ensures) (not-true _ (c .if1 .taken))
 
@@ -32,15 +23,6 @@ put-in-requires c κs =
     let at-gather = c .before .before .before .before .before in
     let start = at-gather .before .before .before .before .before in
     renew-amendable (start .pre .0) (start .pre .1) (at-gather .gather .ensures) (not-false _ (c .before .if1 .left))
-
-capacity-of-requires : tie.Need-capacity-of-requires
-capacity-of-requires c κs = search needs
-
-same-length-3 : tie.Need-same-length-3
-same-length-3 c = search needs
-
-same-length-4 : tie.Need-same-length-4
-same-length-4 c = search needs
 
 returns-2 : tie.Need-returns-2
 returns-2 c =
@@ -61,12 +43,6 @@ build-table-requires c κs =
     let few : at-put-in .put-in .result ≤ capacity (length (now (start .args .table))) = omega (arith, at-capacity-of .capacity-of .ensures) in
     (start .pre .0, few, renew-segment (start .pre .0) (start .pre .1) (at-gather .gather .ensures) (not-false _ (at-if1 .if1 .left)) (λ (l : List Spot). put (start .args .s) (without (start .args .s .key) l)) (at-put-in .put-in .ensures) few (replaced-rises (start .args .s) _))
 
-same-length-5 : tie.Need-same-length-5
-same-length-5 c = search needs
-
-same-length-6 : tie.Need-same-length-6
-same-length-6 c = search needs
-
 returns-3 : tie.Need-returns-3
 returns-3 c =
     let start = c .before .before .before .before .before .before .before .before .before .before .before .before .before .before .before .before .before .before .before .before in
@@ -81,16 +57,16 @@ pub with-spot-spec : {M : Type 1} → statement M
 with-spot-spec =
     tie.close
     (tie.spec
-    gather-requires
-    same-length
-    same-length-2
+    (λ c κs. search needs)
+    (λ c. search needs)
+    (λ c. search needs)
     returns
     put-in-requires
-    capacity-of-requires
-    same-length-3
-    same-length-4
+    (λ c κs. search needs)
+    (λ c. search needs)
+    (λ c. search needs)
     returns-2
     build-table-requires
-    same-length-5
-    same-length-6
+    (λ c. search needs)
+    (λ c. search needs)
     returns-3)

@@ -9,15 +9,6 @@ use borrow.Author.Needs.{needs}
 use Rattle.renew.proofs.without_key.Statement.{statement}
 use Rattle.renew.proofs.without_key.Tie as tie
 
-gather-requires : tie.Need-gather-requires
-gather-requires c κs = search needs
-
-same-length : tie.Need-same-length
-same-length c = search needs
-
-same-length-2 : tie.Need-same-length-2
-same-length-2 c = search needs
-
 returns : tie.Need-returns
 returns c = renew-broken _ _ (c .before .before .before .before .gather .ensures) (not-true _ (c .if1 .taken))
 
@@ -36,12 +27,6 @@ build-table-requires c κs =
     let few = out-few (start .pre .0) (start .pre .1) (at-gather .gather .ensures) (not-false _ (at-if1 .if1 .left)) (start .args .k) (at-take-out .take-out .ensures) in
     (start .pre .0, few, renew-segment (start .pre .0) (start .pre .1) (at-gather .gather .ensures) (not-false _ (at-if1 .if1 .left)) (without (start .args .k)) (at-take-out .take-out .ensures) few (without-rises 0 (start .args .k) _))
 
-same-length-3 : tie.Need-same-length-3
-same-length-3 c = search needs
-
-same-length-4 : tie.Need-same-length-4
-same-length-4 c = search needs
-
 returns-2 : tie.Need-returns-2
 returns-2 c =
     let at-take-out = c .before .before .before .before .before .before .before in
@@ -54,12 +39,12 @@ pub without-key-spec : {M : Type 1} → statement M
 without-key-spec =
     tie.close
     (tie.spec
-    gather-requires
-    same-length
-    same-length-2
+    (λ c κs. search needs)
+    (λ c. search needs)
+    (λ c. search needs)
     returns
     take-out-requires
     build-table-requires
-    same-length-3
-    same-length-4
+    (λ c. search needs)
+    (λ c. search needs)
     returns-2)

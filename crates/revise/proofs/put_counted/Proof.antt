@@ -1,5 +1,6 @@
 -- `revise::put_counted` meets its contract: 4 exactly where the live spots are as many as there may be.
 -- Assumes nothing.
+use Rattle.query.proofs.Whole.{counted-as}
 use Rattle.revise.proofs.Calls.{add-uncounted, add-turned, add-counted}
 use Rattle.block.specs.Table.{capacity}
 use borrow.Author.Tests.{not-true, not-false}
@@ -12,63 +13,60 @@ use native.Mathlib.Omega.{arith}
 use Rattle.revise.proofs.put_counted.Statement.{statement}
 use Rattle.revise.proofs.put_counted.Tie as tie
 
-slice-aggregate-count-table : tie.Need-slice-aggregate-count-table
-slice-aggregate-count-table c = search needs
-
 count-table-requires : tie.Need-count-table-requires
-count-table-requires c κs = (c .before .before .before .before .pre .0 .sized, refl)
-
-same-length : tie.Need-same-length
-same-length c = search needs
+count-table-requires c κs = (c .before .before .before .before .before .pre .0 .sized, refl)
 
 returns : tie.Need-returns
-returns c = add-uncounted _ _ (c .before .before .before .before .before .before .before .before .args .s) _ (c .before .before .before .count-table .ensures .ok) (not-true _ (c .if1 .taken))
-
-capacity-of-requires : tie.Need-capacity-of-requires
-capacity-of-requires c κs = search needs
-
-same-length-2 : tie.Need-same-length-2
-same-length-2 c = search needs
+returns c =
+    let at-count-table = c .before .before .before in
+    let at-everything = at-count-table .before .before .before in
+    let counted = counted-as (at-everything .everything .ensures) (at-count-table .count-table .ensures) in
+    add-uncounted _ _ (at-everything .before .before .before .args .s) _ (counted .ok) (not-true _ (c .if1 .taken))
 
 returns-2 : tie.Need-returns-2
 returns-2 c =
-    let full : capacity (length (now (c .before .before .before .before .before .before .before .before .before .before .before .args .table))) ≤ c .before .before .before .before .before .before .count-table .result .spots = omega (arith, c .before .before .capacity-of .ensures) in
-    let start = c .before .before .before .before .before .before .before .before .before .before .before in
-    let counted = c .before .before .before .before .before .before .count-table .ensures in
-    let ok = not-false _ (c .before .before .before .if1 .left) in
+    let at-if1 = c .before .before .before in
+    let at-count-table = at-if1 .before .before .before in
+    let at-everything = at-count-table .before .before .before in
+    let start = at-everything .before .before .before in
+    let full : capacity (length (now (start .args .table))) ≤ at-count-table .count-table .result .tally .spots = omega (arith, c .before .before .capacity-of .ensures) in
+    let counted = counted-as (at-everything .everything .ensures) (at-count-table .count-table .ensures) in
+    let ok = not-false _ (at-if1 .if1 .left) in
     add-turned _ _ (start .args .s) _ (counted .ok) ok (counted .spots ok) full (start .pre .2)
 
-add-put-within : tie.Need-add-put-within
-add-put-within c = search needs
-
 put-within-requires : tie.Need-put-within-requires
-put-within-requires c κs = (c .before .before .before .before .before .before .before .before .before .before .before .before .before .pre .0, c .before .before .before .before .before .before .before .before .before .before .before .before .before .pre .1, omega (arith, c .before .before .before .before .capacity-of .ensures))
-
-same-length-3 : tie.Need-same-length-3
-same-length-3 c = search needs
-
-same-length-4 : tie.Need-same-length-4
-same-length-4 c = search needs
+put-within-requires c κs =
+    let at-capacity-of = c .before .before .before .before in
+    let at-count-table = at-capacity-of .before .before .before .before in
+    let start = at-count-table .before .before .before .before .before .before in
+    (start .pre .0, start .pre .1, omega (arith, at-capacity-of .capacity-of .ensures))
 
 returns-3 : tie.Need-returns-3
 returns-3 c =
-    let room : c .before .before .before .before .before .before .before .before .before .before .before .before .before .count-table .result .spots < capacity (length (now (c .before .before .before .before .before .before .before .before .before .before .before .before .before .before .before .before .before .before .args .table))) = omega (arith, c .before .before .before .before .before .before .before .before .before .capacity-of .ensures) in
-    let start = c .before .before .before .before .before .before .before .before .before .before .before .before .before .before .before .before .before .before in
-    add-counted _ _ (start .args .s) (start .pre .2) (c .before .before .before .before .before .before .before .before .before .before .before .before .before .count-table .ensures .spots (not-false _ (c .before .before .before .before .before .before .before .before .before .before .if1 .left))) room (c .before .before .before .before .put-within .ensures)
+    let at-put-within = c .before .before .before .before in
+    let at-capacity-of = at-put-within .before .before .before .before .before in
+    let at-if1 = at-capacity-of .before in
+    let at-count-table = at-if1 .before .before .before in
+    let at-everything = at-count-table .before .before .before in
+    let start = at-everything .before .before .before in
+    let room : at-count-table .count-table .result .tally .spots < capacity (length (now (start .args .table))) = omega (arith, at-capacity-of .capacity-of .ensures) in
+    let counted = counted-as (at-everything .everything .ensures) (at-count-table .count-table .ensures) in
+    add-counted _ _ (start .args .s) (start .pre .2) (counted .spots (not-false _ (at-if1 .if1 .left))) room (at-put-within .put-within .ensures)
 
 pub put-counted-spec : {M : Type 1} → statement M
 put-counted-spec =
     tie.close
     (tie.spec
-    slice-aggregate-count-table
+    (λ c κs. search needs)
+    (λ c. search needs)
     count-table-requires
-    same-length
+    (λ c. search needs)
     returns
-    capacity-of-requires
-    same-length-2
+    (λ c κs. search needs)
+    (λ c. search needs)
     returns-2
-    add-put-within
+    (λ c. search needs)
     put-within-requires
-    same-length-3
-    same-length-4
+    (λ c. search needs)
+    (λ c. search needs)
     returns-3)

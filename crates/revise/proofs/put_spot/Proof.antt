@@ -15,9 +15,6 @@ use Rattle.revise.proofs.put_spot.Tie as tie
 header-ok-requires : tie.Need-header-ok-requires
 header-ok-requires c κs = lent-long (c .before .before .before .pre)
 
-same-length : tie.Need-same-length
-same-length c = search needs
-
 returns : tie.Need-returns
 returns c = add-header _ _ (c .before .before .before .before .before .args .s) _ (c .before .header-ok .ensures) (not-true _ (c .if1 .taken))
 
@@ -30,32 +27,14 @@ look-up-requires c κs = c .before .before .before .before .before .before .befo
 enum-told : tie.Need-enum-told
 enum-told c = search needs
 
-enum-told-2 : tie.Need-enum-told-2
-enum-told-2 c = search needs
-
 put-within-requires : tie.Need-put-within-requires
 put-within-requires c κs =
     let ok = sym (c .before .before .before .before .before .before .before .before .before .header-ok .ensures) ∙ not-false _ (c .before .before .before .before .before .before .before .before .if1 .left) in
     (c .before .before .before .before .before .before .before .before .before .before .before .before .before .pre, ok, bound-few (now (c .before .before .before .before .before .before .before .before .before .before .before .before .before .args .table)) ok (c .before .before .before .before .before .before .bound-of .ensures .0))
 
-enum-told-3 : tie.Need-enum-told-3
-enum-told-3 c = search needs
-
-capacity-of-requires : tie.Need-capacity-of-requires
-capacity-of-requires c κs = search needs
-
-add-put-within : tie.Need-add-put-within
-add-put-within c = search needs
-
 put-within-requires-2 : tie.Need-put-within-requires-2
 put-within-requires-2 c κs =
     (c .before .before .before .before .before .before .before .before .before .before .before .before .before .before .before .pre, sym (c .before .before .before .before .before .before .before .before .before .before .before .header-ok .ensures) ∙ not-false _ (c .before .before .before .before .before .before .before .before .before .before .if1 .left), omega (arith, c .before .before .before .capacity-of .ensures))
-
-same-length-2 : tie.Need-same-length-2
-same-length-2 c = search needs
-
-same-length-3 : tie.Need-same-length-3
-same-length-3 c = search needs
 
 returns-2 : tie.Need-returns-2
 returns-2 c =
@@ -68,29 +47,14 @@ put-counted-requires : tie.Need-put-counted-requires
 put-counted-requires c κs =
     (c .before .before .before .before .before .before .before .before .before .before .before .before .before .before .before .pre, sym (c .before .before .before .before .before .before .before .before .before .before .before .header-ok .ensures) ∙ not-false _ (c .before .before .before .before .before .before .before .before .before .before .if1 .left), looked-is (c .before .before .before .before .before .before .look-up .ensures) (c .before .before .before .before .enum-told3 .given .1))
 
-same-length-4 : tie.Need-same-length-4
-same-length-4 c = search needs
-
 returns-3 : tie.Need-returns-3
 returns-3 c = add-lost _ _ (c .before .before .before .before .before .before .before .before .before .before .before .args .s) (c .before .before .look-up .ensures) (c .enum-told .given .1)
-
-same-length-5 : tie.Need-same-length-5
-same-length-5 c = search needs
-
-same-length-6 : tie.Need-same-length-6
-same-length-6 c = search needs
 
 returns-4 : tie.Need-returns-4
 returns-4 c =
     let start = c .before .before .before .before .before .before .before .before .before .before .before .before .before .before .before .before .before .before in
     let found = looked-is (c .before .before .before .before .before .before .before .before .before .look-up .ensures) (c .before .before .before .before .before .before .before .enum-told2 .given .1) in
     add-replaced _ _ (start .args .s) (c .before .before .before .before .before .before .before .before .before .before .before .bound-of .ensures .0) found (c .before .before .before .before .put-within .ensures)
-
-same-length-7 : tie.Need-same-length-7
-same-length-7 c = search needs
-
-same-length-8 : tie.Need-same-length-8
-same-length-8 c = search needs
 
 returns-5 : tie.Need-returns-5
 returns-5 c = c .before .before .before .before .put-counted .ensures
@@ -100,26 +64,26 @@ put-spot-spec =
     tie.close
     (tie.spec
     header-ok-requires
-    same-length
+    (λ c. search needs)
     returns
     bound-of-requires
     look-up-requires
     enum-told
-    enum-told-2
+    (λ c. search needs)
     put-within-requires
-    enum-told-3
-    capacity-of-requires
-    add-put-within
+    (λ c. search needs)
+    (λ c κs. search needs)
+    (λ c. search needs)
     put-within-requires-2
-    same-length-2
-    same-length-3
+    (λ c. search needs)
+    (λ c. search needs)
     returns-2
     put-counted-requires
-    same-length-4
+    (λ c. search needs)
     returns-3
-    same-length-5
-    same-length-6
+    (λ c. search needs)
+    (λ c. search needs)
     returns-4
-    same-length-7
-    same-length-8
+    (λ c. search needs)
+    (λ c. search needs)
     returns-5)

@@ -8,24 +8,6 @@ use borrow.Author.Needs.{needs}
 use Rattle.revise.proofs.put_within.Statement.{statement}
 use Rattle.revise.proofs.put_within.Tie as tie
 
-empty-requires : tie.Need-empty-requires
-empty-requires c κs = search needs
-
-push-requires : tie.Need-push-requires
-push-requires c κs = search needs
-
-empty-keys-requires : tie.Need-empty-keys-requires
-empty-keys-requires c κs = search needs
-
-change-requires : tie.Need-change-requires
-change-requires c κs = search needs
-
-step-after-requires : tie.Need-step-after-requires
-step-after-requires c κs = search needs
-
-enum-known-number : tie.Need-enum-known-number
-enum-known-number c = search needs
-
 enum-told : tie.Need-enum-told
 enum-told c = search needs
 
@@ -34,12 +16,6 @@ with-spot-requires c κs =
     let changed = c .before .before .before .before .before .before .before .before .before in
     let start = changed .before .before .before .before .before .before .before .before in
     lent-again (start .pre .0) (changed .change .ensures)
-
-same-length : tie.Need-same-length
-same-length c = search needs
-
-same-length-2 : tie.Need-same-length-2
-same-length-2 c = search needs
 
 returns : tie.Need-returns
 returns c =
@@ -50,12 +26,6 @@ returns c =
     let start = changed .before .before .before .before .before .before .before .before in
     put-anew (start .args .s) (changed .change .ensures) (sym (stepped .step-after .ensures) ∙ told .enum-told .given .1) (renewed .with-spot .ensures) (c .if1 .taken)
 
-same-length-3 : tie.Need-same-length-3
-same-length-3 c = search needs
-
-same-length-4 : tie.Need-same-length-4
-same-length-4 c = search needs
-
 returns-2 : tie.Need-returns-2
 returns-2 c =
     let stepped = c .before .before .before in
@@ -64,12 +34,6 @@ returns-2 c =
     let start = named .before .before .before .before .before in
     let inserts = named .before .push .ensures .1 ∙ ap (λ (l : List Spot). l ++ (start .args .s ∷ [])) (named .before .before .empty .ensures .1) in
     put-answered (start .args .s) (changed .change .ensures) inserts (named .empty-keys .ensures .1) (sym (stepped .step-after .ensures) ∙ c .before .number .given .1)
-
-same-length-5 : tie.Need-same-length-5
-same-length-5 c = search needs
-
-same-length-6 : tie.Need-same-length-6
-same-length-6 c = search needs
 
 returns-3 : tie.Need-returns-3
 returns-3 c =
@@ -84,20 +48,20 @@ pub put-within-spec : {M : Type 1} → statement M
 put-within-spec =
     tie.close
     (tie.spec
-    empty-requires
-    push-requires
-    empty-keys-requires
-    change-requires
-    step-after-requires
-    enum-known-number
+    (λ c κs. search needs)
+    (λ c κs. search needs)
+    (λ c κs. search needs)
+    (λ c κs. search needs)
+    (λ c κs. search needs)
+    (λ c. search needs)
     enum-told
     with-spot-requires
-    same-length
-    same-length-2
+    (λ c. search needs)
+    (λ c. search needs)
     returns
-    same-length-3
-    same-length-4
+    (λ c. search needs)
+    (λ c. search needs)
     returns-2
-    same-length-5
-    same-length-6
+    (λ c. search needs)
+    (λ c. search needs)
     returns-3)

@@ -12,9 +12,6 @@ use Rattle.revise.proofs.take_key.Tie as tie
 header-ok-requires : tie.Need-header-ok-requires
 header-ok-requires c κs = lent-long (c .before .before .before .pre)
 
-same-length : tie.Need-same-length
-same-length c = search needs
-
 returns : tie.Need-returns
 returns c = drop-header _ _ (c .before .before .before .before .before .args .k) _ (c .before .header-ok .ensures) (not-true _ (c .if1 .taken))
 
@@ -27,47 +24,23 @@ look-up-requires c κs = c .before .before .before .before .before .before .befo
 enum-told : tie.Need-enum-told
 enum-told c = search needs
 
-enum-told-2 : tie.Need-enum-told-2
-enum-told-2 c = search needs
-
-same-length-2 : tie.Need-same-length-2
-same-length-2 c = search needs
-
 returns-2 : tie.Need-returns-2
 returns-2 c =
     drop-uncounted _ _ (c .before .before .before .before .before .before .before .before .before .before .before .before .args .k) (c .before .before .before .before .before .bound-of .ensures .0) (looked-is (c .before .before .before .look-up .ensures) (c .before .enum-told2 .given .1)) (c .if2 .taken)
-
-sub-take-within : tie.Need-sub-take-within
-sub-take-within c = search needs
 
 take-within-requires : tie.Need-take-within-requires
 take-within-requires c κs =
     let ok = sym (c .before .before .before .before .before .before .before .before .before .before .header-ok .ensures) ∙ not-false _ (c .before .before .before .before .before .before .before .before .before .if1 .left) in
     (c .before .before .before .before .before .before .before .before .before .before .before .before .before .before .pre, ok, omega (arith, bound-few (now (c .before .before .before .before .before .before .before .before .before .before .before .before .before .before .args .table)) ok (c .before .before .before .before .before .before .before .bound-of .ensures .0)))
 
-enum-told-3 : tie.Need-enum-told-3
-enum-told-3 c = search needs
-
-same-length-3 : tie.Need-same-length-3
-same-length-3 c = search needs
-
 returns-3 : tie.Need-returns-3
 returns-3 c = drop-lost _ _ (c .before .before .before .before .before .before .before .before .before .before .before .args .k) (c .before .before .look-up .ensures) (c .enum-told .given .1)
-
-same-length-4 : tie.Need-same-length-4
-same-length-4 c = search needs
-
-same-length-5 : tie.Need-same-length-5
-same-length-5 c = search needs
 
 returns-4 : tie.Need-returns-4
 returns-4 c =
     let start = c .before .before .before .before .before .before .before .before .before .before .before .before .before .before .before .before .before .before .before in
     let found = looked-is (c .before .before .before .before .before .before .before .before .before .before .look-up .ensures) (c .before .before .before .before .before .before .before .before .enum-told2 .given .1) in
     drop-live _ _ (start .args .k) (c .before .before .before .before .before .before .before .before .before .before .before .before .bound-of .ensures .0) found (c .before .before .before .before .take-within .ensures)
-
-same-length-6 : tie.Need-same-length-6
-same-length-6 c = search needs
 
 returns-5 : tie.Need-returns-5
 returns-5 c = drop-none _ _ (c .before .before .before .before .before .before .before .before .before .before .before .args .k) (looked-is (c .before .before .look-up .ensures) (c .enum-told3 .given .1))
@@ -77,21 +50,21 @@ take-key-spec =
     tie.close
     (tie.spec
     header-ok-requires
-    same-length
+    (λ c. search needs)
     returns
     bound-of-requires
     look-up-requires
     enum-told
-    enum-told-2
-    same-length-2
+    (λ c. search needs)
+    (λ c. search needs)
     returns-2
-    sub-take-within
+    (λ c. search needs)
     take-within-requires
-    enum-told-3
-    same-length-3
+    (λ c. search needs)
+    (λ c. search needs)
     returns-3
-    same-length-4
-    same-length-5
+    (λ c. search needs)
+    (λ c. search needs)
     returns-4
-    same-length-6
+    (λ c. search needs)
     returns-5)

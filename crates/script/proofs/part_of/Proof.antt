@@ -10,12 +10,9 @@ returns : tie.Need-returns
 unfolding partOf
 returns c = rw (eq-eqb (c .before .args .n) 0 (c .if1 .taken))
 
-div-result : tie.Need-div-result
-div-result c = search needs
-
 returns-2 : tie.Need-returns-2
 unfolding partOf
 returns-2 c = rw (ne-eqb (c .before .args .n) 0 (c .if1 .left))
 
 pub part-of-spec : {M : Type 1} → statement M
-part-of-spec = tie.close (tie.spec returns div-result returns-2)
+part-of-spec = tie.close (tie.spec returns (λ c. search needs) returns-2)

@@ -8,12 +8,6 @@ use Rattle.script.proofs.Whole.{parts-fit, says-unsized, says-short, sa
 use Rattle.script.proofs.run.Statement.{statement}
 use Rattle.script.proofs.run.Tie as tie
 
-part-of-requires : tie.Need-part-of-requires
-part-of-requires c κs = search needs
-
-sized-requires : tie.Need-sized-requires
-sized-requires c κs = search needs
-
 returns : tie.Need-returns
 returns c = says-unsized _ _ _ _ _ (sym (c .before .sized .ensures) ∙ not-true _ (c .if1 .taken))
 
@@ -21,23 +15,8 @@ returns-2 : tie.Need-returns-2
 returns-2 c =
     says-short _ _ _ _ _ (c .before .before .before .part-of .result) (c .before .before .before .part-of .ensures) (c .if2 .taken) (sym (c .before .before .sized .ensures) ∙ not-false _ (c .before .if1 .left))
 
-format-requires : tie.Need-format-requires
-format-requires c κs = search needs
-
 make-calls-requires : tie.Need-make-calls-requires
 make-calls-requires c κs = (omega arith, omega (arith, c .before .before .before .before .before .before .before .before .if2 .left), parts-fit _ _ _ (c .before .before .before .before .before .before .before .before .before .before .before .part-of .ensures))
-
-same-length : tie.Need-same-length
-same-length c = search needs
-
-same-length-2 : tie.Need-same-length-2
-same-length-2 c = search needs
-
-same-length-3 : tie.Need-same-length-3
-same-length-3 c = search needs
-
-same-length-4 : tie.Need-same-length-4
-same-length-4 c = search needs
 
 returns-3 : tie.Need-returns-3
 returns-3 c =
@@ -50,14 +29,14 @@ pub run-spec : {M : Type 1} → statement M
 run-spec =
     tie.close
     (tie.spec
-    part-of-requires
-    sized-requires
+    (λ c κs. search needs)
+    (λ c κs. search needs)
     returns
     returns-2
-    format-requires
+    (λ c κs. search needs)
     make-calls-requires
-    same-length
-    same-length-2
-    same-length-3
-    same-length-4
+    (λ c. search needs)
+    (λ c. search needs)
+    (λ c. search needs)
+    (λ c. search needs)
     returns-3)

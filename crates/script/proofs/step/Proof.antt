@@ -9,71 +9,20 @@ use Rattle.script.proofs.Turns.{lent}
 use Rattle.script.proofs.step.Statement.{statement}
 use Rattle.script.proofs.step.Tie as tie
 
-add-read32 : tie.Need-add-read32
-add-read32 c = search needs
-
-read32-requires : tie.Need-read32-requires
-read32-requires c κs = search needs
-
-smaller-requires : tie.Need-smaller-requires
-smaller-requires c κs = search needs
-
-add-read32-2 : tie.Need-add-read32-2
-add-read32-2 c = search needs
-
-read32-requires-2 : tie.Need-read32-requires-2
-read32-requires-2 c κs = search needs
-
-smaller-requires-2 : tie.Need-smaller-requires-2
-smaller-requires-2 c κs = search needs
-
-add-read32-3 : tie.Need-add-read32-3
-add-read32-3 c = search needs
-
-read32-requires-3 : tie.Need-read32-requires-3
-read32-requires-3 c κs = search needs
-
-smaller-requires-3 : tie.Need-smaller-requires-3
-smaller-requires-3 c κs = search needs
-
-slice-relend-prefix-call : tie.Need-slice-relend-prefix-call
-slice-relend-prefix-call c = search needs
-
 slice-aggregate-call : tie.Need-slice-aggregate-call
 slice-aggregate-call c =
     let p = c .before .before in
     front-long _ (p .smaller3 .result) (p .before .before .before .before .before .before .before .before .before .before .before .args .scratch .now) (p .smaller3 .ensures)
-
-slice-relend-prefix-call-2 : tie.Need-slice-relend-prefix-call-2
-slice-relend-prefix-call-2 c = search needs
 
 slice-aggregate-call-2 : tie.Need-slice-aggregate-call-2
 slice-aggregate-call-2 c =
     let p = c .before .before .before .before .before in
     front-long _ (p .smaller2 .result) (p .before .before .before .before .before .before .before .before .before .args .read-map .now) (p .smaller2 .ensures)
 
-slice-relend-prefix-call-3 : tie.Need-slice-relend-prefix-call-3
-slice-relend-prefix-call-3 c = search needs
-
 slice-aggregate-call-3 : tie.Need-slice-aggregate-call-3
 slice-aggregate-call-3 c =
     let p = c .before .before .before .before .before .before .before .before in
     front-long _ (p .smaller .result) (p .before .before .before .before .before .before .before .args .output .now) (p .smaller .ensures)
-
-call-requires : tie.Need-call-requires
-call-requires c κs = search needs
-
-same-length : tie.Need-same-length
-same-length c = search needs
-
-same-length-2 : tie.Need-same-length-2
-same-length-2 c = search needs
-
-same-length-3 : tie.Need-same-length-3
-same-length-3 c = search needs
-
-same-length-4 : tie.Need-same-length-4
-same-length-4 c = search needs
 
 returns : tie.Need-returns
 returns c =
@@ -101,24 +50,24 @@ pub step-spec : {M : Type 1} → statement M
 step-spec =
     tie.close
     (tie.spec
-    add-read32
-    read32-requires
-    smaller-requires
-    add-read32-2
-    read32-requires-2
-    smaller-requires-2
-    add-read32-3
-    read32-requires-3
-    smaller-requires-3
-    slice-relend-prefix-call
+    (λ c. search needs)
+    (λ c κs. search needs)
+    (λ c κs. search needs)
+    (λ c. search needs)
+    (λ c κs. search needs)
+    (λ c κs. search needs)
+    (λ c. search needs)
+    (λ c κs. search needs)
+    (λ c κs. search needs)
+    (λ c. search needs)
     slice-aggregate-call
-    slice-relend-prefix-call-2
+    (λ c. search needs)
     slice-aggregate-call-2
-    slice-relend-prefix-call-3
+    (λ c. search needs)
     slice-aggregate-call-3
-    call-requires
-    same-length
-    same-length-2
-    same-length-3
-    same-length-4
+    (λ c κs. search needs)
+    (λ c. search needs)
+    (λ c. search needs)
+    (λ c. search needs)
+    (λ c. search needs)
     returns)

@@ -7,47 +7,20 @@ use Rattle.soundness.proofs.Ranges.{front-used, points-run, inserts-run
 use Rattle.soundness.proofs.in_range.Statement.{statement}
 use Rattle.soundness.proofs.in_range.Tie as tie
 
-mul-from : tie.Need-mul-from
-mul-from c = search needs
-
-add-to : tie.Need-add-to
-add-to c = search needs
-
-sub-front-of : tie.Need-sub-front-of
-sub-front-of c = search needs
-
-part-front-of-start : tie.Need-part-front-of-start
-part-front-of-start c = search needs
-
-part-front-of-end : tie.Need-part-front-of-end
-part-front-of-end c = search needs
-
-front-of-requires : tie.Need-front-of-requires
-front-of-requires c κs = search needs
-
 points-from-requires : tie.Need-points-from-requires
 points-from-requires c κs =
     let s = c .before .before .before in
     omega (arith, front-used (now (s .args .t)) (s .args .b) (s .pre) (c .front-of .ensures .0))
-
-add-ap : tie.Need-add-ap
-add-ap c = search needs
 
 inserts-from-requires : tie.Need-inserts-from-requires
 inserts-from-requires c κs =
     let s = c .before .before .before .before in
     omega (arith, front-used (now (s .args .t)) (s .args .b) (s .pre) (c .before .front-of .ensures .0))
 
-add-ai : tie.Need-add-ai
-add-ai c = search needs
-
 deletes-from-requires : tie.Need-deletes-from-requires
 deletes-from-requires c κs =
     let s = c .before .before .before .before .before in
     omega (arith, front-used (now (s .args .t)) (s .args .b) (s .pre) (c .before .before .front-of .ensures .0))
-
-add-ad : tie.Need-add-ad
-add-ad c = search needs
 
 keys-within-requires : tie.Need-keys-within-requires
 keys-within-requires c κs =
@@ -78,12 +51,6 @@ returns c =
     (lows-run t b v e)
     (omega arith)
 
-add-keys-within : tie.Need-add-keys-within
-add-keys-within c = search needs
-
-sub-keys-within : tie.Need-sub-keys-within
-sub-keys-within c = search needs
-
 keys-within-requires-4 : tie.Need-keys-within-requires-4
 keys-within-requires-4 c κs =
     let s = c .before .before .before .before .before .before .before .before .before .before .before .before in
@@ -107,23 +74,23 @@ pub in-range-spec : {M : Type 1} → statement M
 in-range-spec =
     tie.close
     (tie.spec
-    mul-from
-    add-to
-    sub-front-of
-    part-front-of-start
-    part-front-of-end
-    front-of-requires
+    (λ c. search needs)
+    (λ c. search needs)
+    (λ c. search needs)
+    (λ c. search needs)
+    (λ c. search needs)
+    (λ c κs. search needs)
     points-from-requires
-    add-ap
+    (λ c. search needs)
     inserts-from-requires
-    add-ai
+    (λ c. search needs)
     deletes-from-requires
-    add-ad
+    (λ c. search needs)
     keys-within-requires
     keys-within-requires-2
     keys-within-requires-3
     returns
-    add-keys-within
-    sub-keys-within
+    (λ c. search needs)
+    (λ c. search needs)
     keys-within-requires-4
     returns-2)

@@ -5,6 +5,7 @@ use denote.Ref.{now}
 use borrow.Author.Tests.{not-true, not-false}
 use borrow.Author.Needs.{needs}
 use Rattle.query.proofs.Roots.{sized-long}
+use Rattle.query.proofs.Whole.{counted-as}
 use Rattle.soundness.proofs.Sums.{no-header, no-shape, count-decides}
 use Rattle.soundness.proofs.is_sound.Statement.{statement}
 use Rattle.soundness.proofs.is_sound.Tie as tie
@@ -21,26 +22,21 @@ tree-ok-requires c κs = sym (c .before .header-ok .ensures) ∙ not-false _ (c 
 returns-2 : tie.Need-returns-2
 returns-2 c = no-shape (now (c .before .before .before .before .before .args .t)) (sym (c .before .tree-ok .ensures) ∙ not-true _ (c .if2 .taken))
 
-slice-aggregate-count-table : tie.Need-slice-aggregate-count-table
-slice-aggregate-count-table c = search needs
-
-count-table-requires : tie.Need-count-table-requires
-count-table-requires c κs = search needs
-
 bound-of-requires : tie.Need-bound-of-requires
 bound-of-requires c κs =
-    let s = c .before .before .before .before .before .before .before .before in
+    let s = c .before .before .before .before .before .before .before .before .before in
     sized-long (now (s .args .t)) (s .pre)
 
 returns-3 : tie.Need-returns-3
 returns-3 c =
     let at-count-table = c .before .before .before in
-    let at-if2 = at-count-table .before .before in
+    let at-everything = at-count-table .before .before in
+    let at-if2 = at-everything .before in
     let at-tree-ok = at-if2 .before in
     let at-if1 = at-tree-ok .before in
     let at-header-ok = at-if1 .before in
     let start = at-header-ok .before .before in
-    count-decides (now (start .args .t)) (sym (at-header-ok .header-ok .ensures) ∙ not-false _ (at-if1 .if1 .left)) (sym (at-tree-ok .tree-ok .ensures) ∙ not-false _ (at-if2 .if2 .left)) (at-count-table .count-table .ensures)
+    count-decides (now (start .args .t)) (sym (at-header-ok .header-ok .ensures) ∙ not-false _ (at-if1 .if1 .left)) (sym (at-tree-ok .tree-ok .ensures) ∙ not-false _ (at-if2 .if2 .left)) (counted-as (at-everything .everything .ensures) (at-count-table .count-table .ensures))
     (c .before .bound-of .ensures .0)
 
 pub is-sound-spec : {M : Type 1} → statement M
@@ -51,7 +47,8 @@ is-sound-spec =
     returns
     tree-ok-requires
     returns-2
-    slice-aggregate-count-table
-    count-table-requires
+    (λ c κs. search needs)
+    (λ c. search needs)
+    (λ c κs. search needs)
     bound-of-requires
     returns-3)

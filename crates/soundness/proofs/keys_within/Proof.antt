@@ -17,9 +17,6 @@ read-key-requires c κs =
     let a = c .before .before .args in
     omega (arith, last-ends (a .w) (a .n) (λ e. omega arith))
 
-sub-read-key : tie.Need-sub-read-key
-sub-read-key c = search needs
-
 mul-read-key : tie.Need-mul-read-key
 mul-read-key c =
     let a = c .before .before .before .before .args in
@@ -47,7 +44,7 @@ keys-within-spec =
     (tie.spec
     returns
     read-key-requires
-    sub-read-key
+    (λ c. search needs)
     mul-read-key
     add-read-key
     read-key-requires-2

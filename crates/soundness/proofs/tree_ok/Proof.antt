@@ -22,12 +22,6 @@ sub-level c =
     let s = c .before .before .before in
     levels-some (now (s .args .t)) (s .pre) (c .before .root-of .ensures .0) (c .levels-of .ensures .0)
 
-slice-aggregate-sound-walk : tie.Need-slice-aggregate-sound-walk
-slice-aggregate-sound-walk c = search needs
-
-root-span-requires : tie.Need-root-span-requires
-root-span-requires c κs = search needs
-
 sound-walk-requires : tie.Need-sound-walk-requires
 sound-walk-requires c κs =
     let s = c .before .before .before .before .before in
@@ -52,28 +46,10 @@ returns c =
     (c .before .before .sound-walk .ensures)
     (not-true _ (c .if1 .taken))
 
-slice-aggregate-set-bit : tie.Need-slice-aggregate-set-bit
-slice-aggregate-set-bit c = search needs
-
-set-bit-requires : tie.Need-set-bit-requires
-set-bit-requires c κs = search needs
-
-sub-same-map : tie.Need-sub-same-map
-sub-same-map c = search needs
-
-part-same-map-start : tie.Need-part-same-map-start
-part-same-map-start c = search needs
-
 part-same-map-end : tie.Need-part-same-map-end
 part-same-map-end c =
     let s = c .before .before .before .before .before .before .before .before .before .before .before in
     omega (arith, header-long (now (s .args .t)) (s .pre))
-
-slice-aggregate-same-map : tie.Need-slice-aggregate-same-map
-slice-aggregate-same-map c = search needs
-
-same-map-requires : tie.Need-same-map-requires
-same-map-requires c κs = search needs
 
 returns-2 : tie.Need-returns-2
 returns-2 c =
@@ -100,15 +76,15 @@ tree-ok-spec =
     root-of-requires
     levels-of-requires
     sub-level
-    slice-aggregate-sound-walk
-    root-span-requires
+    (λ c. search needs)
+    (λ c κs. search needs)
     sound-walk-requires
     returns
-    slice-aggregate-set-bit
-    set-bit-requires
-    sub-same-map
-    part-same-map-start
+    (λ c. search needs)
+    (λ c κs. search needs)
+    (λ c. search needs)
+    (λ c. search needs)
     part-same-map-end
-    slice-aggregate-same-map
-    same-map-requires
+    (λ c. search needs)
+    (λ c κs. search needs)
     returns-2)

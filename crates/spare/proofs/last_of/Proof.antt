@@ -7,15 +7,6 @@ use borrow.Author.Needs.{needs}
 use Rattle.spare.proofs.last_of.Statement.{statement}
 use Rattle.spare.proofs.last_of.Tie as tie
 
-sub-result : tie.Need-sub-result
-sub-result c = search needs
-
-mul-result : tie.Need-mul-result
-mul-result c = search needs
-
-element-copy-out-result : tie.Need-element-copy-out-result
-element-copy-out-result c = search needs
-
 returns : tie.Need-returns
 returns c = spare-last (c .before .args .t1) (c .before .args .left) (long (c .before)) (c .before .pre .0) (c .before .pre .1)
   where
@@ -23,4 +14,4 @@ returns c = spare-last (c .before .args .t1) (c .before .args .left) (long (c .b
     long c = search needs
 
 pub last-of-spec : {M : Type 1} → statement M
-last-of-spec = tie.close (tie.spec sub-result mul-result element-copy-out-result returns)
+last-of-spec = tie.close (tie.spec (λ c. search needs) (λ c. search needs) (λ c. search needs) returns)

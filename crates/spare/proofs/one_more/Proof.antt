@@ -8,15 +8,6 @@ use native.Mathlib.Omega.{arith}
 use Rattle.spare.proofs.one_more.Statement.{statement}
 use Rattle.spare.proofs.one_more.Tie as tie
 
-mul-next : tie.Need-mul-next
-mul-next c = search needs
-
-element-write-next : tie.Need-element-write-next
-element-write-next c = search needs
-
-add-next : tie.Need-add-next
-add-next c = search needs
-
 returns : tie.Need-returns
 returns c = (search needs, take-push (c .args .s .blocks) (c .args .s .n) (c .args .b) (omega (arith, long c, c .pre)))
   where
@@ -24,4 +15,4 @@ returns c = (search needs, take-push (c .args .s .blocks) (c .args .s .n) (c .ar
     long c = search needs
 
 pub one-more-spec : {M : Type 1} → statement M
-one-more-spec = tie.close (tie.spec mul-next element-write-next add-next returns)
+one-more-spec = tie.close (tie.spec (λ c. search needs) (λ c. search needs) (λ c. search needs) returns)

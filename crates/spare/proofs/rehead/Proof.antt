@@ -8,12 +8,6 @@ use borrow.Author.Needs.{needs}
 use Rattle.spare.proofs.rehead.Statement.{statement}
 use Rattle.spare.proofs.rehead.Tie as tie
 
-sub-turn-head : tie.Need-sub-turn-head
-sub-turn-head c = search needs
-
-part-turn-head-start : tie.Need-part-turn-head-start
-part-turn-head-start c = search needs
-
 part-turn-head-end : tie.Need-part-turn-head-end
 part-turn-head-end c = table-long _ _ _ _ _ _ (c .before .pre)
 
@@ -22,9 +16,6 @@ turn-head-requires c κs =
     let t = c .before .before .args .t .now in
     let p = c .before .before .pre in
     (mid-len 0 2048 t (table-long _ _ _ _ _ _ p), taken-fits _ _ _ _ _ _ p, levels-small _ _ _ _ _ _ p, root-small _ _ _ _ _ _ p, bound-small _ _ _ _ _ _ p)
-
-same-length : tie.Need-same-length
-same-length c = search needs
 
 returns : tie.Need-returns
 returns c =
@@ -37,9 +28,9 @@ pub rehead-spec : {M : Type 1} → statement M
 rehead-spec =
     tie.close
     (tie.spec
-    sub-turn-head
-    part-turn-head-start
+    (λ c. search needs)
+    (λ c. search needs)
     part-turn-head-end
     turn-head-requires
-    same-length
+    (λ c. search needs)
     returns)

@@ -6,30 +6,6 @@ use borrow.Author.Needs.{needs}
 use Rattle.spare.proofs.turn_head.Statement.{statement}
 use Rattle.spare.proofs.turn_head.Tie as tie
 
-write8-requires : tie.Need-write8-requires
-write8-requires c κs = search needs
-
-write16-requires : tie.Need-write16-requires
-write16-requires c κs = search needs
-
-write32-requires : tie.Need-write32-requires
-write32-requires c κs = search needs
-
-sub-mark-taken : tie.Need-sub-mark-taken
-sub-mark-taken c = search needs
-
-part-mark-taken-start : tie.Need-part-mark-taken-start
-part-mark-taken-start c = search needs
-
-part-mark-taken-end : tie.Need-part-mark-taken-end
-part-mark-taken-end c = search needs
-
-mark-taken-requires : tie.Need-mark-taken-requires
-mark-taken-requires c κs = search needs
-
-same-length : tie.Need-same-length
-same-length c = search needs
-
 returns : tie.Need-returns
 returns c =
     let at-write32 = c .before .before .before .before .before .before in
@@ -43,12 +19,12 @@ pub turn-head-spec : {M : Type 1} → statement M
 turn-head-spec =
     tie.close
     (tie.spec
-    write8-requires
-    write16-requires
-    write32-requires
-    sub-mark-taken
-    part-mark-taken-start
-    part-mark-taken-end
-    mark-taken-requires
-    same-length
+    (λ c κs. search needs)
+    (λ c κs. search needs)
+    (λ c κs. search needs)
+    (λ c. search needs)
+    (λ c. search needs)
+    (λ c. search needs)
+    (λ c κs. search needs)
+    (λ c. search needs)
     returns)

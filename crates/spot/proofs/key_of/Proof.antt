@@ -8,18 +8,6 @@ use Rattle.spot.proofs.Signed.{biased-back}
 use Rattle.spot.proofs.key_of.Statement.{statement}
 use Rattle.spot.proofs.key_of.Tie as tie
 
-bias-requires : tie.Need-bias-requires
-bias-requires c κs = search needs
-
-mul-result : tie.Need-mul-result
-mul-result c = search needs
-
-bias-requires-2 : tie.Need-bias-requires-2
-bias-requires-2 c κs = search needs
-
-add-result : tie.Need-add-result
-add-result c = search needs
-
 returns : tie.Need-returns
 returns c =
     let s = c .before .before in
@@ -27,4 +15,4 @@ returns c =
     (biased-back (s .args .rank) (s .fits .rank) (c .bias2 .ensures .0))
 
 pub key-of-spec : {M : Type 1} → statement M
-key-of-spec = tie.close (tie.spec bias-requires mul-result bias-requires-2 add-result returns)
+key-of-spec = tie.close (tie.spec (λ c κs. search needs) (λ c. search needs) (λ c κs. search needs) (λ c. search needs) returns)

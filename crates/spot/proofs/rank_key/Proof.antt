@@ -6,9 +6,6 @@ use Rattle.spot.proofs.Halves.{rank-small}
 use Rattle.spot.proofs.rank_key.Statement.{statement}
 use Rattle.spot.proofs.rank_key.Tie as tie
 
-mul-result : tie.Need-mul-result
-mul-result c = search needs
-
 add-result : tie.Need-add-result
 unfolding rankKey
 add-result c = record { fits = rank-small (c .args .k) (c .fits .k .fits) }
@@ -18,4 +15,4 @@ unfolding rankKey
 returns c = search needs
 
 pub rank-key-spec : {M : Type 1} → statement M
-rank-key-spec = tie.close (tie.spec mul-result add-result returns)
+rank-key-spec = tie.close (tie.spec (λ c. search needs) add-result returns)

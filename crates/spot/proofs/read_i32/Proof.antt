@@ -11,15 +11,6 @@ use Rattle.spot.proofs.Signed.{toZ-turned}
 use Rattle.spot.proofs.read_i32.Statement.{statement}
 use Rattle.spot.proofs.read_i32.Tie as tie
 
-read32-requires : tie.Need-read32-requires
-read32-requires c κs = search needs
-
-turn-requires : tie.Need-turn-requires
-turn-requires c κs = search needs
-
-unbias-requires : tie.Need-unbias-requires
-unbias-requires c κs = search needs
-
 returns : tie.Need-returns
 returns c =
     let a = c .before .before .before .before .args in
@@ -29,4 +20,4 @@ returns c =
     ∙ sym (toZ-turned (be 4 (a .s .now) (a .at)) (omega (arith, n .ensures .0, n .ensures .1)))
 
 pub read-i32-spec : {M : Type 1} → statement M
-read-i32-spec = tie.close (tie.spec read32-requires turn-requires unbias-requires returns)
+read-i32-spec = tie.close (tie.spec (λ c κs. search needs) (λ c κs. search needs) (λ c κs. search needs) returns)

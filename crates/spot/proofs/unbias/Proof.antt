@@ -8,9 +8,6 @@ use Rattle.spot.proofs.Signed.{wide64, unbiased-fits, less64, low64}
 use Rattle.spot.proofs.unbias.Statement.{statement}
 use Rattle.spot.proofs.unbias.Tie as tie
 
-cast-result : tie.Need-cast-result
-cast-result c = search needs
-
 sub-result : tie.Need-sub-result
 sub-result c = rw (less64 (c .args .u) (c .pre)) (wide64 (unbiased (c .args .u)) (unbiased-fits (c .args .u) (c .pre)))
 
@@ -21,4 +18,4 @@ returns : tie.Need-returns
 returns c = rw (low64 (c .args .u) (c .pre)) (toZ-ofZ w32 (unbiased (c .args .u)) (unbiased-fits (c .args .u) (c .pre)))
 
 pub unbias-spec : {M : Type 1} → statement M
-unbias-spec = tie.close (tie.spec cast-result sub-result cast-result-2 returns)
+unbias-spec = tie.close (tie.spec (λ c. search needs) sub-result cast-result-2 returns)

@@ -9,24 +9,6 @@ use Rattle.spot.specs.Spots.{putKey}
 use Rattle.spot.proofs.write_key.Statement.{statement}
 use Rattle.spot.proofs.write_key.Tie as tie
 
-turn-requires : tie.Need-turn-requires
-turn-requires c κs = search needs
-
-write32-requires : tie.Need-write32-requires
-write32-requires c κs = search needs
-
-add-write32 : tie.Need-add-write32
-add-write32 c = search needs
-
-turn-requires-2 : tie.Need-turn-requires-2
-turn-requires-2 c κs = search needs
-
-write32-requires-2 : tie.Need-write32-requires-2
-write32-requires-2 c κs = search needs
-
-same-length : tie.Need-same-length
-same-length c = search needs
-
 returns : tie.Need-returns
 unfolding putKey
 returns c =
@@ -41,10 +23,10 @@ pub write-key-spec : {M : Type 1} → statement M
 write-key-spec =
     tie.close
     (tie.spec
-    turn-requires
-    write32-requires
-    add-write32
-    turn-requires-2
-    write32-requires-2
-    same-length
+    (λ c κs. search needs)
+    (λ c κs. search needs)
+    (λ c. search needs)
+    (λ c κs. search needs)
+    (λ c κs. search needs)
+    (λ c. search needs)
     returns)

@@ -9,21 +9,6 @@ use Rattle.spot.specs.Spots.{putSpot}
 use Rattle.spot.proofs.write_spot.Statement.{statement}
 use Rattle.spot.proofs.write_spot.Tie as tie
 
-cast-t : tie.Need-cast-t
-cast-t c = search needs
-
-write-key-requires : tie.Need-write-key-requires
-write-key-requires c κs = search needs
-
-add-write32 : tie.Need-add-write32
-add-write32 c = search needs
-
-write32-requires : tie.Need-write32-requires
-write32-requires c κs = search needs
-
-same-length : tie.Need-same-length
-same-length c = search needs
-
 returns : tie.Need-returns
 unfolding putSpot
 returns c =
@@ -33,4 +18,4 @@ returns c =
 
 pub write-spot-spec : {M : Type 1} → statement M
 write-spot-spec =
-    tie.close (tie.spec cast-t write-key-requires add-write32 write32-requires same-length returns)
+    tie.close (tie.spec (λ c. search needs) (λ c κs. search needs) (λ c. search needs) (λ c κs. search needs) (λ c. search needs) returns)

@@ -1,60 +1,59 @@
 -- `table::count` meets its contract: the walk of the whole table is counted.
 -- Assumes nothing.
-use mathlib.Core.Path.{_≡_, refl, sym, ap, _∙_}
-use mathlib.Core.Bool.{Bool, true, false, not}
+use mathlib.Core.Path.{refl, sym, ap, _∙_}
 use borrow.Author.Tests.{not-true, not-false}
 use Rattle.block.specs.Answers.{answer}
+use Rattle.query.proofs.Whole.{counted-as}
 use Rattle.table.proofs.Answering.{count-short, count-broken, count-whole, told-broken, told-whole}
 use borrow.Author.Needs.{needs}
-use native.Mathlib.Omega.{arith}
 use Rattle.table.proofs.count.Statement.{statement}
 use Rattle.table.proofs.count.Tie as tie
-use Rattle.table.proofs.count.Reads as reads
-use Rattle.table.proofs.count.Lts as lts
-use Rattle.block.proofs.sized.Reads as sized-reads
-use Rattle.query.proofs.count_table.Reads as count-table-reads
-use Rattle.table.proofs.refuse.Reads as refuse-reads
 
 sized-requires : tie.Need-sized-requires
 sized-requires c κs = search needs
 
-refuse-requires : tie.Need-refuse-requires
-refuse-requires c κs = search needs
+plain-answer-requires : tie.Need-plain-answer-requires
+plain-answer-requires c κs = search needs
 
 returns : tie.Need-returns
-returns c = count-short _ _ (sym (c .before .before .sized .ensures) ∙ not-true _ (c .before .if1 .taken)) (c .refuse .ensures)
-
-slice-aggregate-count-table : tie.Need-slice-aggregate-count-table
-slice-aggregate-count-table c = search needs
+returns c = count-short _ _ (sym (c .before .before .sized .ensures) ∙ not-true _ (c .before .if1 .taken)) (c .plain-answer .ensures)
 
 count-table-requires : tie.Need-count-table-requires
-count-table-requires c κs = (sym (c .before .before .sized .ensures) ∙ not-false _ (c .before .if1 .left), refl)
-
-refuse-requires-2 : tie.Need-refuse-requires-2
-refuse-requires-2 c κs = search needs
+count-table-requires c κs =
+    let at-if1 = c .before .before in
+    (sym (at-if1 .before .sized .ensures) ∙ not-false _ (at-if1 .if1 .left), refl)
 
 returns-2 : tie.Need-returns-2
 returns-2 c =
-    count-broken _ _ (sym (c .before .before .before .before .before .before .before .sized .ensures) ∙ not-false _ (c .before .before .before .before .before .before .if1 .left)) (told-broken _ _ _ (c .before .before .before .before .count-table .ensures .ok) (not-true _ (c .before .if2 .taken))) (c .refuse2 .ensures)
+    let at-count-table = c .before .before .before .before in
+    let at-everything = at-count-table .before .before in
+    let at-if1 = at-everything .before in
+    let counted = counted-as (at-everything .everything .ensures) (at-count-table .count-table .ensures) in
+    count-broken _ _ (sym (at-if1 .before .sized .ensures) ∙ not-false _ (at-if1 .if1 .left)) (told-broken _ _ _ (counted .ok) (not-true _ (c .before .if2 .taken))) (c .plain-answer2 .ensures)
 
 cast-t10 : tie.Need-cast-t10
 cast-t10 c = search needs
 
 returns-3 : tie.Need-returns-3
 returns-3 c =
+    let at-count-table = c .before .before .before .before in
+    let at-everything = at-count-table .before .before in
+    let at-if1 = at-everything .before in
+    let counted = counted-as (at-everything .everything .ensures) (at-count-table .count-table .ensures) in
     let ok = not-false _ (c .before .if2 .left) in
-    count-whole _ _ (sym (c .before .before .before .before .before .before .before .sized .ensures) ∙ not-false _ (c .before .before .before .before .before .before .if1 .left)) (told-whole _ _ _ (c .before .before .before .before .count-table .ensures .ok) ok) (ap (answer 0) (c .before .before .before .before .count-table .ensures .spots ok))
+    count-whole _ _ (sym (at-if1 .before .sized .ensures) ∙ not-false _ (at-if1 .if1 .left)) (told-whole _ _ _ (counted .ok) ok) (ap (answer 0) (counted .spots ok))
 
 pub count-spec : {M : Type 1} → statement M
 count-spec =
     tie.close
     (tie.spec
-    sized-requires
-    refuse-requires
+    (λ c κs. search needs)
+    (λ c κs. search needs)
     returns
-    slice-aggregate-count-table
+    (λ c κs. search needs)
+    (λ c. search needs)
     count-table-requires
-    refuse-requires-2
+    (λ c κs. search needs)
     returns-2
-    cast-t10
+    (λ c. search needs)
     returns-3)

@@ -11,22 +11,13 @@ use native.Mathlib.Omega.{arith}
 use Rattle.table.proofs.rebuild.Statement.{statement}
 use Rattle.table.proofs.rebuild.Tie as tie
 
-sized-requires : tie.Need-sized-requires
-sized-requires c κs = search needs
-
-refuse-requires : tie.Need-refuse-requires
-refuse-requires c κs = search needs
-
 returns : tie.Need-returns
-returns c = rebuild-short _ _ _ (sym (c .before .before .sized .ensures) ∙ not-true _ (c .before .if1 .taken)) (c .refuse .ensures)
-
-refuse-requires-2 : tie.Need-refuse-requires-2
-refuse-requires-2 c κs = search needs
+returns c = rebuild-short _ _ _ (sym (c .before .before .sized .ensures) ∙ not-true _ (c .before .if1 .taken)) (c .plain-answer .ensures)
 
 returns-2 : tie.Need-returns-2
 returns-2 c =
     let short : length (now (c .before .before .before .before .before .before .args .scratch)) < length (now (c .before .before .before .before .before .before .args .table)) = omega arith in
-    rebuild-lent _ _ _ (sym (c .before .before .before .sized .ensures) ∙ not-false _ (c .before .before .if1 .left)) short (c .refuse2 .ensures)
+    rebuild-lent _ _ _ (sym (c .before .before .before .sized .ensures) ∙ not-false _ (c .before .before .if1 .left)) short (c .plain-answer2 .ensures)
 
 anew-requires : tie.Need-anew-requires
 anew-requires c κs = (sym (c .before .before .before .before .sized .ensures) ∙ not-false _ (c .before .before .before .if1 .left), omega arith)
@@ -34,50 +25,32 @@ anew-requires c κs = (sym (c .before .before .before .before .sized .ensures) �
 zero-requires : tie.Need-zero-requires
 zero-requires c κs = omega (arith, c .before .before .before .before .before .anew .ensures .lent)
 
-refuse-requires-3 : tie.Need-refuse-requires-3
-refuse-requires-3 c κs = search needs
-
-same-length : tie.Need-same-length
-same-length c = search needs
-
-same-length-2 : tie.Need-same-length-2
-same-length-2 c = search needs
-
 returns-3 : tie.Need-returns-3
 returns-3 c =
     let long : length (now (c .before .before .before .before .before .before .before .before .before .before .before .before .before .before .before .before .before .before .args .table)) ≤ length (now (c .before .before .before .before .before .before .before .before .before .before .before .before .before .before .before .before .before .before .args .scratch)) = omega arith in
-    rebuild-broken _ _ _ _ _ _ _ (sym (c .before .before .before .before .before .before .before .before .before .before .before .before .before .before .before .sized .ensures) ∙ not-false _ (c .before .before .before .before .before .before .before .before .before .before .before .before .before .before .if1 .left)) long (c .before .before .before .before .before .before .before .before .before .before .anew .ensures) (c .before .before .before .before .zero .ensures) (not-true _ (c .before .if3 .taken)) (c .refuse3 .ensures)
-
-refuse-requires-4 : tie.Need-refuse-requires-4
-refuse-requires-4 c κs = search needs
-
-same-length-3 : tie.Need-same-length-3
-same-length-3 c = search needs
-
-same-length-4 : tie.Need-same-length-4
-same-length-4 c = search needs
+    rebuild-broken _ _ _ _ _ _ _ (sym (c .before .before .before .before .before .before .before .before .before .before .before .before .before .before .before .sized .ensures) ∙ not-false _ (c .before .before .before .before .before .before .before .before .before .before .before .before .before .before .if1 .left)) long (c .before .before .before .before .before .before .before .before .before .before .anew .ensures) (c .before .before .before .before .zero .ensures) (not-true _ (c .before .if3 .taken)) (c .plain-answer3 .ensures)
 
 returns-4 : tie.Need-returns-4
 returns-4 c =
     let long : length (now (c .before .before .before .before .before .before .before .before .before .before .before .before .before .before .before .before .before .before .args .table)) ≤ length (now (c .before .before .before .before .before .before .before .before .before .before .before .before .before .before .before .before .before .before .args .scratch)) = omega arith in
-    rebuild-done _ _ _ _ _ _ _ (sym (c .before .before .before .before .before .before .before .before .before .before .before .before .before .before .before .sized .ensures) ∙ not-false _ (c .before .before .before .before .before .before .before .before .before .before .before .before .before .before .if1 .left)) long (c .before .before .before .before .before .before .before .before .before .before .anew .ensures) (c .before .before .before .before .zero .ensures) (not-false _ (c .before .if3 .left)) (c .refuse4 .ensures)
+    rebuild-done _ _ _ _ _ _ _ (sym (c .before .before .before .before .before .before .before .before .before .before .before .before .before .before .before .sized .ensures) ∙ not-false _ (c .before .before .before .before .before .before .before .before .before .before .before .before .before .before .if1 .left)) long (c .before .before .before .before .before .before .before .before .before .before .anew .ensures) (c .before .before .before .before .zero .ensures) (not-false _ (c .before .if3 .left)) (c .plain-answer4 .ensures)
 
 pub rebuild-spec : {M : Type 1} → statement M
 rebuild-spec =
     tie.close
     (tie.spec
-    sized-requires
-    refuse-requires
+    (λ c κs. search needs)
+    (λ c κs. search needs)
     returns
-    refuse-requires-2
+    (λ c κs. search needs)
     returns-2
     anew-requires
     zero-requires
-    refuse-requires-3
-    same-length
-    same-length-2
+    (λ c κs. search needs)
+    (λ c. search needs)
+    (λ c. search needs)
     returns-3
-    refuse-requires-4
-    same-length-3
-    same-length-4
+    (λ c κs. search needs)
+    (λ c. search needs)
+    (λ c. search needs)
     returns-4)

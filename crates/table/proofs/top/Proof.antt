@@ -2,188 +2,198 @@
 -- Assumes nothing.
 use Rattle.table.proofs.Topping.{top-short, top-lent, top-zero, top-broken, top-many, top-few, top-wide, still-whole, top-asks}
 use Rattle.table.proofs.Answering.{map-is}
+use Rattle.spot.specs.Query.{topQuery}
+use Rattle.block.specs.Table.{tableSized}
 use borrow.Author.Tests.{not-true, not-false, ne-eqb, eq-eqb}
 use mir.ValLaws.{toZ-ofZ}
 use mir.Syntax.{w32}
 use denote.Ref.{now}
+use lib.Dec.{eqb}
 use lib.ListN.{length, length-replicate}
 use Prim.Native.Nat.{ℕ, zero}
+use mathlib.Core.Bool.{true}
 use mathlib.Core.Path.{_≡_, refl, sym, _∙_}
 use borrow.Author.Needs.{needs}
 use native.Mathlib.Omega.{arith}
 use Rattle.table.proofs.top.Statement.{statement}
 use Rattle.table.proofs.top.Tie as tie
 
-sized-requires : tie.Need-sized-requires
-sized-requires c κs = search needs
+-- ---- once the query is made
 
-refuse-requires : tie.Need-refuse-requires
-refuse-requires c κs = search needs
+abbrev start : tie.After-top-query → tie.Start
+start p = p .before .before .before .before .before .before .before .before
+
+module _ (p : tie.After-top-query) where
+  sized : tableSized (length (now (start p .args .table))) ≡ true
+  sized = sym (p .before .before .before .before .sized .ensures) ∙ not-false _ (p .before .before .before .if1 .left)
+
+  mapped : length (now (start p .args .read-map)) ≡ 512
+  mapped = omega (arith, p .before .before .if2 .left)
+
+  lent : eqb (length (now (start p .args .read-map))) 512 ≡ true
+  lent = eq-eqb (length (now (start p .args .read-map))) 512 mapped
+
+  asks : p .top-query .result ≡ topQuery (start p .args .x1) (start p .args .x2) 0
+  asks = top-asks _ _ _ _ _ (toZ-ofZ w32 _ (start p .fits .x1)) (toZ-ofZ w32 _ (start p .fits .x2)) (p .top-query .ensures)
+
+-- ---- the needs
 
 returns : tie.Need-returns
-returns c = top-short (c .before .before .before .before .before .before .args .x1) (c .before .before .before .before .before .before .args .x2) (c .before .before .before .before .before .before .args .k) (now (c .before .before .before .before .before .before .args .table)) (now (c .before .before .before .before .before .before .args .output)) (now (c .before .before .before .before .before .before .args .read-map)) _ (sym (c .before .before .sized .ensures) ∙ not-true _ (c .before .if1 .taken)) (c .refuse .ensures)
-
-refuse-requires-2 : tie.Need-refuse-requires-2
-refuse-requires-2 c κs = search needs
+returns c =
+    let a = c .before .before .before .before .before .before .args in
+    top-short (a .x1) (a .x2) (a .k) (now (a .table)) (now (a .output)) (now (a .read-map)) _ (sym (c .before .before .sized .ensures) ∙ not-true _ (c .before .if1 .taken))
+    (c .plain-answer .ensures)
 
 returns-2 : tie.Need-returns-2
-returns-2 c = top-lent (c .before .before .before .before .before .before .before .args .x1) (c .before .before .before .before .before .before .before .args .x2) (c .before .before .before .before .before .before .before .args .k) (now (c .before .before .before .before .before .before .before .args .table)) (now (c .before .before .before .before .before .before .before .args .output)) (now (c .before .before .before .before .before .before .before .args .read-map)) _ (sym (c .before .before .before .sized .ensures) ∙ not-false _ (c .before .before .if1 .left)) (ne-eqb (length (now (c .before .before .before .before .before .before .before .args .read-map))) 512 (λ h. omega arith)) (c .refuse2 .ensures)
+returns-2 c =
+    let a = c .before .before .before .before .before .before .before .args in
+    top-lent (a .x1) (a .x2) (a .k) (now (a .table)) (now (a .output)) (now (a .read-map)) _ (sym (c .before .before .before .sized .ensures) ∙ not-false _ (c .before .before .if1 .left))
+    (ne-eqb (length (now (a .read-map))) 512 (λ h. omega (arith, c .before .if2 .taken)))
+    (c .plain-answer2 .ensures)
 
 top-none-requires : tie.Need-top-none-requires
 top-none-requires c κs = ((sym (c .before .before .before .before .sized .ensures) ∙ not-false _ (c .before .before .before .if1 .left)), omega arith)
 
-same-length : tie.Need-same-length
-same-length c = search needs
-
 returns-3 : tie.Need-returns-3
 returns-3 c =
-    let mapped : length (now (c .before .before .before .before .before .before .before .before .before .before .before .args .read-map)) ≡ 512 = omega arith in
-    top-zero (c .before .before .before .before .before .before .before .before .before .before .before .args .x1) (c .before .before .before .before .before .before .before .before .before .before .before .args .x2) (c .before .before .before .before .before .before .before .before .before .before .before .args .k) (now (c .before .before .before .before .before .before .before .before .before .before .before .args .table)) (now (c .before .before .before .before .before .before .before .before .before .before .before .args .output)) (now (c .before .before .before .before .before .before .before .before .before .before .before .args .read-map)) _ _ (c .before .before .before .before .if3 .taken) (sym (c .before .before .before .before .before .before .before .sized .ensures) ∙ not-false _ (c .before .before .before .before .before .before .if1 .left)) (eq-eqb (length (now (c .before .before .before .before .before .before .before .before .before .before .before .args .read-map))) 512 mapped) (c .before .before .top-none .ensures)
+    let a = c .before .before .before .before .before .before .before .before .before .before .before .args in
+    top-zero (a .x1) (a .x2) (a .k) (now (a .table)) (now (a .output)) (now (a .read-map)) _ _ (c .before .before .before .before .if3 .taken)
+    (sym (c .before .before .before .before .before .before .before .sized .ensures) ∙ not-false _ (c .before .before .before .before .before .before .if1 .left))
+    (eq-eqb (length (now (a .read-map))) 512 (omega (arith, c .before .before .before .before .before .if2 .left)))
+    (c .before .before .top-none .ensures)
 
-top-query-requires : tie.Need-top-query-requires
-top-query-requires c κs = search needs
-
-slice-aggregate-top-run : tie.Need-slice-aggregate-top-run
-slice-aggregate-top-run c = search needs
-
-slice-aggregate-top-run-2 : tie.Need-slice-aggregate-top-run-2
-slice-aggregate-top-run-2 c = search needs
-
-top-run-requires : tie.Need-top-run-requires
-top-run-requires c κs =
-    record {
-      x1 = c .before .before .before .before .before .before .before .before .before .before .args .x1;
-      x2 = c .before .before .before .before .before .before .before .before .before .before .args .x2;
-      asks = (top-asks (c .before .before .before .before .before .before .before .before .before .before .args .x1) (c .before .before .before .before .before .before .before .before .before .before .args .x2) _ _ _ (toZ-ofZ w32 _ (c .before .before .before .before .before .before .before .before .before .before .fits .x1)) (toZ-ofZ w32 _ (c .before .before .before .before .before .before .before .before .before .before .fits .x2)) (c .before .before .top-query .ensures));
-      sized = (sym (c .before .before .before .before .before .before .sized .ensures) ∙ not-false _ (c .before .before .before .before .before .if1 .left));
-      clear = refl;
-      some = omega (arith, c .before .before .before .if3 .left);
-      fits = omega (arith, length-replicate 6144 zero);
-    }
-
-refuse-requires-3 : tie.Need-refuse-requires-3
-refuse-requires-3 c κs = search needs
+top-size-requires : tie.Need-top-size-requires
+top-size-requires c κs =
+    let p = c .before .before in
+    let long = length-replicate 6144 zero in (
+      record {
+        x1 = start p .args .x1;
+        x2 = start p .args .x2;
+        asks = asks p;
+        sized = sized p;
+        clear = refl;
+        some = omega (arith, c .before .before .before .if3 .left);
+        fits = omega arith;
+      },
+      long,
+    )
 
 returns-4 : tie.Need-returns-4
 returns-4 c =
-    let mapped : length (now (c .before .before .before .before .before .before .before .before .before .before .before .before .before .before .before .before .args .read-map)) ≡ 512 = omega arith in
-    top-broken (c .before .before .before .before .before .before .before .before .before .before .before .before .before .before .before .before .args .x1) (c .before .before .before .before .before .before .before .before .before .before .before .before .before .before .before .before .args .x2) (c .before .before .before .before .before .before .before .before .before .before .before .before .before .before .before .before .args .k) (now (c .before .before .before .before .before .before .before .before .before .before .before .before .before .before .before .before .args .table)) (now (c .before .before .before .before .before .before .before .before .before .before .before .before .before .before .before .before .args .output)) (now (c .before .before .before .before .before .before .before .before .before .before .before .before .before .before .before .before .args .read-map)) (sym (c .before .before .before .before .before .before .before .before .before .before .before .before .sized .ensures) ∙ not-false _ (c .before .before .before .before .before .before .before .before .before .before .before .if1 .left)) (eq-eqb (length (now (c .before .before .before .before .before .before .before .before .before .before .before .before .before .before .before .before .args .read-map))) 512 mapped) _ (c .before .before .before .before .before .top-run .ensures .fails (c .before .before .before .before .before .before .before .before .before .before .before .before .before .before .before .before .args .x1) (c .before .before .before .before .before .before .before .before .before .before .before .before .before .before .before .before .args .x2) (top-asks (c .before .before .before .before .before .before .before .before .before .before .before .before .before .before .before .before .args .x1) (c .before .before .before .before .before .before .before .before .before .before .before .before .before .before .before .before .args .x2) _ _ _ (toZ-ofZ w32 _ (c .before .before .before .before .before .before .before .before .before .before .before .before .before .before .before .before .fits .x1)) (toZ-ofZ w32 _ (c .before .before .before .before .before .before .before .before .before .before .before .before .before .before .before .before .fits .x2)) (c .before .before .before .before .before .before .before .before .top-query .ensures)) (not-true _ (c .before .if4 .taken))) (c .refuse3 .ensures)
+    let p = c .before .before .before .before .before .before .before .before in
+    let a = start p .args in
+    top-broken (a .x1) (a .x2) (a .k) (now (a .table)) (now (a .output)) (now (a .read-map)) (sized p) (lent p) _
+    (c .before .before .before .before .before .top-size .ensures .fails (a .x1) (a .x2) (asks p) (not-true _ (c .before .if4 .taken)))
+    (c .plain-answer3 .ensures)
 
 cast-t23 : tie.Need-cast-t23
-cast-t23 c = let v = (c .before .before .before .before .before .top-run .ensures .ends (c .before .before .before .before .before .before .before .before .before .before .before .before .before .before .before .before .args .x1) (c .before .before .before .before .before .before .before .before .before .before .before .before .before .before .before .before .args .x2) (top-asks (c .before .before .before .before .before .before .before .before .before .before .before .before .before .before .before .before .args .x1) (c .before .before .before .before .before .before .before .before .before .before .before .before .before .before .before .before .args .x2) _ _ _ (toZ-ofZ w32 _ (c .before .before .before .before .before .before .before .before .before .before .before .before .before .before .before .before .fits .x1)) (toZ-ofZ w32 _ (c .before .before .before .before .before .before .before .before .before .before .before .before .before .before .before .before .fits .x2)) (c .before .before .before .before .before .before .before .before .top-query .ensures)) (not-false _ (c .before .if4 .left))) in omega (arith, v .ended .few)
+cast-t23 c =
+    let p = c .before .before .before .before .before .before .before .before in
+    let g = c .before .before .before .before .before .top-size .ensures .gives (start p .args .x1) (start p .args .x2) (asks p) (not-false _ (c .before .if4 .left)) in
+    omega (arith, g .few)
 
 returns-5 : tie.Need-returns-5
 returns-5 c =
-    let mapped : length (now (c .before .before .before .before .before .before .before .before .before .before .before .before .before .before .before .before .args .read-map)) ≡ 512 = omega arith in
-    let v = (c .before .before .before .before .before .top-run .ensures .ends (c .before .before .before .before .before .before .before .before .before .before .before .before .before .before .before .before .args .x1) (c .before .before .before .before .before .before .before .before .before .before .before .before .before .before .before .before .args .x2) (top-asks (c .before .before .before .before .before .before .before .before .before .before .before .before .before .before .before .before .args .x1) (c .before .before .before .before .before .before .before .before .before .before .before .before .before .before .before .before .args .x2) _ _ _ (toZ-ofZ w32 _ (c .before .before .before .before .before .before .before .before .before .before .before .before .before .before .before .before .fits .x1)) (toZ-ofZ w32 _ (c .before .before .before .before .before .before .before .before .before .before .before .before .before .before .before .before .fits .x2)) (c .before .before .before .before .before .before .before .before .top-query .ensures)) (not-false _ (c .before .if4 .left))) in
-    top-many (c .before .before .before .before .before .before .before .before .before .before .before .before .before .before .before .before .args .x1) (c .before .before .before .before .before .before .before .before .before .before .before .before .before .before .before .before .args .x2) (c .before .before .before .before .before .before .before .before .before .before .before .before .before .before .before .before .args .k) (now (c .before .before .before .before .before .before .before .before .before .before .before .before .before .before .before .before .args .table)) (now (c .before .before .before .before .before .before .before .before .before .before .before .before .before .before .before .before .args .output)) (now (c .before .before .before .before .before .before .before .before .before .before .before .before .before .before .before .before .args .read-map)) (sym (c .before .before .before .before .before .before .before .before .before .before .before .before .sized .ensures) ∙ not-false _ (c .before .before .before .before .before .before .before .before .before .before .before .if1 .left)) (eq-eqb (length (now (c .before .before .before .before .before .before .before .before .before .before .before .before .before .before .before .before .args .read-map))) 512 mapped) _ _ (v .ended .done) (v .ended .counted) (c .if5 .taken) refl
-
-slice-aggregate-copy : tie.Need-slice-aggregate-copy
-slice-aggregate-copy c = search needs
+    let p = c .before .before .before .before .before .before .before .before in
+    let a = start p .args in
+    let g = c .before .before .before .before .before .top-size .ensures .gives (a .x1) (a .x2) (asks p) (not-false _ (c .before .if4 .left)) in
+    top-many (a .x1) (a .x2) (a .k) (now (a .table)) (now (a .output)) (now (a .read-map)) (sized p) (lent p) _ _ g (c .if5 .taken) refl
 
 mul-copy : tie.Need-mul-copy
-mul-copy c = omega (arith, c .before .before .if6 .taken)
+mul-copy c = omega (arith, c .before .before .before .before .before .before .before .before .top-size .ensures .small (c .before .before .if6 .taken))
 
 copy-requires : tie.Need-copy-requires
-copy-requires c κs = (omega (arith, c .before .before .before .before .before .before .before .before .top-run .kept .1 .1 .1 .1 .0, length-replicate 6144 zero, c .before .before .if6 .taken), omega (arith, c .before .before .before .if5 .left))
-
-slice-aggregate-copy-2 : tie.Need-slice-aggregate-copy-2
-slice-aggregate-copy-2 c = search needs
+copy-requires c κs =
+    let z = c .before .before .before .before .before .before .before .before .top-size in
+    (omega (arith, z .kept .1 .1 .1 .1 .0, length-replicate 6144 zero, z .ensures .small (c .before .before .if6 .taken)), omega (arith, c .before .before .before .if5 .left))
 
 copy-requires-2 : tie.Need-copy-requires-2
-copy-requires-2 c κs = (omega (arith, c .before .before .before .before .before .before .before .before .before .before .before .before .before .top-run .kept .1 .0, length-replicate {A = ℕ} 512 0), omega arith)
+copy-requires-2 c κs = (omega (arith, c .before .before .before .before .before .before .before .before .before .before .before .before .before .top-size .kept .1 .0, length-replicate {A = ℕ} 512 0), omega arith)
 
 cast-t34 : tie.Need-cast-t34
-cast-t34 c = omega (arith, c .before .before .before .before .before .before .before .before .before .before .if6 .taken)
-
-same-length-2 : tie.Need-same-length-2
-same-length-2 c = search needs
-
-same-length-3 : tie.Need-same-length-3
-same-length-3 c = search needs
+cast-t34 c = omega (arith, c .before .before .before .before .before .before .before .before .before .before .before .before .before .before .before .before .top-size .ensures .small (c .before .before .before .before .before .before .before .before .before .before .if6 .taken))
 
 returns-6 : tie.Need-returns-6
 returns-6 c =
-    let mapped : length (now (c .before .before .before .before .before .before .before .before .before .before .before .before .before .before .before .before .before .before .before .before .before .before .before .before .before .before .before .args .read-map)) ≡ 512 = omega arith in
-    let v = (c .before .before .before .before .before .before .before .before .before .before .before .before .before .before .before .before .top-run .ensures .ends (c .before .before .before .before .before .before .before .before .before .before .before .before .before .before .before .before .before .before .before .before .before .before .before .before .before .before .before .args .x1) (c .before .before .before .before .before .before .before .before .before .before .before .before .before .before .before .before .before .before .before .before .before .before .before .before .before .before .before .args .x2) (top-asks (c .before .before .before .before .before .before .before .before .before .before .before .before .before .before .before .before .before .before .before .before .before .before .before .before .before .before .before .args .x1) (c .before .before .before .before .before .before .before .before .before .before .before .before .before .before .before .before .before .before .before .before .before .before .before .before .before .before .before .args .x2) _ _ _ (toZ-ofZ w32 _ (c .before .before .before .before .before .before .before .before .before .before .before .before .before .before .before .before .before .before .before .before .before .before .before .before .before .before .before .fits .x1)) (toZ-ofZ w32 _ (c .before .before .before .before .before .before .before .before .before .before .before .before .before .before .before .before .before .before .before .before .before .before .before .before .before .before .before .fits .x2)) (c .before .before .before .before .before .before .before .before .before .before .before .before .before .before .before .before .before .before .before .top-query .ensures)) (not-false _ (c .before .before .before .before .before .before .before .before .before .before .before .before .if4 .left))) in
-    top-few (c .before .before .before .before .before .before .before .before .before .before .before .before .before .before .before .before .before .before .before .before .before .before .before .before .before .before .before .args .x1) (c .before .before .before .before .before .before .before .before .before .before .before .before .before .before .before .before .before .before .before .before .before .before .before .before .before .before .before .args .x2) (c .before .before .before .before .before .before .before .before .before .before .before .before .before .before .before .before .before .before .before .before .before .before .before .before .before .before .before .args .k) (now (c .before .before .before .before .before .before .before .before .before .before .before .before .before .before .before .before .before .before .before .before .before .before .before .before .before .before .before .args .table)) (now (c .before .before .before .before .before .before .before .before .before .before .before .before .before .before .before .before .before .before .before .before .before .before .before .before .before .before .before .args .output)) (now (c .before .before .before .before .before .before .before .before .before .before .before .before .before .before .before .before .before .before .before .before .before .before .before .before .before .before .before .args .read-map)) (sym (c .before .before .before .before .before .before .before .before .before .before .before .before .before .before .before .before .before .before .before .before .before .before .before .sized .ensures) ∙ not-false _ (c .before .before .before .before .before .before .before .before .before .before .before .before .before .before .before .before .before .before .before .before .before .before .if1 .left)) (eq-eqb (length (now (c .before .before .before .before .before .before .before .before .before .before .before .before .before .before .before .before .before .before .before .before .before .before .before .before .before .before .before .args .read-map))) 512 mapped) _ _ (v .base) _ _ _ _ (v .ended) (c .before .before .before .before .before .before .before .before .before .before .if6 .taken) (c .before .before .before .before .before .before .before .before .before .before .before .if5 .left) refl (c .before .before .before .before .before .before .before .copy .ensures)
-    (map-is _ (now (c .before .before .before .before .before .before .before .before .before .before .before .before .before .before .before .before .before .before .before .before .before .before .before .before .before .before .before .args .read-map)) _ _ (c .before .before .before .before .before .before .before .before .before .before .before .before .before .before .before .before .top-run .kept .1 .0 ∙ length-replicate {A = ℕ} 512 0) mapped refl (c .before .before .copy2 .ensures))
+    let p = c .before .before .before .before .before .before .before .before .before .before .before .before .before .before .before .before .before .before .before in
+    let a = start p .args in
+    let z = c .before .before .before .before .before .before .before .before .before .before .before .before .before .before .before .before .top-size in
+    let in-few = c .before .before .before .before .before .before .before .before .before .before .if6 .taken in
+    let v = z .ensures .held (a .x1) (a .x2) (asks p) (not-false _ (c .before .before .before .before .before .before .before .before .before .before .before .before .if4 .left)) in-few in
+    top-few (a .x1) (a .x2) (a .k) (now (a .table)) (now (a .output)) (now (a .read-map)) (sized p) (lent p) _ _ _ _ _ _ _ (v .ended) (z .ensures .small in-few)
+    (c .before .before .before .before .before .before .before .before .before .before .before .if5 .left)
+    refl
+    (c .before .before .before .before .before .before .before .copy .ensures)
+    (map-is _ (now (a .read-map)) _ _ (z .kept .1 .0 ∙ length-replicate {A = ℕ} 512 0) (mapped p) refl (c .before .before .copy2 .ensures))
 
-slice-aggregate-top-run-3 : tie.Need-slice-aggregate-top-run-3
-slice-aggregate-top-run-3 c = search needs
-
-top-run-requires-2 : tie.Need-top-run-requires-2
-top-run-requires-2 c κs =
+top-run-requires : tie.Need-top-run-requires
+top-run-requires c κs =
+    let p = c .before .before .before .before .before .before .before .before .before .before .before in
     record {
-      x1 = c .before .before .before .before .before .before .before .before .before .before .before .before .before .before .before .before .before .before .before .args .x1;
-      x2 = c .before .before .before .before .before .before .before .before .before .before .before .before .before .before .before .before .before .before .before .args .x2;
-      asks = (top-asks (c .before .before .before .before .before .before .before .before .before .before .before .before .before .before .before .before .before .before .before .args .x1) (c .before .before .before .before .before .before .before .before .before .before .before .before .before .before .before .before .before .before .before .args .x2) _ _ _ (toZ-ofZ w32 _ (c .before .before .before .before .before .before .before .before .before .before .before .before .before .before .before .before .before .before .before .fits .x1)) (toZ-ofZ w32 _ (c .before .before .before .before .before .before .before .before .before .before .before .before .before .before .before .before .before .before .before .fits .x2)) (c .before .before .before .before .before .before .before .before .before .before .before .top-query .ensures));
-      sized = (sym (c .before .before .before .before .before .before .before .before .before .before .before .before .before .before .before .sized .ensures) ∙ not-false _ (c .before .before .before .before .before .before .before .before .before .before .before .before .before .before .if1 .left));
+      x1 = start p .args .x1;
+      x2 = start p .args .x2;
+      asks = asks p;
+      sized = sized p;
       clear = refl;
       some = omega (arith, c .before .before .before .before .before .before .before .before .before .before .before .before .if3 .left);
       fits = omega (arith, c .before .before .before .if5 .left);
     }
 
-slice-aggregate-copy-3 : tie.Need-slice-aggregate-copy-3
-slice-aggregate-copy-3 c = search needs
-
 copy-requires-3 : tie.Need-copy-requires-3
-copy-requires-3 c κs = (omega (arith, c .before .before .before .before .before .top-run2 .kept .1 .0, length-replicate {A = ℕ} 512 0), omega arith)
+copy-requires-3 c κs = (omega (arith, c .before .before .before .before .before .top-run .kept .1 .0, length-replicate {A = ℕ} 512 0), omega arith)
 
 cast-t45 : tie.Need-cast-t45
-cast-t45 c = let v = (c .before .before .before .before .before .before .before .before .before .before .before .before .before .before .before .before .before .top-run .ensures .ends (c .before .before .before .before .before .before .before .before .before .before .before .before .before .before .before .before .before .before .before .before .before .before .before .before .before .before .before .before .args .x1) (c .before .before .before .before .before .before .before .before .before .before .before .before .before .before .before .before .before .before .before .before .before .before .before .before .before .before .before .before .args .x2) (top-asks (c .before .before .before .before .before .before .before .before .before .before .before .before .before .before .before .before .before .before .before .before .before .before .before .before .before .before .before .before .args .x1) (c .before .before .before .before .before .before .before .before .before .before .before .before .before .before .before .before .before .before .before .before .before .before .before .before .before .before .before .before .args .x2) _ _ _ (toZ-ofZ w32 _ (c .before .before .before .before .before .before .before .before .before .before .before .before .before .before .before .before .before .before .before .before .before .before .before .before .before .before .before .before .fits .x1)) (toZ-ofZ w32 _ (c .before .before .before .before .before .before .before .before .before .before .before .before .before .before .before .before .before .before .before .before .before .before .before .before .before .before .before .before .fits .x2)) (c .before .before .before .before .before .before .before .before .before .before .before .before .before .before .before .before .before .before .before .before .top-query .ensures)) (not-false _ (c .before .before .before .before .before .before .before .before .before .before .before .before .before .if4 .left))) in omega (arith, v .ended .few, c .before .before .before .before .before .before .before .before .before .before .before .before .before .before .before .before .before .before .before .before .before .before .before .before .before .before .before .before .fits .k)
-
-same-length-4 : tie.Need-same-length-4
-same-length-4 c = search needs
-
-same-length-5 : tie.Need-same-length-5
-same-length-5 c = search needs
+cast-t45 c =
+    let p = c .before .before .before .before .before .before .before .before .before .before .before .before .before .before .before .before .before .before .before .before in
+    let g = c .before .before .before .before .before .before .before .before .before .before .before .before .before .before .before .before .before .top-size .ensures .gives (start p .args .x1) (start p .args .x2) (asks p) (not-false _ (c .before .before .before .before .before .before .before .before .before .before .before .before .before .if4 .left)) in
+    omega (arith, g .few)
 
 returns-7 : tie.Need-returns-7
 returns-7 c =
-    let mapped : length (now (c .before .before .before .before .before .before .before .before .before .before .before .before .before .before .before .before .before .before .before .before .before .before .before .before .before .before .before .before .args .read-map)) ≡ 512 = omega arith in
-    let v = (c .before .before .before .before .before .before .before .before .before .before .before .before .before .before .before .before .before .top-run .ensures .ends (c .before .before .before .before .before .before .before .before .before .before .before .before .before .before .before .before .before .before .before .before .before .before .before .before .before .before .before .before .args .x1) (c .before .before .before .before .before .before .before .before .before .before .before .before .before .before .before .before .before .before .before .before .before .before .before .before .before .before .before .before .args .x2) (top-asks (c .before .before .before .before .before .before .before .before .before .before .before .before .before .before .before .before .before .before .before .before .before .before .before .before .before .before .before .before .args .x1) (c .before .before .before .before .before .before .before .before .before .before .before .before .before .before .before .before .before .before .before .before .before .before .before .before .before .before .before .before .args .x2) _ _ _ (toZ-ofZ w32 _ (c .before .before .before .before .before .before .before .before .before .before .before .before .before .before .before .before .before .before .before .before .before .before .before .before .before .before .before .before .fits .x1)) (toZ-ofZ w32 _ (c .before .before .before .before .before .before .before .before .before .before .before .before .before .before .before .before .before .before .before .before .before .before .before .before .before .before .before .before .fits .x2)) (c .before .before .before .before .before .before .before .before .before .before .before .before .before .before .before .before .before .before .before .before .top-query .ensures)) (not-false _ (c .before .before .before .before .before .before .before .before .before .before .before .before .before .if4 .left))) in
-    let asks = (top-asks (c .before .before .before .before .before .before .before .before .before .before .before .before .before .before .before .before .before .before .before .before .before .before .before .before .before .before .before .before .args .x1) (c .before .before .before .before .before .before .before .before .before .before .before .before .before .before .before .before .before .before .before .before .before .before .before .before .before .before .before .before .args .x2) _ _ _ (toZ-ofZ w32 _ (c .before .before .before .before .before .before .before .before .before .before .before .before .before .before .before .before .before .before .before .before .before .before .before .before .before .before .before .before .fits .x1)) (toZ-ofZ w32 _ (c .before .before .before .before .before .before .before .before .before .before .before .before .before .before .before .before .before .before .before .before .before .before .before .before .before .before .before .before .fits .x2)) (c .before .before .before .before .before .before .before .before .before .before .before .before .before .before .before .before .before .before .before .before .top-query .ensures)) in
-    top-wide (c .before .before .before .before .before .before .before .before .before .before .before .before .before .before .before .before .before .before .before .before .before .before .before .before .before .before .before .before .args .x1) (c .before .before .before .before .before .before .before .before .before .before .before .before .before .before .before .before .before .before .before .before .before .before .before .before .before .before .before .before .args .x2) (c .before .before .before .before .before .before .before .before .before .before .before .before .before .before .before .before .before .before .before .before .before .before .before .before .before .before .before .before .args .k) (now (c .before .before .before .before .before .before .before .before .before .before .before .before .before .before .before .before .before .before .before .before .before .before .before .before .before .before .before .before .args .table)) (now (c .before .before .before .before .before .before .before .before .before .before .before .before .before .before .before .before .before .before .before .before .before .before .before .before .before .before .before .before .args .output)) (now (c .before .before .before .before .before .before .before .before .before .before .before .before .before .before .before .before .before .before .before .before .before .before .before .before .before .before .before .before .args .read-map)) (sym (c .before .before .before .before .before .before .before .before .before .before .before .before .before .before .before .before .before .before .before .before .before .before .before .before .sized .ensures) ∙ not-false _ (c .before .before .before .before .before .before .before .before .before .before .before .before .before .before .before .before .before .before .before .before .before .before .before .if1 .left)) (eq-eqb (length (now (c .before .before .before .before .before .before .before .before .before .before .before .before .before .before .before .before .before .before .before .before .before .before .before .before .before .before .before .before .args .read-map))) 512 mapped) _ _ _ _ _ (v .ended .done) (v .ended .counted)
-    (c .before .before .before .before .before .before .before .before .top-run2 .ensures .ends (c .before .before .before .before .before .before .before .before .before .before .before .before .before .before .before .before .before .before .before .before .before .before .before .before .before .before .before .before .args .x1) (c .before .before .before .before .before .before .before .before .before .before .before .before .before .before .before .before .before .before .before .before .before .before .before .before .before .before .before .before .args .x2) asks (still-whole (c .before .before .before .before .before .before .before .before .before .before .before .before .before .before .before .before .before .before .before .before .before .before .before .before .before .before .before .before .args .x1) (c .before .before .before .before .before .before .before .before .before .before .before .before .before .before .before .before .before .before .before .before .before .before .before .before .before .before .before .before .args .x2) (c .before .before .before .before .before .before .before .before .before .before .before .before .before .before .before .before .before .before .before .before .before .before .before .before .before .before .before .before .args .k) (now (c .before .before .before .before .before .before .before .before .before .before .before .before .before .before .before .before .before .before .before .before .before .before .before .before .before .before .before .before .args .table)) (now (c .before .before .before .before .before .before .before .before .before .before .before .before .before .before .before .before .before .before .before .before .before .before .before .before .before .before .before .before .args .output)) (now (c .before .before .before .before .before .before .before .before .before .before .before .before .before .before .before .before .before .before .before .before .before .before .before .before .before .before .before .before .args .read-map)) (sym (c .before .before .before .before .before .before .before .before .before .before .before .before .before .before .before .before .before .before .before .before .before .before .before .before .sized .ensures) ∙ not-false _ (c .before .before .before .before .before .before .before .before .before .before .before .before .before .before .before .before .before .before .before .before .before .before .before .if1 .left)) (eq-eqb (length (now (c .before .before .before .before .before .before .before .before .before .before .before .before .before .before .before .before .before .before .before .before .before .before .before .before .before .before .before .before .args .read-map))) 512 mapped) (v .ended .done) asks (c .before .before .before .before .before .before .before .before .top-run2 .ensures)))
+    let p = c .before .before .before .before .before .before .before .before .before .before .before .before .before .before .before .before .before .before .before .before in
+    let a = start p .args in
+    let g = c .before .before .before .before .before .before .before .before .before .before .before .before .before .before .before .before .before .top-size .ensures .gives (a .x1) (a .x2) (asks p) (not-false _ (c .before .before .before .before .before .before .before .before .before .before .before .before .before .if4 .left)) in
+    let run = c .before .before .before .before .before .before .before .before .top-run in
+    let ok = still-whole (a .x1) (a .x2) (a .k) (now (a .table)) (now (a .output)) (now (a .read-map)) (sized p) (lent p) g (asks p) (run .ensures) in
+    top-wide (a .x1) (a .x2) (a .k) (now (a .table)) (now (a .output)) (now (a .read-map)) (sized p) (lent p) _ _ _ _ _ g (run .ensures .ends (a .x1) (a .x2) (asks p) ok)
     (c .before .before .before .before .before .before .before .before .before .before .before .before .if5 .left)
     refl
-    (map-is _ (now (c .before .before .before .before .before .before .before .before .before .before .before .before .before .before .before .before .before .before .before .before .before .before .before .before .before .before .before .before .args .read-map)) _ _ (c .before .before .before .before .before .before .before .before .top-run2 .kept .1 .0 ∙ length-replicate {A = ℕ} 512 0) mapped refl (c .before .before .copy3 .ensures))
+    (map-is _ (now (a .read-map)) _ _ (run .kept .1 .0 ∙ length-replicate {A = ℕ} 512 0) (mapped p) refl (c .before .before .copy3 .ensures))
 
 pub top-spec : {M : Type 1} → statement M
 top-spec =
     tie.close
     (tie.spec
-    sized-requires
-    refuse-requires
+    (λ c κs. search needs)
+    (λ c κs. search needs)
     returns
-    refuse-requires-2
+    (λ c κs. search needs)
     returns-2
     top-none-requires
-    same-length
+    (λ c. search needs)
     returns-3
-    top-query-requires
-    slice-aggregate-top-run
-    slice-aggregate-top-run-2
-    top-run-requires
-    refuse-requires-3
+    (λ c κs. search needs)
+    (λ c. search needs)
+    (λ c. search needs)
+    top-size-requires
+    (λ c κs. search needs)
     returns-4
     cast-t23
     returns-5
-    slice-aggregate-copy
+    (λ c. search needs)
     mul-copy
     copy-requires
-    slice-aggregate-copy-2
+    (λ c. search needs)
     copy-requires-2
     cast-t34
-    same-length-2
-    same-length-3
+    (λ c. search needs)
+    (λ c. search needs)
     returns-6
-    slice-aggregate-top-run-3
-    top-run-requires-2
-    slice-aggregate-copy-3
+    (λ c. search needs)
+    top-run-requires
+    (λ c. search needs)
     copy-requires-3
     cast-t45
-    same-length-4
-    same-length-5
+    (λ c. search needs)
+    (λ c. search needs)
     returns-7)

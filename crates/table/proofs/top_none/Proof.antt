@@ -17,35 +17,17 @@ use Rattle.table.proofs.top_none.Tie as tie
 header-ok-requires : tie.Need-header-ok-requires
 header-ok-requires c κs = sized-long (now (c .before .before .args .table)) (c .before .before .pre .0)
 
-refuse-requires : tie.Need-refuse-requires
-refuse-requires c κs = search needs
-
 returns : tie.Need-returns
-returns c = inl (sym (c .before .before .header-ok .ensures) ∙ not-true _ (c .before .if1 .taken), c .refuse .ensures, refl)
-
-slice-aggregate-set-bit : tie.Need-slice-aggregate-set-bit
-slice-aggregate-set-bit c = search needs
-
-set-bit-requires : tie.Need-set-bit-requires
-set-bit-requires c κs = search needs
-
-slice-aggregate-copy : tie.Need-slice-aggregate-copy
-slice-aggregate-copy c = search needs
+returns c = inl (sym (c .before .before .header-ok .ensures) ∙ not-true _ (c .before .if1 .taken), c .plain-answer .ensures, refl)
 
 copy-requires : tie.Need-copy-requires
 copy-requires c κs = (omega (arith, c .before .before .before .set-bit .kept .0, length-replicate {A = ℕ} 512 0), omega (arith, c .before .before .before .before .before .before .before .before .before .pre .1))
-
-refuse-requires-2 : tie.Need-refuse-requires-2
-refuse-requires-2 c κs = search needs
-
-same-length : tie.Need-same-length
-same-length c = search needs
 
 returns-2 : tie.Need-returns-2
 returns-2 c =
     inr (
       sym (c .before .before .before .before .before .before .before .before .before .before .header-ok .ensures) ∙ not-false _ (c .before .before .before .before .before .before .before .before .before .if1 .left),
-      c .refuse2 .ensures,
+      c .plain-answer2 .ensures,
       map-is _ (now (c .before .before .before .before .before .before .before .before .before .before .before .before .before .args .read-map)) _ _ (c .before .before .before .before .before .before .before .set-bit .kept .0 ∙ length-replicate {A = ℕ} 512 0) (c .before .before .before .before .before .before .before .before .before .before .before .before .before .pre .1) (c .before .before .before .before .before .before .before .set-bit .ensures ∙ map-none) (c .before .before .before .copy .ensures),
     )
 
@@ -54,12 +36,12 @@ top-none-spec =
     tie.close
     (tie.spec
     header-ok-requires
-    refuse-requires
+    (λ c κs. search needs)
     returns
-    slice-aggregate-set-bit
-    set-bit-requires
-    slice-aggregate-copy
+    (λ c. search needs)
+    (λ c κs. search needs)
+    (λ c. search needs)
     copy-requires
-    refuse-requires-2
-    same-length
+    (λ c κs. search needs)
+    (λ c. search needs)
     returns-2)

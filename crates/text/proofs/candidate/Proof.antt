@@ -7,33 +7,6 @@ use Rattle.text.proofs.Made.{read-guess}
 use Rattle.text.proofs.candidate.Statement.{statement}
 use Rattle.text.proofs.candidate.Tie as tie
 
-next-word-requires : tie.Need-next-word-requires
-next-word-requires c κs = search needs
-
-next-word-requires-2 : tie.Need-next-word-requires-2
-next-word-requires-2 c κs = search needs
-
-next-word-requires-3 : tie.Need-next-word-requires-3
-next-word-requires-3 c κs = search needs
-
-integer-at-requires : tie.Need-integer-at-requires
-integer-at-requires c κs = search needs
-
-integer-at-requires-2 : tie.Need-integer-at-requires-2
-integer-at-requires-2 c κs = search needs
-
-integer-at-requires-3 : tie.Need-integer-at-requires-3
-integer-at-requires-3 c κs = search needs
-
-number-at-requires : tie.Need-number-at-requires
-number-at-requires c κs = search needs
-
-first-requires : tie.Need-first-requires
-first-requires c κs = search needs
-
-compose-requires : tie.Need-compose-requires
-compose-requires c κs = search needs
-
 returns : tie.Need-returns
 returns c =
     let k = c .before .first in
@@ -52,13 +25,13 @@ pub candidate-spec : {M : Type 1} → statement M
 candidate-spec =
     tie.close
     (tie.spec
-    next-word-requires
-    next-word-requires-2
-    next-word-requires-3
-    integer-at-requires
-    integer-at-requires-2
-    integer-at-requires-3
-    number-at-requires
-    first-requires
-    compose-requires
+    (λ c κs. search needs)
+    (λ c κs. search needs)
+    (λ c κs. search needs)
+    (λ c κs. search needs)
+    (λ c κs. search needs)
+    (λ c κs. search needs)
+    (λ c κs. search needs)
+    (λ c κs. search needs)
+    (λ c κs. search needs)
     returns)

@@ -12,21 +12,6 @@ use Rattle.text.proofs.Scans.{word-in}
 use Rattle.text.proofs.integer_at.Statement.{statement}
 use Rattle.text.proofs.integer_at.Tie as tie
 
-word-end-requires : tie.Need-word-end-requires
-word-end-requires c κs = search needs
-
-sub-integer : tie.Need-sub-integer
-sub-integer c = search needs
-
-part-integer-start : tie.Need-part-integer-start
-part-integer-start c = search needs
-
-part-integer-end : tie.Need-part-integer-end
-part-integer-end c = search needs
-
-integer-requires : tie.Need-integer-requires
-integer-requires c κs = search needs
-
 returns : tie.Need-returns
 returns c =
     let a = c .before .before .before .before .args in
@@ -39,9 +24,9 @@ pub integer-at-spec : {M : Type 1} → statement M
 integer-at-spec =
     tie.close
     (tie.spec
-    word-end-requires
-    sub-integer
-    part-integer-start
-    part-integer-end
-    integer-requires
+    (λ c κs. search needs)
+    (λ c. search needs)
+    (λ c. search needs)
+    (λ c. search needs)
+    (λ c κs. search needs)
     returns)

@@ -12,15 +12,6 @@ use Rattle.text.proofs.Written.{wrote-then, wrote-within}
 use Rattle.text.proofs.more_signed.Statement.{statement}
 use Rattle.text.proofs.more_signed.Tie as tie
 
-put-byte-requires : tie.Need-put-byte-requires
-put-byte-requires c κs = search needs
-
-write-signed-requires : tie.Need-write-signed-requires
-write-signed-requires c κs = search needs
-
-same-length : tie.Need-same-length
-same-length c = search needs
-
 returns : tie.Need-returns
 returns c =
     let s = c .before .before .before .before .before .before .before .before .before in
@@ -29,4 +20,4 @@ returns c =
     (wrote-then (c .before .before .before .before .before .before .put-byte .ensures) (c .before .before .write-signed .ensures))
 
 pub more-signed-spec : {M : Type 1} → statement M
-more-signed-spec = tie.close (tie.spec put-byte-requires write-signed-requires same-length returns)
+more-signed-spec = tie.close (tie.spec (λ c κs. search needs) (λ c κs. search needs) (λ c. search needs) returns)

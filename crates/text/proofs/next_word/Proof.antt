@@ -7,12 +7,6 @@ use Rattle.text.proofs.Scans.{behind-in, behind-none}
 use Rattle.text.proofs.next_word.Statement.{statement}
 use Rattle.text.proofs.next_word.Tie as tie
 
-word-end-requires : tie.Need-word-end-requires
-word-end-requires c κs = search needs
-
-add-result : tie.Need-add-result
-add-result c = search needs
-
 returns : tie.Need-returns
 returns c =
     let a = c .before .before .before .args in
@@ -26,4 +20,4 @@ returns-2 c =
     (behind-none (now (a .line)) (a .at) (e .result) (e .ensures .0) (c .if1 .left), e .ensures .1)
 
 pub next-word-spec : {M : Type 1} → statement M
-next-word-spec = tie.close (tie.spec word-end-requires add-result returns returns-2)
+next-word-spec = tie.close (tie.spec (λ c κs. search needs) (λ c. search needs) returns returns-2)

@@ -7,12 +7,6 @@ use Rattle.text.proofs.Inverse.{parse-yes, parse-no}
 use Rattle.text.proofs.parse.Statement.{statement}
 use Rattle.text.proofs.parse.Tie as tie
 
-candidate-requires : tie.Need-candidate-requires
-candidate-requires c κs = search needs
-
-prints-requires : tie.Need-prints-requires
-prints-requires c κs = search needs
-
 returns : tie.Need-returns
 returns c =
     let made = c .before .before .candidate in
@@ -24,4 +18,4 @@ returns-2 c =
     parse-no (now (c .before .before .before .before .args .line)) (made .result) (made .ensures) (sym (c .before .prints .ensures) ∙ c .if1 .left)
 
 pub parse-spec : {M : Type 1} → statement M
-parse-spec = tie.close (tie.spec candidate-requires prints-requires returns returns-2)
+parse-spec = tie.close (tie.spec (λ c κs. search needs) (λ c κs. search needs) returns returns-2)

@@ -10,22 +10,10 @@ use Rattle.text.proofs.Written.{text-of}
 use Rattle.text.proofs.prints.Statement.{statement}
 use Rattle.text.proofs.prints.Tie as tie
 
-slice-aggregate-write-command : tie.Need-slice-aggregate-write-command
-slice-aggregate-write-command c = search needs
-
-write-command-requires : tie.Need-write-command-requires
-write-command-requires c κs = search needs
-
-array-share-prefix-space : tie.Need-array-share-prefix-space
-array-share-prefix-space c = search needs
-
 slice-aggregate-same : tie.Need-slice-aggregate-same
 slice-aggregate-same c =
     let w = c .before .before .write-command in
     sym (length-take-le (w .result) (w .last .0) (omega (arith, w .ensures .inside, w .ensures .sized)))
-
-same-requires : tie.Need-same-requires
-same-requires c κs = search needs
 
 returns : tie.Need-returns
 returns c =
@@ -36,9 +24,9 @@ pub prints-spec : {M : Type 1} → statement M
 prints-spec =
     tie.close
     (tie.spec
-    slice-aggregate-write-command
-    write-command-requires
-    array-share-prefix-space
+    (λ c. search needs)
+    (λ c κs. search needs)
+    (λ c. search needs)
     slice-aggregate-same
-    same-requires
+    (λ c κs. search needs)
     returns)

@@ -12,18 +12,6 @@ use Rattle.text.proofs.Written.{wrote-then, wrote-within, wrote-none}
 use Rattle.text.proofs.write_command.Statement.{statement}
 use Rattle.text.proofs.write_command.Tie as tie
 
-enum-known-c : tie.Need-enum-known-c
-enum-known-c c = search needs
-
-write-two-requires : tie.Need-write-two-requires
-write-two-requires c κs = search needs
-
-more-number-requires : tie.Need-more-number-requires
-more-number-requires c κs = search needs
-
-same-length : tie.Need-same-length
-same-length c = search needs
-
 returns : tie.Need-returns
 returns c =
     let g = c .before .before .before .before .before .before .before .before .before .c .given in
@@ -36,15 +24,6 @@ returns c =
     (third-text 43 x y (decimal n) ex ey refl ∙ sym (ap commandText (g .1)))
     (wrote-then (c .before .before .before .before .before .before .write-two .ensures) (c .before .before .more-number .ensures))
 
-enum-known-c-2 : tie.Need-enum-known-c-2
-enum-known-c-2 c = search needs
-
-write-two-requires-2 : tie.Need-write-two-requires-2
-write-two-requires-2 c κs = search needs
-
-same-length-2 : tie.Need-same-length-2
-same-length-2 c = search needs
-
 returns-2 : tie.Need-returns-2
 returns-2 c =
     let g = c .before .before .before .before .before .c2 .given in
@@ -54,18 +33,6 @@ returns-2 c =
     let ey : toZ w32 (ofZ w32 y) ≡ y = search needs in
     wrote-within 37 (commandText (c .before .before .before .before .before .before .before .before .args .c)) (omega arith)
     (joined-as 45 x y ex ey ∙ sym (ap commandText (g .1))) (c .before .before .write-two2 .ensures)
-
-enum-known-c-3 : tie.Need-enum-known-c-3
-enum-known-c-3 c = search needs
-
-write-two-requires-3 : tie.Need-write-two-requires-3
-write-two-requires-3 c κs = search needs
-
-more-signed-requires : tie.Need-more-signed-requires
-more-signed-requires c κs = search needs
-
-same-length-3 : tie.Need-same-length-3
-same-length-3 c = search needs
 
 returns-3 : tie.Need-returns-3
 returns-3 c =
@@ -79,18 +46,6 @@ returns-3 c =
     wrote-within 37 (commandText (c .before .before .before .before .before .before .before .before .before .before .before .before .args .c)) (omega arith)
     (third-text 63 x y (signed z) ex ey (ap signed ez) ∙ sym (ap commandText (g .1)))
     (wrote-then (c .before .before .before .before .before .before .write-two3 .ensures) (c .before .before .more-signed .ensures))
-
-enum-known-c-4 : tie.Need-enum-known-c-4
-enum-known-c-4 c = search needs
-
-write-two-requires-4 : tie.Need-write-two-requires-4
-write-two-requires-4 c κs = search needs
-
-more-number-requires-2 : tie.Need-more-number-requires-2
-more-number-requires-2 c κs = search needs
-
-same-length-4 : tie.Need-same-length-4
-same-length-4 c = search needs
 
 returns-4 : tie.Need-returns-4
 returns-4 c =
@@ -116,24 +71,24 @@ pub write-command-spec : {M : Type 1} → statement M
 write-command-spec =
     tie.close
     (tie.spec
-    enum-known-c
-    write-two-requires
-    more-number-requires
-    same-length
+    (λ c. search needs)
+    (λ c κs. search needs)
+    (λ c κs. search needs)
+    (λ c. search needs)
     returns
-    enum-known-c-2
-    write-two-requires-2
-    same-length-2
+    (λ c. search needs)
+    (λ c κs. search needs)
+    (λ c. search needs)
     returns-2
-    enum-known-c-3
-    write-two-requires-3
-    more-signed-requires
-    same-length-3
+    (λ c. search needs)
+    (λ c κs. search needs)
+    (λ c κs. search needs)
+    (λ c. search needs)
     returns-3
-    enum-known-c-4
-    write-two-requires-4
-    more-number-requires-2
-    same-length-4
+    (λ c. search needs)
+    (λ c κs. search needs)
+    (λ c κs. search needs)
+    (λ c. search needs)
     returns-4
     enum-told
     returns-5)

@@ -8,15 +8,6 @@ use Rattle.text.proofs.Written.{wrote-then, wrote-within}
 use Rattle.text.proofs.write_count_line.Statement.{statement}
 use Rattle.text.proofs.write_count_line.Tie as tie
 
-write-number-requires : tie.Need-write-number-requires
-write-number-requires c κs = search needs
-
-put-byte-requires : tie.Need-put-byte-requires
-put-byte-requires c κs = search needs
-
-same-length : tie.Need-same-length
-same-length c = search needs
-
 returns : tie.Need-returns
 returns c =
     let n = c .before .before .before .before .before .before .before .before .before .args .n in
@@ -24,4 +15,4 @@ returns c =
 
 pub write-count-line-spec : {M : Type 1} → statement M
 write-count-line-spec =
-    tie.close (tie.spec write-number-requires put-byte-requires same-length returns)
+    tie.close (tie.spec (λ c κs. search needs) (λ c κs. search needs) (λ c. search needs) returns)

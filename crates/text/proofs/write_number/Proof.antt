@@ -12,13 +12,10 @@ use Rattle.text.proofs.write_number.Tie as tie
 put-digits-requires : tie.Need-put-digits-requires
 put-digits-requires c κs = (omega (arith, decimal-length (c .before .before .args .n)), c .before .before .fits .n .fits)
 
-same-length : tie.Need-same-length
-same-length c = search needs
-
 returns : tie.Need-returns
 returns c =
     let n = c .before .before .before .before .before .args .n in
     wrote-within 10 (decimal n) (decimal-length n) refl (c .before .before .put-digits .ensures)
 
 pub write-number-spec : {M : Type 1} → statement M
-write-number-spec = tie.close (tie.spec put-digits-requires same-length returns)
+write-number-spec = tie.close (tie.spec put-digits-requires (λ c. search needs) returns)

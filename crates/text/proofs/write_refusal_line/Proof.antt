@@ -8,18 +8,6 @@ use Rattle.text.proofs.Written.{wrote-then, wrote-within}
 use Rattle.text.proofs.write_refusal_line.Statement.{statement}
 use Rattle.text.proofs.write_refusal_line.Tie as tie
 
-put-byte-requires : tie.Need-put-byte-requires
-put-byte-requires c κs = search needs
-
-more-number-requires : tie.Need-more-number-requires
-more-number-requires c κs = search needs
-
-put-byte-requires-2 : tie.Need-put-byte-requires-2
-put-byte-requires-2 c κs = search needs
-
-same-length : tie.Need-same-length
-same-length c = search needs
-
 returns : tie.Need-returns
 returns c =
     let n = c .before .before .before .before .before .before .before .before .before .before .before .before .before .args .n in
@@ -30,4 +18,4 @@ returns c =
 pub write-refusal-line-spec : {M : Type 1} → statement M
 write-refusal-line-spec =
     tie.close
-    (tie.spec put-byte-requires more-number-requires put-byte-requires-2 same-length returns)
+    (tie.spec (λ c κs. search needs) (λ c κs. search needs) (λ c κs. search needs) (λ c. search needs) returns)

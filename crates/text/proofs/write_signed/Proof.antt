@@ -11,20 +11,8 @@ use Rattle.text.proofs.Written.{wrote-then, wrote-within}
 use Rattle.text.proofs.write_signed.Statement.{statement}
 use Rattle.text.proofs.write_signed.Tie as tie
 
-bias-requires : tie.Need-bias-requires
-bias-requires c κs = search needs
-
-put-byte-requires : tie.Need-put-byte-requires
-put-byte-requires c κs = search needs
-
-sub-put-digits : tie.Need-sub-put-digits
-sub-put-digits c = search needs
-
 put-digits-requires : tie.Need-put-digits-requires
 put-digits-requires c κs = (omega (arith, decimal-length (2147483648 - c .before .before .before .before .before .before .bias .result)), omega arith)
-
-same-length : tie.Need-same-length
-same-length c = search needs
 
 returns : tie.Need-returns
 returns c =
@@ -39,9 +27,6 @@ returns c =
 put-digits-requires-2 : tie.Need-put-digits-requires-2
 put-digits-requires-2 c κs = (omega (arith, decimal-length (c .before .before .bias .result - 2147483648)), omega (arith, c .before .before .bias .ensures .1))
 
-same-length-2 : tie.Need-same-length-2
-same-length-2 c = search needs
-
 returns-2 : tie.Need-returns-2
 returns-2 c =
     let s = c .before .before .before .before .before .before .before in
@@ -55,12 +40,12 @@ pub write-signed-spec : {M : Type 1} → statement M
 write-signed-spec =
     tie.close
     (tie.spec
-    bias-requires
-    put-byte-requires
-    sub-put-digits
+    (λ c κs. search needs)
+    (λ c κs. search needs)
+    (λ c. search needs)
     put-digits-requires
-    same-length
+    (λ c. search needs)
     returns
     put-digits-requires-2
-    same-length-2
+    (λ c. search needs)
     returns-2)

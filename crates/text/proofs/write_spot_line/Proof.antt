@@ -10,21 +10,6 @@ use Rattle.text.proofs.Written.{wrote-then, wrote-within}
 use Rattle.text.proofs.write_spot_line.Statement.{statement}
 use Rattle.text.proofs.write_spot_line.Tie as tie
 
-write-signed-requires : tie.Need-write-signed-requires
-write-signed-requires c κs = search needs
-
-more-signed-requires : tie.Need-more-signed-requires
-more-signed-requires c κs = search needs
-
-more-number-requires : tie.Need-more-number-requires
-more-number-requires c κs = search needs
-
-put-byte-requires : tie.Need-put-byte-requires
-put-byte-requires c κs = search needs
-
-same-length : tie.Need-same-length
-same-length c = search needs
-
 returns : tie.Need-returns
 returns c =
     let s = c .before .before .before .before .before .before .before .before .before .before .before .before .before .before .before .before .before in
@@ -40,9 +25,9 @@ pub write-spot-line-spec : {M : Type 1} → statement M
 write-spot-line-spec =
     tie.close
     (tie.spec
-    write-signed-requires
-    more-signed-requires
-    more-number-requires
-    put-byte-requires
-    same-length
+    (λ c κs. search needs)
+    (λ c κs. search needs)
+    (λ c κs. search needs)
+    (λ c κs. search needs)
+    (λ c. search needs)
     returns)

@@ -11,18 +11,6 @@ use Rattle.text.proofs.Written.{wrote-then, wrote-within}
 use Rattle.text.proofs.write_two.Statement.{statement}
 use Rattle.text.proofs.write_two.Tie as tie
 
-put-byte-requires : tie.Need-put-byte-requires
-put-byte-requires c κs = search needs
-
-more-signed-requires : tie.Need-more-signed-requires
-more-signed-requires c κs = search needs
-
-more-signed-requires-2 : tie.Need-more-signed-requires-2
-more-signed-requires-2 c κs = search needs
-
-same-length : tie.Need-same-length
-same-length c = search needs
-
 returns : tie.Need-returns
 returns c =
     let s = c .before .before .before .before .before .before .before .before .before .before .before .before .before in
@@ -36,4 +24,4 @@ returns c =
 pub write-two-spec : {M : Type 1} → statement M
 write-two-spec =
     tie.close
-    (tie.spec put-byte-requires more-signed-requires more-signed-requires-2 same-length returns)
+    (tie.spec (λ c κs. search needs) (λ c κs. search needs) (λ c κs. search needs) (λ c. search needs) returns)

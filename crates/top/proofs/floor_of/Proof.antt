@@ -6,21 +6,15 @@ use Prim.Native.Nat.{_/_}
 use denote.Ref.{now}
 use borrow.Author.Tests.{eq-eqb, ne-eqb}
 use borrow.Author.Needs.{needs}
-use Rattle.top.specs.Rows.{topKey}
+use Rattle.top.specs.Rows.{firstKey}
 use Rattle.top.proofs.floor_of.Statement.{statement}
 use Rattle.top.proofs.floor_of.Tie as tie
 
 returns : tie.Need-returns
-returns c = let a = c .before .args in sym (ap (λ (b : Bool). cond b 0 (topKey (now (a .kids)) / 65536)) (eq-eqb (a .m) 0 (c .if1 .taken)))
-
-shared-slice-copy-out-row : tie.Need-shared-slice-copy-out-row
-shared-slice-copy-out-row c = search needs
-
-array-read-result : tie.Need-array-read-result
-array-read-result c = search needs
+returns c = let a = c .before .args in sym (ap (λ (b : Bool). cond b 0 (firstKey (now (a .kids)) / 65536)) (eq-eqb (a .m) 0 (c .if1 .taken)))
 
 returns-2 : tie.Need-returns-2
-returns-2 c = let a = c .before .before .args in sym (ap (λ (b : Bool). cond b 0 (topKey (now (a .kids)) / 65536)) (ne-eqb (a .m) 0 (c .before .if1 .left)))
+returns-2 c = let a = c .before .before .args in sym (ap (λ (b : Bool). cond b 0 (firstKey (now (a .kids)) / 65536)) (ne-eqb (a .m) 0 (c .before .if1 .left)))
 
 pub floor-of-spec : {M : Type 1} → statement M
-floor-of-spec = tie.close (tie.spec returns shared-slice-copy-out-row array-read-result returns-2)
+floor-of-spec = tie.close (tie.spec returns (λ c. search needs) (λ c. search needs) returns-2)

@@ -6,7 +6,7 @@ use Prim.Native.Nat.{_-_, _/_, _≤_}
 use native.Mathlib.Omega.{arith}
 use lib.ListN.{length}
 use borrow.Author.Needs.{needs}
-use Rattle.top.specs.Rows.{topKey}
+use Rattle.top.specs.Rows.{firstKey}
 use Rattle.top.specs.Runs.{Passes}
 use Rattle.top.proofs.Gives.{give-on, give-none, give-step, give-at, give-ends, leads, movable}
 use Rattle.top.proofs.give_above.Statement.{statement}
@@ -55,6 +55,18 @@ put-out-requires c κs =
     let l = c .before .before .before .before .before .before .loop in
     omega (arith, p .fits, l .inv .1)
 
+sub-move-on : tie.Need-sub-move-on Inv-loop μ-loop
+sub-move-on c =
+    let at-loop = c .before .before .before .before .before .before .before .before .before .before in
+    let l = at-loop .loop in
+    omega (arith, give-on (l .j) (at-loop .before .before .before .args .k) (l .left) (c .before .before .before .before .before .before .before .before .before .loop-test .taken) .0)
+
+sub-move-on-2 : tie.Need-sub-move-on-2 Inv-loop μ-loop
+sub-move-on-2 c =
+    let at-loop = c .before .before .before .before .before .before .before .before .before .before in
+    let l = at-loop .loop in
+    omega (arith, give-on (l .j) (at-loop .before .before .before .args .k) (l .left) (c .before .before .before .before .before .before .before .before .before .loop-test .taken) .0)
+
 move-on-requires : tie.Need-move-on-requires Inv-loop μ-loop
 move-on-requires c κs =
     let p = c .before .before .before .before .before .before .before .before .before .before .before .before .before .pre in
@@ -87,7 +99,7 @@ loop-again c =
     let at-put = c .before .before .before .before .before .put-out in
     let at-move = c .before .move-on in
     let on = give-on (l .j) (a .k) (l .left) (at-test .taken) in
-    let over : a .floor ≤ topKey (l .heads) / 4294967296 = omega (arith, at-floor .left) in (
+    let over : a .floor ≤ firstKey (l .heads) / 4294967296 = omega (arith, at-floor .left) in (
       at-move .kept .1 .1 .0 ∙ l .inv .0,
       at-put .kept .0 ∙ l .inv .1,
       give-step (l .inv .2) (on .1) (on .0) over (at-lead .ensures) (at-put .ensures) (at-move .ensures),
@@ -116,6 +128,8 @@ give-above-spec =
     returns
     lead-requires
     put-out-requires
+    sub-move-on
+    sub-move-on-2
     move-on-requires
     add-j
     loop-less

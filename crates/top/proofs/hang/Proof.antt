@@ -12,15 +12,6 @@ use Rattle.top.proofs.hang.Tie as tie
 returns : tie.Need-returns
 returns c = let a = c .before .args in hung-none (now (a .h)) (a .m) (a .x) {some = a .some} (not-true _ (c .if1 .taken))
 
-push-requires : tie.Need-push-requires
-push-requires c κs = search needs
-
-add-result : tie.Need-add-result
-add-result c = search needs
-
-same-length : tie.Need-same-length
-same-length c = search needs
-
 returns-2 : tie.Need-returns-2
 returns-2 c =
     let a = c .before .before .before .before .args in
@@ -28,4 +19,4 @@ returns-2 c =
     hung-some (now (a .h)) (a .m) (a .x) {some = a .some} (not-false _ (c .before .before .before .if1 .left)) two (c .before .before .before .before .pre .0) (c .before .push .ensures)
 
 pub hang-spec : {M : Type 1} → statement M
-hang-spec = tie.close (tie.spec returns push-requires add-result same-length returns-2)
+hang-spec = tie.close (tie.spec returns (λ c κs. search needs) (λ c. search needs) (λ c. search needs) returns-2)

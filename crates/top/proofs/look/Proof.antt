@@ -14,9 +14,6 @@ use Rattle.top.proofs.look.Tie as tie
 header-ok-requires : tie.Need-header-ok-requires
 header-ok-requires c κs = sized-long (now (c .before .before .before .args .t)) (c .before .before .before .pre .sized)
 
-stops-requires : tie.Need-stops-requires
-stops-requires c κs = search needs
-
 returns : tie.Need-returns
 returns c =
     let a = c .before .before .before .before .before .before .args in
@@ -31,21 +28,6 @@ read-node-requires c κs =
     let at-header = c .before .before .before .before .before .before .header-ok in
     let good = c .before .before .before .before .before .if1 in
     root-reads p (sym (at-header .ensures) ∙ not-false _ (good .left)) (c .before .before .before .before .root-place .ensures)
-
-stops-requires-2 : tie.Need-stops-requires-2
-stops-requires-2 c κs = search needs
-
-same-length : tie.Need-same-length
-same-length c = search needs
-
-same-length-2 : tie.Need-same-length-2
-same-length-2 c = search needs
-
-same-length-3 : tie.Need-same-length-3
-same-length-3 c = search needs
-
-same-length-4 : tie.Need-same-length-4
-same-length-4 c = search needs
 
 returns-2 : tie.Need-returns-2
 returns-2 c =
@@ -77,21 +59,6 @@ sweep-requires c κs =
       begun = root-swept p (sym (at-header .ensures) ∙ not-false _ (good .left)) (at-root .ensures) (at-read .ensures) (not-false _ (done .left));
     }
 
-same-length-5 : tie.Need-same-length-5
-same-length-5 c = search needs
-
-same-length-6 : tie.Need-same-length-6
-same-length-6 c = search needs
-
-same-length-7 : tie.Need-same-length-7
-same-length-7 c = search needs
-
-same-length-8 : tie.Need-same-length-8
-same-length-8 c = search needs
-
-same-length-9 : tie.Need-same-length-9
-same-length-9 c = search needs
-
 returns-3 : tie.Need-returns-3
 returns-3 c =
     let at-read = c .before .before .before .before .before .before .before .before .before .before .before .before .before .before .before .before .before .before .before .before .before .read-node in
@@ -103,20 +70,20 @@ look-spec =
     tie.close
     (tie.spec
     header-ok-requires
-    stops-requires
+    (λ c κs. search needs)
     returns
     root-place-requires
     read-node-requires
-    stops-requires-2
-    same-length
-    same-length-2
-    same-length-3
-    same-length-4
+    (λ c κs. search needs)
+    (λ c. search needs)
+    (λ c. search needs)
+    (λ c. search needs)
+    (λ c. search needs)
     returns-2
     sweep-requires
-    same-length-5
-    same-length-6
-    same-length-7
-    same-length-8
-    same-length-9
+    (λ c. search needs)
+    (λ c. search needs)
+    (λ c. search needs)
+    (λ c. search needs)
+    (λ c. search needs)
     returns-3)

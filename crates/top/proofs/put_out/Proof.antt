@@ -10,15 +10,6 @@ use Rattle.spot.specs.Spots.{putSpot}
 use Rattle.top.proofs.put_out.Statement.{statement}
 use Rattle.top.proofs.put_out.Tie as tie
 
-mul-write-spot : tie.Need-mul-write-spot
-mul-write-spot c = search needs
-
-write-spot-requires : tie.Need-write-spot-requires
-write-spot-requires c κs = search needs
-
-same-length : tie.Need-same-length
-same-length c = search needs
-
 returns : tie.Need-returns
 returns c =
     let a = c .before .before .before .before .before .before .args in
@@ -31,4 +22,4 @@ returns-2 c =
 
 pub put-out-spec : {M : Type 1} → statement M
 put-out-spec =
-    tie.close (tie.spec mul-write-spot write-spot-requires same-length returns returns-2)
+    tie.close (tie.spec (λ c. search needs) (λ c κs. search needs) (λ c. search needs) returns returns-2)

@@ -8,12 +8,6 @@ use borrow.Author.Needs.{needs}
 use Rattle.top.proofs.read_node.Statement.{statement}
 use Rattle.top.proofs.read_node.Tie as tie
 
-test-bit-requires : tie.Need-test-bit-requires
-test-bit-requires c κs = search needs
-
-same-length : tie.Need-same-length
-same-length c = search needs
-
 returns : tie.Need-returns
 returns c =
     record {
@@ -23,12 +17,6 @@ returns c =
       marked = λ e. absurd (false≢true e);
       added = λ e. absurd (false≢true e);
     }
-
-block-ok-requires : tie.Need-block-ok-requires
-block-ok-requires c κs = search needs
-
-same-length-2 : tie.Need-same-length-2
-same-length-2 c = search needs
 
 returns-2 : tie.Need-returns-2
 returns-2 c =
@@ -40,26 +28,11 @@ returns-2 c =
       added = λ e. absurd (false≢true e);
     }
 
-set-bit-requires : tie.Need-set-bit-requires
-set-bit-requires c κs = search needs
-
 join-requires : tie.Need-join-requires
 join-requires c κs =
     let at-ok = c .before .before .before .before .before .before .before .before .block-ok in
     let valid = c .before .before .before .before .before .before .before .if2 in
     c .before .before .before .before .before .before .before .before .before .before .before .before .before .before .pre .joins (sym (at-ok .ensures) ∙ not-false _ (valid .left))
-
-same-length-3 : tie.Need-same-length-3
-same-length-3 c = search needs
-
-same-length-4 : tie.Need-same-length-4
-same-length-4 c = search needs
-
-same-length-5 : tie.Need-same-length-5
-same-length-5 c = search needs
-
-same-length-6 : tie.Need-same-length-6
-same-length-6 c = search needs
 
 returns-3 : tie.Need-returns-3
 returns-3 c =
@@ -79,16 +52,16 @@ pub read-node-spec : {M : Type 1} → statement M
 read-node-spec =
     tie.close
     (tie.spec
-    test-bit-requires
-    same-length
+    (λ c κs. search needs)
+    (λ c. search needs)
     returns
-    block-ok-requires
-    same-length-2
+    (λ c κs. search needs)
+    (λ c. search needs)
     returns-2
-    set-bit-requires
+    (λ c κs. search needs)
     join-requires
-    same-length-3
-    same-length-4
-    same-length-5
-    same-length-6
+    (λ c. search needs)
+    (λ c. search needs)
+    (λ c. search needs)
+    (λ c. search needs)
     returns-3)

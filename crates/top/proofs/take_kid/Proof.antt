@@ -11,24 +11,9 @@ use Rattle.frontier.proofs.Chains.{hangs-valid}
 use Rattle.frontier.specs.Picks.{KidBest}
 use Rattle.frontier.specs.Frontier.{kidCount, kidEntry, kidPlace}
 use Rattle.frontier.specs.declared.Place.{Place}
-use Rattle.top.specs.Rows.{topKey, topValue}
+use Rattle.top.specs.Rows.{firstKey, firstValue}
 use Rattle.top.proofs.take_kid.Statement.{statement}
 use Rattle.top.proofs.take_kid.Tie as tie
-
-slice-copy-out-row : tie.Need-slice-copy-out-row
-slice-copy-out-row c = search needs
-
-array-read-up : tie.Need-array-read-up
-array-read-up c = search needs
-
-place-at-requires : tie.Need-place-at-requires
-place-at-requires c κs = search needs
-
-array-read-best-kid : tie.Need-array-read-best-kid
-array-read-best-kid c = search needs
-
-sub-best-kid : tie.Need-sub-best-kid
-sub-best-kid c = search needs
 
 best-kid-requires : tie.Need-best-kid-requires
 best-kid-requires c κs =
@@ -36,30 +21,18 @@ best-kid-requires c κs =
     let at-place = c .place-at in
     subst (λ (p : Place). ValidBlock (now (a .t)) (p .block)) (sym (at-place .ensures)) (hangs-valid (c .before .before .before .pre .hangs))
 
-mul-t25 : tie.Need-mul-t25
-mul-t25 c = search needs
-
-add-t26 : tie.Need-add-t26
-add-t26 c = search needs
-
-lower-requires : tie.Need-lower-requires
-lower-requires c κs = search needs
-
 kid-of-requires : tie.Need-kid-of-requires
 kid-of-requires c κs =
     let a = c .before .before .before .before .before .before .before .before .before .args in
     let p = c .before .before .before .before .before .before .before .before .before .pre in
     let at-place = c .before .before .before .before .before .before .place-at in
-    subst (λ (x : Place). ValidBlock (now (a .t)) (x .block) × (topValue (now (a .kids)) % 8 < kidCount (now (a .t)) (x .block))) (sym (at-place .ensures)) (hangs-valid (p .hangs), p .below)
+    subst (λ (x : Place). ValidBlock (now (a .t)) (x .block) × (firstValue (now (a .kids)) % 8 < kidCount (now (a .t)) (x .block))) (sym (at-place .ensures)) (hangs-valid (p .hangs), p .below)
 
 sub-t26 : tie.Need-sub-t26
 sub-t26 c =
     let p = c .before .before .before .before .before .before .before .before .before .before .before .before .before .pre in
     let at-place = c .before .before .before .before .before .before .before .before .before .before .place-at in
     subst (λ (x : Place). 1 ≤ x .level) (sym (at-place .ensures)) (p .level)
-
-same-length : tie.Need-same-length
-same-length c = search needs
 
 returns : tie.Need-returns
 returns c =
@@ -68,7 +41,7 @@ returns c =
     let at-next = c .before .before .before .before .before .before .before .before .before .best-kid in
     let at-lower = c .before .before .before .before .before .lower in
     let kid = c .before .before .before .kid-of .ensures in
-    let i = topValue (now (a .kids)) % 8 in
+    let i = firstValue (now (a .kids)) % 8 in
     record {
       place =
           ap₂ (λ (e : Entry) (s : Span). record { block = e .block; level = at-place .result .level - 1; span = s }) (kid .entry) (kid .span)
@@ -76,7 +49,7 @@ returns c =
       entry = kid .entry ∙ ap (λ (p : Place). kidEntry (now (a .t)) (p .block) i) (at-place .ensures);
       up = refl;
       next = at-next .result;
-      best = subst (λ (p : Place). KidBest (now (a .t)) (p .block) (p .span) (a .q) (topKey (now (a .kids)) - 1) (at-next .result)) (at-place .ensures) (at-next .ensures);
+      best = subst (λ (p : Place). KidBest (now (a .t)) (p .block) (p .span) (a .q) (firstKey (now (a .kids)) - 1) (at-next .result)) (at-place .ensures) (at-next .ensures);
       lowered = at-lower .ensures;
     }
 
@@ -84,16 +57,16 @@ pub take-kid-spec : {M : Type 1} → statement M
 take-kid-spec =
     tie.close
     (tie.spec
-    slice-copy-out-row
-    array-read-up
-    place-at-requires
-    array-read-best-kid
-    sub-best-kid
+    (λ c. search needs)
+    (λ c. search needs)
+    (λ c κs. search needs)
+    (λ c. search needs)
+    (λ c. search needs)
     best-kid-requires
-    mul-t25
-    add-t26
-    lower-requires
+    (λ c. search needs)
+    (λ c. search needs)
+    (λ c κs. search needs)
     kid-of-requires
     sub-t26
-    same-length
+    (λ c. search needs)
     returns)

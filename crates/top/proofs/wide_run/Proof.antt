@@ -8,23 +8,8 @@ use Rattle.top.proofs.Sweeps.{look-ready, run-wide, searched-as}
 use Rattle.top.proofs.wide_run.Statement.{statement}
 use Rattle.top.proofs.wide_run.Tie as tie
 
-slice-aggregate-look : tie.Need-slice-aggregate-look
-slice-aggregate-look c = search needs
-
-slice-aggregate-look-2 : tie.Need-slice-aggregate-look-2
-slice-aggregate-look-2 c = search needs
-
-slice-aggregate-look-3 : tie.Need-slice-aggregate-look-3
-slice-aggregate-look-3 c = search needs
-
 look-requires : tie.Need-look-requires
 look-requires c κs = look-ready 4096 (omega arith) (omega arith) (c .before .before .before .before .before .before .before .before .pre)
-
-same-length : tie.Need-same-length
-same-length c = search needs
-
-same-length-2 : tie.Need-same-length-2
-same-length-2 c = search needs
 
 returns : tie.Need-returns
 returns c = run-wide (searched-as (length-replicate 4096 (replicate {A = ℕ} 2 0)) (c .before .before .before .before .before .before .before .look .ensures))
@@ -33,10 +18,10 @@ pub wide-run-spec : {M : Type 1} → statement M
 wide-run-spec =
     tie.close
     (tie.spec
-    slice-aggregate-look
-    slice-aggregate-look-2
-    slice-aggregate-look-3
+    (λ c. search needs)
+    (λ c. search needs)
+    (λ c. search needs)
     look-requires
-    same-length
-    same-length-2
+    (λ c. search needs)
+    (λ c. search needs)
     returns)

@@ -7,9 +7,6 @@ use native.Mathlib.Omega.{arith}
 use Rattle.visit.proofs.below.Statement.{statement}
 use Rattle.visit.proofs.below.Tie as tie
 
-eighths-requires : tie.Need-eighths-requires
-eighths-requires c κs = search needs
-
 mul-a : tie.Need-mul-a
 mul-a c = omega (arith, run-most (now (c .before .before .args .t)) (c .before .before .args .w) (c .before .before .args .n) (c .before .before .args .at) (c .before .before .args .k))
 
@@ -22,12 +19,6 @@ near-requires c κs = (c .before .before .before .pre, c .before .eighths .ensur
 returns : tie.Need-returns
 returns c = (c .near .ensures, omega (arith, c .near .ensures, run-most (now (c .before .before .before .before .args .t)) (c .before .before .before .before .args .w) (c .before .before .before .before .args .n) (c .before .before .before .before .args .at) (c .before .before .before .before .args .k)))
 
-add-near : tie.Need-add-near
-add-near c = search needs
-
-near-requires-2 : tie.Need-near-requires-2
-near-requires-2 c κs = search needs
-
 returns-2 : tie.Need-returns-2
 returns-2 c = (c .near2 .ensures, omega (arith, c .near2 .ensures, run-most (now (c .before .before .before .before .args .t)) (c .before .before .before .before .args .w) (c .before .before .before .before .args .n) (c .before .before .before .before .args .at) (c .before .before .before .before .args .k)))
 
@@ -35,11 +26,11 @@ pub below-spec : {M : Type 1} → statement M
 below-spec =
     tie.close
     (tie.spec
-    eighths-requires
+    (λ c κs. search needs)
     mul-a
     add-if1
     near-requires
     returns
-    add-near
-    near-requires-2
+    (λ c. search needs)
+    (λ c κs. search needs)
     returns-2)

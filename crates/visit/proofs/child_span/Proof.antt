@@ -10,24 +10,6 @@ use Rattle.visit.proofs.Spans.{span-next, span-last}
 use Rattle.visit.proofs.child_span.Statement.{statement}
 use Rattle.visit.proofs.child_span.Tie as tie
 
-add-if1 : tie.Need-add-if1
-add-if1 c = search needs
-
-add-read-key : tie.Need-add-read-key
-add-read-key c = search needs
-
-mul-read-key : tie.Need-mul-read-key
-mul-read-key c = search needs
-
-add-read-key-2 : tie.Need-add-read-key-2
-add-read-key-2 c = search needs
-
-add-read-key-3 : tie.Need-add-read-key-3
-add-read-key-3 c = search needs
-
-read-key-requires : tie.Need-read-key-requires
-read-key-requires c κs = search needs
-
 returns : tie.Need-returns
 returns c =
     let a = c .before .before .before .args in
@@ -43,11 +25,11 @@ pub child-span-spec : {M : Type 1} → statement M
 child-span-spec =
     tie.close
     (tie.spec
-    add-if1
-    add-read-key
-    mul-read-key
-    add-read-key-2
-    add-read-key-3
-    read-key-requires
+    (λ c. search needs)
+    (λ c. search needs)
+    (λ c. search needs)
+    (λ c. search needs)
+    (λ c. search needs)
+    (λ c κs. search needs)
     returns
     returns-2)

@@ -11,24 +11,6 @@ use Rattle.visit.proofs.Counts.{own-is}
 use Rattle.visit.proofs.count_own.Statement.{statement}
 use Rattle.visit.proofs.count_own.Tie as tie
 
-mul-from : tie.Need-mul-from
-mul-from c = search needs
-
-add-to : tie.Need-add-to
-add-to c = search needs
-
-sub-front-of : tie.Need-sub-front-of
-sub-front-of c = search needs
-
-part-front-of-start : tie.Need-part-front-of-start
-part-front-of-start c = search needs
-
-part-front-of-end : tie.Need-part-front-of-end
-part-front-of-end c = search needs
-
-front-of-requires : tie.Need-front-of-requires
-front-of-requires c κs = search needs
-
 -- the buffers of the node
 runs : (c : tie.After-front-of) → Runs (now (c .before .before .before .args .t)) (c .before .before .before .args .b) (c .front-of .result)
 runs c =
@@ -39,14 +21,8 @@ runs c =
 points-from-requires : tie.Need-points-from-requires
 points-from-requires c κs = omega (arith, runs c .used)
 
-add-ap : tie.Need-add-ap
-add-ap c = search needs
-
 inserts-from-requires : tie.Need-inserts-from-requires
 inserts-from-requires c κs = omega (arith, runs (c .before) .used)
-
-add-ai : tie.Need-add-ai
-add-ai c = search needs
 
 count-run-requires : tie.Need-count-run-requires
 count-run-requires c κs =
@@ -64,9 +40,6 @@ count-run-requires-2 c κs =
     let h = inserts-ready (now (a .t)) (a .b) (f .front-of .result) (runs f) (s .pre .0 .inside) (c .before .inserts-from .ensures) in
     (h .2, h .3, s .pre .1, h .4)
 
-add-result : tie.Need-add-result
-add-result c = search needs
-
 returns : tie.Need-returns
 returns c =
     let f = c .before .before .before .before in
@@ -79,17 +52,17 @@ pub count-own-spec : {M : Type 1} → statement M
 count-own-spec =
     tie.close
     (tie.spec
-    mul-from
-    add-to
-    sub-front-of
-    part-front-of-start
-    part-front-of-end
-    front-of-requires
+    (λ c. search needs)
+    (λ c. search needs)
+    (λ c. search needs)
+    (λ c. search needs)
+    (λ c. search needs)
+    (λ c κs. search needs)
     points-from-requires
-    add-ap
+    (λ c. search needs)
     inserts-from-requires
-    add-ai
+    (λ c. search needs)
     count-run-requires
     count-run-requires-2
-    add-result
+    (λ c. search needs)
     returns)

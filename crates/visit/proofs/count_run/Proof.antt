@@ -6,14 +6,8 @@ use Rattle.visit.proofs.Marking.{marks-count}
 use Rattle.visit.proofs.count_run.Statement.{statement}
 use Rattle.visit.proofs.count_run.Tie as tie
 
-marks-requires : tie.Need-marks-requires
-marks-requires c κs = search needs
-
-count-marks-requires : tie.Need-count-marks-requires
-count-marks-requires c κs = search needs
-
 returns : tie.Need-returns
 returns c = (c .count-marks .ensures .0 ∙ sym (marks-count (c .before .marks .ensures)), c .count-marks .ensures .1)
 
 pub count-run-spec : {M : Type 1} → statement M
-count-run-spec = tie.close (tie.spec marks-requires count-marks-requires returns)
+count-run-spec = tie.close (tie.spec (λ c κs. search needs) (λ c κs. search needs) returns)

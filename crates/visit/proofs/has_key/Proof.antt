@@ -9,9 +9,6 @@ use Rattle.visit.proofs.Search.{key-room, run-has-none, run-has}
 use Rattle.visit.proofs.has_key.Statement.{statement}
 use Rattle.visit.proofs.has_key.Tie as tie
 
-below-requires : tie.Need-below-requires
-below-requires c κs = search needs
-
 returns : tie.Need-returns
 returns c =
     let s = c .before .before .before in
@@ -42,4 +39,4 @@ returns-2 c =
 pub has-key-spec : {M : Type 1} → statement M
 has-key-spec =
     tie.close
-    (tie.spec below-requires returns mul-read-key add-read-key read-key-requires returns-2)
+    (tie.spec (λ c κs. search needs) returns mul-read-key add-read-key read-key-requires returns-2)

@@ -26,11 +26,17 @@ wanted-requires c κs = search needs
 returns : tie.Need-returns Inv-loop μ-loop
 returns c = marks-none (c .before .before .before .args .t5) (omega arith) (c .before .wanted .ensures)
 
+from-key-requires : tie.Need-from-key-requires Inv-loop μ-loop
+from-key-requires c κs = search needs
+
 read-key-requires : tie.Need-read-key-requires Inv-loop μ-loop
 read-key-requires c κs = omega arith
 
 later-requires : tie.Need-later-requires Inv-loop μ-loop
 later-requires c κs = search needs
+
+last-key-requires : tie.Need-last-key-requires Inv-loop μ-loop
+last-key-requires c κs = search needs
 
 sub-read-key : tie.Need-sub-read-key Inv-loop μ-loop
 sub-read-key c = omega arith
@@ -49,9 +55,10 @@ earlier-requires c κs = search needs
 
 loop-holds : tie.Need-loop-holds Inv-loop μ-loop
 loop-holds c =
-    let s = c .before .before .before .before .before .before .before in
+    let asked = c .before .before .before .before .before .before .before in
+    let s = asked .before .before in
     let a = s .args in
-    (omega arith, path-start (now (a .t)) (a .at) (a .n) (a .q) (a .t5) (long s) (s .pre .2 .few) (c .before .before .before .before .before .wanted .result))
+    (omega arith, path-start (now (a .t)) (a .at) (a .n) (a .q) (a .t5) (long s) (s .pre .2 .few) (asked .wanted .result))
 
 mul-b : tie.Need-mul-b Inv-loop μ-loop
 mul-b c = omega arith
@@ -64,15 +71,21 @@ slice-aggregate-strike-node c = search needs
 
 strike-node-requires : tie.Need-strike-node-requires Inv-loop μ-loop
 strike-node-requires c κs =
-    let s = c .before .before .before .before .before .before .before .before .before .before .before in
+    let at-loop = c .before .before .before in
+    let at-hi = at-loop .before in
+    let at-last = at-hi .before .before in
+    let at-lo = at-last .before in
+    let at-from = at-lo .before .before in
+    let asked = at-from .before .before in
+    let s = asked .before .before in
     let a = s .args in
-    let l = c .before .before .before .loop in
+    let l = at-loop .loop in
     let valid = s .pre .2 .valid (getD (a .t5 .blocks) (l .i) 0) (path-at (a .t5) (long s) (s .pre .2 .few) (l .i) (omega arith)) in
-    let blank = wanted-blank (now (a .t)) (a .at) (a .n) (a .q) (omega arith) (s .pre .3) (c .before .before .before .before .before .before .before .read-key .ensures) (c .before .before .before .before .before .read-key2 .ensures) (c .before .before .before .before .before .before .later .ensures) (c .before .before .before .before .earlier .ensures) (c .before .before .before .before .before .before .before .before .before .wanted .ensures) in (
+    let blank = wanted-blank (now (a .t)) (a .at) (a .n) (a .q) (omega arith) (s .pre .3) (at-from .from-key .ensures) (at-last .last-key .ensures) (at-lo .before .read-key .ensures) (at-hi .before .read-key2 .ensures) (at-lo .later .ensures) (at-hi .earlier .ensures) (asked .wanted .ensures) in (
       (omega arith, omega arith, s .pre .0, s .pre .1, s .pre .3),
       valid,
-      omega (arith, s .pre .0, l .inv .1 .sized, c .before .before .before .before .before .before .before .before .before .wanted .ensures .sized),
-      blank-struck (c .before .before .before .before .before .before .later .result) (c .before .before .before .before .earlier .result) (l .inv .1) blank,
+      omega (arith, s .pre .0, l .inv .1 .sized, asked .wanted .ensures .sized),
+      blank-struck (at-lo .later .result) (at-hi .earlier .result) (l .inv .1) blank,
     )
 
 add-i : tie.Need-add-i Inv-loop μ-loop
@@ -83,17 +96,19 @@ loop-less c = omega arith
 
 loop-again : tie.Need-loop-again Inv-loop μ-loop
 loop-again c =
-    let s = c .before .before .before .before .before .before .before .before .before .before .before .before .before in
+    let at-loop = c .before .before .before .before .before in
+    let s = at-loop .before .before .before .before .before .before .before .before .before .before in
     let a = s .args in
-    let l = c .before .before .before .before .before .loop in
+    let l = at-loop .loop in
     (omega arith, path-more (now (a .t)) (a .at) (a .n) (a .q) (a .t5) (long s) (s .pre .2 .few) (l .i) (omega arith) (l .inv .1) (c .before .strike-node .ensures))
 
 returns-2 : tie.Need-returns-2 Inv-loop μ-loop
 returns-2 c =
-    let s = c .before .before .before .before .before .before .before .before .before in
+    let asked = c .before .before .before .before .before .before .before .before .before in
+    let s = asked .before .before in
     let a = s .args in
     let l = c .before .loop in
-    marks-all (now (a .t)) (a .at) (a .n) (a .q) (a .t5) (long s) (s .pre .2 .few) (l .i) (omega arith) (c .before .before .before .before .before .before .before .wanted .ensures) (l .inv .1)
+    marks-all (now (a .t)) (a .at) (a .n) (a .q) (a .t5) (long s) (s .pre .2 .few) (l .i) (omega arith) (asked .wanted .ensures) (l .inv .1)
 
 pub marks-spec : {M : Type 1} → statement M
 marks-spec =
@@ -103,8 +118,10 @@ marks-spec =
     μ-loop
     wanted-requires
     returns
+    from-key-requires
     read-key-requires
     later-requires
+    last-key-requires
     sub-read-key
     mul-read-key
     add-read-key

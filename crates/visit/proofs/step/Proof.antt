@@ -9,15 +9,6 @@ use Rattle.octets.proofs.Lists.{take-push}
 use Rattle.visit.proofs.step.Statement.{statement}
 use Rattle.visit.proofs.step.Tie as tie
 
-mul-next : tie.Need-mul-next
-mul-next c = search needs
-
-element-write-next : tie.Need-element-write-next
-element-write-next c = search needs
-
-add-next : tie.Need-add-next
-add-next c = search needs
-
 returns : tie.Need-returns
 returns c =
     let long : length (c .args .p .blocks) ≡ 8 = search needs in
@@ -25,4 +16,4 @@ returns c =
     (search needs, take-push (c .args .p .blocks) (c .args .p .n) (c .args .b) h)
 
 pub step-spec : {M : Type 1} → statement M
-step-spec = tie.close (tie.spec mul-next element-write-next add-next returns)
+step-spec = tie.close (tie.spec (λ c. search needs) (λ c. search needs) (λ c. search needs) returns)

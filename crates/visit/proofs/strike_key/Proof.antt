@@ -6,27 +6,6 @@ use Rattle.visit.proofs.Marking.{struck-hit, struck-miss}
 use Rattle.visit.proofs.strike_key.Statement.{statement}
 use Rattle.visit.proofs.strike_key.Tie as tie
 
-below-requires : tie.Need-below-requires
-below-requires c κs = search needs
-
-slice-read-m : tie.Need-slice-read-m
-slice-read-m c = search needs
-
-mul-read-key : tie.Need-mul-read-key
-mul-read-key c = search needs
-
-add-read-key : tie.Need-add-read-key
-add-read-key c = search needs
-
-read-key-requires : tie.Need-read-key-requires
-read-key-requires c κs = search needs
-
-slice-write-m : tie.Need-slice-write-m
-slice-write-m c = search needs
-
-same-length : tie.Need-same-length
-same-length c = search needs
-
 returns : tie.Need-returns
 returns c =
     let s = c .before .before .before .before .before .before .args in
@@ -42,12 +21,12 @@ pub strike-key-spec : {M : Type 1} → statement M
 strike-key-spec =
     tie.close
     (tie.spec
-    below-requires
-    slice-read-m
-    mul-read-key
-    add-read-key
-    read-key-requires
-    slice-write-m
-    same-length
+    (λ c κs. search needs)
+    (λ c. search needs)
+    (λ c. search needs)
+    (λ c. search needs)
+    (λ c κs. search needs)
+    (λ c. search needs)
+    (λ c. search needs)
     returns
     returns-2)

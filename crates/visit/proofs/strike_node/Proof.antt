@@ -14,24 +14,6 @@ use Rattle.block.specs.Access.{frontOf}
 use Rattle.visit.proofs.strike_node.Statement.{statement}
 use Rattle.visit.proofs.strike_node.Tie as tie
 
-mul-from : tie.Need-mul-from
-mul-from c = search needs
-
-add-to : tie.Need-add-to
-add-to c = search needs
-
-sub-front-of : tie.Need-sub-front-of
-sub-front-of c = search needs
-
-part-front-of-start : tie.Need-part-front-of-start
-part-front-of-start c = search needs
-
-part-front-of-end : tie.Need-part-front-of-end
-part-front-of-end c = search needs
-
-front-of-requires : tie.Need-front-of-requires
-front-of-requires c κs = search needs
-
 -- the buffers of the node
 runs : (c : tie.After-front-of) → Runs (now (c .before .before .before .before .args .t)) (c .before .before .before .before .args .b) (c .front-of .result)
 runs c =
@@ -50,14 +32,8 @@ returns c =
 inserts-from-requires : tie.Need-inserts-from-requires
 inserts-from-requires c κs = omega (arith, runs (c .before .before .before) .used)
 
-add-ai : tie.Need-add-ai
-add-ai c = search needs
-
 deletes-from-requires : tie.Need-deletes-from-requires
 deletes-from-requires c κs = omega (arith, runs (c .before .before .before .before) .used)
-
-add-ad : tie.Need-add-ad
-add-ad c = search needs
 
 strike-requires : tie.Need-strike-requires
 strike-requires c κs =
@@ -88,17 +64,17 @@ pub strike-node-spec : {M : Type 1} → statement M
 strike-node-spec =
     tie.close
     (tie.spec
-    mul-from
-    add-to
-    sub-front-of
-    part-front-of-start
-    part-front-of-end
-    front-of-requires
+    (λ c. search needs)
+    (λ c. search needs)
+    (λ c. search needs)
+    (λ c. search needs)
+    (λ c. search needs)
+    (λ c κs. search needs)
     returns
     inserts-from-requires
-    add-ai
+    (λ c. search needs)
     deletes-from-requires
-    add-ad
+    (λ c. search needs)
     strike-requires
     strike-requires-2
     same-length

@@ -7,12 +7,6 @@ use Rattle.buffer.proofs.Counts.{has-between}
 use Rattle.buffer.proofs.keys.holds_key.Statement.{statement}
 use Rattle.buffer.proofs.keys.holds_key.Tie as tie
 
-key-position-requires : tie.Need-key-position-requires
-key-position-requires c κs = search needs
-
-key-past-requires : tie.Need-key-past-requires
-key-past-requires c κs = search needs
-
 returns : tie.Need-returns
 returns c =
     let s = c .before .before in
@@ -20,4 +14,4 @@ returns c =
     sym (has-between (s .args .key) (p .result) (c .key-past .result) (named (s .args .b)) (s .pre .up) (p .ensures .0) (c .key-past .ensures .0))
 
 pub holds-key-spec : {M : Type 1} → statement M
-holds-key-spec = tie.close (tie.spec key-position-requires key-past-requires returns)
+holds-key-spec = tie.close (tie.spec (λ c κs. search needs) (λ c κs. search needs) returns)

@@ -7,12 +7,6 @@ use Rattle.buffer.proofs.Keyed.{plain, low-built}
 use Rattle.buffer.proofs.keys.keys_below.Statement.{statement}
 use Rattle.buffer.proofs.keys.keys_below.Tie as tie
 
-key-position-requires : tie.Need-key-position-requires
-key-position-requires c κs = search needs
-
-cut-keys-requires : tie.Need-cut-keys-requires
-cut-keys-requires c κs = search needs
-
 returns : tie.Need-returns
 returns c =
     let s = c .before .before in
@@ -21,4 +15,4 @@ returns c =
     (omega arith, m .0, record { fits = omega (arith, s .pre .fits); up = m .1 })
 
 pub keys-below-spec : {M : Type 1} → statement M
-keys-below-spec = tie.close (tie.spec key-position-requires cut-keys-requires returns)
+keys-below-spec = tie.close (tie.spec (λ c κs. search needs) (λ c κs. search needs) returns)

@@ -9,12 +9,6 @@ use Rattle.buffer.proofs.Keyed.{plain, high-is}
 use Rattle.buffer.proofs.keys.keys_from.Statement.{statement}
 use Rattle.buffer.proofs.keys.keys_from.Tie as tie
 
-key-position-requires : tie.Need-key-position-requires
-key-position-requires c κs = search needs
-
-keys-between-requires : tie.Need-keys-between-requires
-keys-between-requires c κs = search needs
-
 returns : tie.Need-returns
 returns c =
     let s = c .before .before in
@@ -24,4 +18,4 @@ returns c =
     (omega arith, high-is plain (named b) (s .pre .up) (s .args .key) (p .result) (p .ensures .0) (b .n) size (c .keys-between .ensures .1), c .keys-between .ensures .2)
 
 pub keys-from-spec : {M : Type 1} → statement M
-keys-from-spec = tie.close (tie.spec key-position-requires keys-between-requires returns)
+keys-from-spec = tie.close (tie.spec (λ c κs. search needs) (λ c κs. search needs) returns)

@@ -9,15 +9,6 @@ use Rattle.buffer.proofs.Lists.{length-image}
 use Rattle.buffer.proofs.keys.push_key.Statement.{statement}
 use Rattle.buffer.proofs.keys.push_key.Tie as tie
 
-mul-next : tie.Need-mul-next
-mul-next c = search needs
-
-element-write-next : tie.Need-element-write-next
-element-write-next c = search needs
-
-add-next : tie.Need-add-next
-add-next c = search needs
-
 long : (c : tie.Start) → length (c .args .b .keys) ≡ 32
 long c = search (needs, length-image)
 
@@ -25,4 +16,4 @@ returns : tie.Need-returns
 returns c = (search needs, take-push (c .args .b .keys) (c .args .b .n) (c .args .k) (omega (arith, long c)))
 
 pub push-key-spec : {M : Type 1} → statement M
-push-key-spec = tie.close (tie.spec mul-next element-write-next add-next returns)
+push-key-spec = tie.close (tie.spec (λ c. search needs) (λ c. search needs) (λ c. search needs) returns)

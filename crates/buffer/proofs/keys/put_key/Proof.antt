@@ -9,9 +9,6 @@ use Rattle.buffer.proofs.Keyed.{plain, insert-built}
 use Rattle.buffer.proofs.keys.put_key.Statement.{statement}
 use Rattle.buffer.proofs.keys.put_key.Tie as tie
 
-key-position-requires : tie.Need-key-position-requires
-key-position-requires c κs = search needs
-
 cut-keys-requires : tie.Need-cut-keys-requires
 cut-keys-requires c κs = omega arith
 
@@ -31,4 +28,4 @@ returns c =
     (omega arith, m .0, record { fits = omega arith; up = m .1 })
 
 pub put-key-spec : {M : Type 1} → statement M
-put-key-spec = tie.close (tie.spec key-position-requires cut-keys-requires push-key-requires append-keys-requires returns)
+put-key-spec = tie.close (tie.spec (λ c κs. search needs) cut-keys-requires push-key-requires append-keys-requires returns)

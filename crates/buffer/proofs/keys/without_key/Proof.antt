@@ -7,15 +7,6 @@ use Rattle.buffer.proofs.Keyed.{plain, without-is}
 use Rattle.buffer.proofs.keys.without_key.Statement.{statement}
 use Rattle.buffer.proofs.keys.without_key.Tie as tie
 
-key-position-requires : tie.Need-key-position-requires
-key-position-requires c κs = search needs
-
-key-past-requires : tie.Need-key-past-requires
-key-past-requires c κs = search needs
-
-keys-outside-requires : tie.Need-keys-outside-requires
-keys-outside-requires c κs = search needs
-
 returns : tie.Need-returns
 returns c =
     let s = c .before .before .before in
@@ -24,4 +15,4 @@ returns c =
     (omega arith, without-is plain (named (s .args .b)) (s .pre .up) (s .args .key) (p .result) (p .ensures .0) (q .result) (q .ensures .0) (c .keys-outside .ensures .1), c .keys-outside .ensures .2)
 
 pub without-key-spec : {M : Type 1} → statement M
-without-key-spec = tie.close (tie.spec key-position-requires key-past-requires keys-outside-requires returns)
+without-key-spec = tie.close (tie.spec (λ c κs. search needs) (λ c κs. search needs) (λ c κs. search needs) returns)
