@@ -23,7 +23,7 @@ use Rattle.tree.specs.Walk.{admits}
 use Rattle.visit.specs.Visit.{above, ceiling, entriesIn}
 use Rattle.visit.proofs.Spans.{entry-next}
 use Rattle.visit.proofs.Above as Above
-use Rattle.query.proofs.Roots.{root-low, levels-few}
+use Rattle.visit.proofs.Roots.{root-low, levels-few}
 use Rattle.frontier.specs.Frontier.{kidCount, kidEntry, kidSpan, kidPart, Slot, rootSlot, childSlot, parentBy, indexBy, blockBy, slotFrom, slotBy, Standing, Chain, Hangs}
 
 -- ---- the slot of a row

@@ -24,7 +24,7 @@ use Rattle.tree.specs.Lookup.{orElse, isLive, nodeWord, down, lookup, live}
 use Rattle.tree.proofs.Says.{has-names}
 use Rattle.visit.specs.declared.Span.{Span}
 use Rattle.visit.specs.Visit.{endOf, partOf, childSpan, entriesIn}
-use Rattle.query.proofs.Children.{lent, lent-parts, lent-none, lent-low, lent-level}
+use Rattle.visit.proofs.Children.{lent, lent-parts, lent-none, lent-low, lent-level}
 use Rattle.lookup.specs.declared.Looked.{Looked}
 use Rattle.lookup.specs.declared.Looked.the-variants.{Live, Nothing, Broken}
 use Rattle.lookup.specs.declared.Word.{Word}

@@ -27,7 +27,7 @@ use Rattle.visit.specs.declared.Path.{Path}
 use Rattle.visit.specs.Visit.{above, namedAbove, endOf, partOf}
 use Rattle.visit.proofs.Above.{above-root}
 use Rattle.query.specs.Walks.{Collected, Collectable}
-use Rattle.query.proofs.Roots.{root-low, levels-few, levels-are, root-part}
+use Rattle.visit.proofs.Roots.{root-low, levels-few, levels-are, root-part}
 
 whole-by : (b : Bool) (w : Walk) → isBroken (cond b w broken) ≡ false → b ≡ true
 whole-by true w e = refl

@@ -5,9 +5,7 @@ pub mod Shifting
 pub mod Merges
 pub mod Joining
 pub mod Threads
-pub mod Children
 pub mod Counting
-pub mod Roots
 pub mod Whole
 pub mod Pouring
 pub mod Gathered

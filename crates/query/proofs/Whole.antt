@@ -28,7 +28,7 @@ use Rattle.tree.proofs.Sources.{InTable, header-few, table-visits}
 use Rattle.visit.specs.declared.Span.{Span}
 use Rattle.visit.specs.declared.Path.{Path}
 use Rattle.visit.specs.Visit.{above, endOf, partOf}
-use Rattle.query.proofs.Roots.{levels-are, root-part}
+use Rattle.visit.proofs.Roots.{levels-are, root-part}
 use Rattle.tally.specs.declared.Tally.{Tally}
 use Rattle.query.specs.declared.Sum.{Sum}
 use Rattle.query.specs.Walks.{Tallied, Counted, TableCounted}

@@ -22,7 +22,7 @@ use Rattle.tree.specs.Lookup.{live, isLive, withKey}
 use Rattle.tree.specs.Sound.{sound}
 use Rattle.tree.specs.Walk.{walkTable, isBroken, spots, liveSpots, liveCount}
 use Rattle.tree.proofs.Tables.{sound-header, count-finds}
-use Rattle.query.proofs.Roots.{sized-long}
+use Rattle.visit.proofs.Roots.{sized-long}
 use Rattle.lookup.specs.Answers.{lookedUp, LookupPost}
 use Rattle.lookup.specs.declared.Looked.{Looked}
 use Rattle.lookup.specs.declared.Looked.the-variants.{Live, Nothing, Broken}

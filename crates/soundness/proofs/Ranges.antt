@@ -35,7 +35,7 @@ use Rattle.visit.specs.declared.Span.{Span}
 use Rattle.visit.specs.Visit.{keysFrom, Ready, endOf, partOf}
 use Rattle.visit.proofs.Spans.{before-end}
 use Rattle.visit.proofs.Runs.{keys-run, Runs, runs-of, points-ready, inserts-ready, deletes-ready}
-use Rattle.query.proofs.Children.{lent, few-children}
+use Rattle.visit.proofs.Children.{lent, few-children}
 
 -- ---- keys that rise
 

@@ -25,7 +25,7 @@ use Rattle.tree.proofs.Sources.{reach-low, room-is}
 use Rattle.query.proofs.Threads.{fresh, Threaded, thread-next, thread-stop, thread-end}
 use Rattle.visit.specs.declared.Span.{Span}
 use Rattle.visit.specs.Visit.{endOf, partOf, childSpan, entriesIn}
-use Rattle.query.proofs.Children.{lent, lent-parts, lent-none, lent-low, lent-level}
+use Rattle.visit.proofs.Children.{lent, lent-parts, lent-none, lent-low, lent-level}
 use Rattle.soundness.specs.Checks.{Checked, Checkable}
 
 -- the children of the node at b from the i-th on

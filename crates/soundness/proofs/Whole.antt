@@ -25,7 +25,7 @@ use Rattle.tree.proofs.MapBits.{Bytes, unseen-zeros, exact-by}
 use Rattle.tree.proofs.Sources.{header-few, table-reach}
 use Rattle.visit.specs.declared.Span.{Span}
 use Rattle.visit.specs.Visit.{endOf, partOf}
-use Rattle.query.proofs.Roots.{header-long, levels-are, root-part}
+use Rattle.visit.proofs.Roots.{header-long, levels-are, root-part}
 use Rattle.soundness.specs.Checks.{Checked, shapedBelow}
 
 -- a part of bytes

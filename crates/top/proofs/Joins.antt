@@ -30,7 +30,7 @@ use Rattle.tree.proofs.MapBits.{setBit-bytes, bit-setBit, zeros-bytes}
 use Rattle.tree.proofs.Sources.{header-few}
 use Rattle.tree.proofs.BestFirstTree.{rootOf}
 use Rattle.visit.specs.Visit.{partOf}
-use Rattle.query.proofs.Roots.{root-low, levels-are, root-part}
+use Rattle.visit.proofs.Roots.{root-low, levels-are, root-part}
 use Rattle.heap.proofs.Held.{held-none, held-few}
 use Rattle.frontier.specs.declared.Pick.{Pick}
 use Rattle.frontier.specs.declared.KidPick.{KidPick}

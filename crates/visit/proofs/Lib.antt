@@ -5,3 +5,5 @@ pub mod Paths
 pub mod Counts
 pub mod Above
 pub mod Marking
+pub mod Children
+pub mod Roots

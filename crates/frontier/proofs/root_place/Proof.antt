@@ -1,6 +1,6 @@
 -- `frontier::root_place` meets its contract.
 -- Assumes nothing.
-use Rattle.query.proofs.Roots.{sized-long, levels-some}
+use Rattle.visit.proofs.Roots.{sized-long, levels-some}
 use denote.Ref.{now}
 use Prim.Native.Nat.{ℕ, _-_}
 use mathlib.Core.Bool.{true}

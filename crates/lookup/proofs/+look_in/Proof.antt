@@ -13,7 +13,7 @@ use Rattle.block.specs.NodeRules.{nodeOk}
 use Rattle.block.specs.declared.Front.{Front}
 use Rattle.block.specs.Access.{frontOf}
 use Rattle.block.specs.Node.{storeOf}
-use Rattle.query.proofs.Children.{lent, lent-length, few-children}
+use Rattle.visit.proofs.Children.{lent, lent-length, few-children}
 use Rattle.lookup.proofs.Steps.{Going, going-start, broken-node, named-live, named-gone, no-child, Kid, kid-level, kid-asks, kid-next, kid-says}
 use Rattle.lookup.proofs.look_in.Reads as look-in
 use Rattle.lookup.proofs.look_in.Kinds as look-in-kinds

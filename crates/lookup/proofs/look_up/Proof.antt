@@ -4,7 +4,7 @@ use mathlib.Core.Path.{sym, _∙_}
 use denote.Ref.{now}
 use borrow.Author.Needs.{needs}
 use Rattle.tree.proofs.Sources.{header-few}
-use Rattle.query.proofs.Roots.{sized-long, root-low, levels-some, levels-few, levels-are, root-part}
+use Rattle.visit.proofs.Roots.{sized-long, root-low, levels-some, levels-few, levels-are, root-part}
 use Rattle.lookup.proofs.Steps.{no-header, from-root}
 use Rattle.lookup.proofs.look_up.Statement.{statement}
 use Rattle.lookup.proofs.look_up.Tie as tie

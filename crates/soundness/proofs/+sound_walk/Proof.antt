@@ -18,7 +18,7 @@ use Rattle.block.specs.Access.{frontOf}
 use Rattle.block.specs.Node.{storeOf}
 use Rattle.tree.specs.Reach.{reach}
 use Rattle.tree.specs.Sound.{soundAt}
-use Rattle.query.proofs.Children.{lent, lent-length, few-children}
+use Rattle.visit.proofs.Children.{lent, lent-length, few-children}
 use Rattle.query.proofs.Threads.{Threaded, thread-start}
 use Rattle.soundness.proofs.Steps.{left, kidsFresh, no-twice, no-node, no-range, no-kids, whole-part, Kid, kid-level, kid-asks, kid-next, kid-stop, kids-done}
 use Rattle.soundness.proofs.sound_walk.Reads as sound-walk

@@ -4,7 +4,7 @@ use mathlib.Core.Path.{sym, _∙_}
 use denote.Ref.{now}
 use borrow.Author.Tests.{not-true, not-false}
 use borrow.Author.Needs.{needs}
-use Rattle.query.proofs.Roots.{sized-long}
+use Rattle.visit.proofs.Roots.{sized-long}
 use Rattle.query.proofs.Whole.{counted-as}
 use Rattle.soundness.proofs.Sums.{no-header, no-shape, count-decides}
 use Rattle.soundness.proofs.is_sound.Statement.{statement}

@@ -6,7 +6,7 @@ use denote.Ref.{now}
 use borrow.Author.Tests.{not-true, not-false}
 use borrow.Author.Needs.{needs}
 use Rattle.tree.proofs.Sources.{header-few}
-use Rattle.query.proofs.Roots.{header-long, root-low, levels-some, levels-few}
+use Rattle.visit.proofs.Roots.{header-long, root-low, levels-some, levels-few}
 use Rattle.soundness.proofs.Whole.{tree-no, tree-yes}
 use Rattle.soundness.proofs.tree_ok.Statement.{statement}
 use Rattle.soundness.proofs.tree_ok.Tie as tie

@@ -2,7 +2,7 @@
 -- Assumes nothing.
 use Rattle.table.proofs.Topping.{map-none}
 use Rattle.table.proofs.Answering.{map-is}
-use Rattle.query.proofs.Roots.{sized-long}
+use Rattle.visit.proofs.Roots.{sized-long}
 use borrow.Author.Tests.{not-true, not-false}
 use denote.Ref.{now}
 use mathlib.Core.Logic.{inl, inr}

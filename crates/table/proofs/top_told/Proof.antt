@@ -4,7 +4,7 @@ use mathlib.Core.Path.{_≡_, ap, _∙_}
 use Prim.Native.Nat.{ℕ}
 use lib.ListN.{length, length-replicate}
 use denote.Ref.{now}
-use Rattle.query.proofs.Roots.{sized-long}
+use Rattle.visit.proofs.Roots.{sized-long}
 use Rattle.top.proofs.Sweeps.{zeroed}
 use Rattle.table.proofs.Sizing.{none-told, few-told, count-told}
 use borrow.Author.Needs.{needs}

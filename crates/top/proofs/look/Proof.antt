@@ -6,7 +6,7 @@ use denote.Ref.{now}
 use borrow.Author.Tests.{not-true, not-false}
 use borrow.Author.Needs.{needs}
 use Rattle.tree.proofs.BestFirstTop.{broken-head}
-use Rattle.query.proofs.Roots.{sized-long}
+use Rattle.visit.proofs.Roots.{sized-long}
 use Rattle.top.proofs.Sweeps.{root-reads, root-breaks, root-swept, searched-as, searched-broken}
 use Rattle.top.proofs.look.Statement.{statement}
 use Rattle.top.proofs.look.Tie as tie
