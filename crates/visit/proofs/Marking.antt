@@ -31,7 +31,7 @@ use Rattle.visit.specs.declared.Path.{Path}
 use Rattle.visit.specs.Visit.{above, waiting, waitingBy, waitingAbove, keysFrom, belowIn, taken, chosen, marksIn, AllWanted, FirstMarks, Wanted, Blank, Struck, Marks}
 use Rattle.visit.proofs.Counts.{spot-key}
 use Rattle.visit.proofs.Paths.{waiting-append, path-length}
-use Rattle.visit.proofs.Search.{run-down, run-at, run-rises}
+use Rattle.visit.proofs.Search.{below-rises, run-down, run-at, run-rises}
 
 takes-is : (q : Query) (named : List ℕ) (k : ℕ) → takesKey q named k ≡ wantsKey q k && not (has k named)
 unfolding takesKey
@@ -248,6 +248,12 @@ module _ (t : List ℕ) (at n a w c lo hi : ℕ) (r : rising (keysFrom t w c a) 
       subst (λ (l : List ℕ). Struck t at n l m m″)
       (ap (λ (x : ℕ). keysFrom t w j a ++ (x ∷ [])) e ∙ sym (records-more (keyAt t) w j a) ∙ ap (λ (x : ℕ). keysFrom t w x a) (sym (add-one j)))
       (struck-then s v)
+
+  -- the spots below a key are below the next
+  pub strike-on : {k i : ℕ} (j : ℕ) → k ≡ keyAt t (a + w * j) → i ≡ belowIn k (keysFrom t 12 n at) → j + 1 < c → i ≤ belowIn (keyAt t (a + w * (j + 1))) (keysFrom t 12 n at)
+  strike-on {k} j e g h =
+      let up : keyAt t (a + w * j) ≤ keyAt t (a + w * (j + 1)) = run-rises t w c a r j (j + 1) (omega arith) h in
+      omega (arith, below-rises k (keyAt t (a + w * (j + 1))) (keysFrom t 12 n at) (omega arith))
 
   -- keys above hi strike none
   pub strike-stop : {k : ℕ} {m m′ : List Bool} (j : ℕ) → Blank t at n lo hi m → j < c → k ≡ keyAt t (a + w * j) → hi < k

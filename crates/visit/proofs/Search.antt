@@ -56,6 +56,16 @@ below-within k a (x ∷ ks) (suc i) d p l h =
     let r : belowIn k ks ≤ i = below-within k (suc x) ks i d (rising-rest a x ks p) (omega arith) h in
     ⊎-elim (λ (g : k ≤ x). rw (count-no k x ks g) (omega arith)) (λ (g : x < k). rw (count-yes k x ks g) (omega arith)) (less-or-not k x)
 
+-- no fewer are below a larger key
+pub below-rises : (k l : ℕ) (ks : List ℕ) → k ≤ l → belowIn k ks ≤ belowIn l ks
+below-rises k l [] h = omega arith
+below-rises k l (x ∷ ks) h =
+    let r : belowIn k ks ≤ belowIn l ks = below-rises k l ks h in
+    ⊎-elim
+    (λ (g : l ≤ x). omega (arith, count-no k x ks (omega arith), count-no l x ks g))
+    (λ (g : x < l). ⊎-elim (λ (f : k ≤ x). omega (arith, count-no k x ks f, count-yes l x ks g)) (λ (f : x < k). omega (arith, count-yes k x ks f, count-yes l x ks g)) (less-or-not k x))
+    (less-or-not l x)
+
 -- the key with index i has i below it
 below-at : (a : ℕ) (ks : List ℕ) (i d : ℕ) → risingFrom a ks ≡ true → i < length ks → belowIn (getD ks i d) ks ≡ i
 below-at a [] i d p l = let z : ⊥ = omega arith in absurd z

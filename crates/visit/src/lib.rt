@@ -163,18 +163,35 @@ fn wanted(t: &[u8], at: usize, n: usize, q: spot::Query) -> [bool; 64]
     wanted_each(t, at, n, q)
 }
 
-// Takes the mark from the spot with key k, if it is among the n that rise from at on.
-fn strike_key(t: &[u8], at: usize, n: usize, m: &mut [bool], k: u64)
-    requires { ⌜ Ready (now t) at 12 n × (n ≤ length (now m)) ⌝ }
-    ensures { λ _. ⌜ Struck (now (t .entry)) at n (k ∷ []) (now (m .entry)) (now (m .exit)) ⌝ }
+// The first of the n spots that rise from at on whose key is not below k; those before a are below it.
+fn onward(t: &[u8], at: usize, n: usize, k: u64, a: usize) -> usize
+    requires { ⌜ Ready (now t) at 12 n × (a ≤ belowIn k (keysFrom (now t) 12 n at)) ⌝ }
+    ensures { λ r. ⌜ r ≡ belowIn k (keysFrom (now (t .entry)) 12 n at) ⌝ }
 {
-    let i = below(t, at, 12, n, k);
+    let mut i = a;
+    while i < n {
+        if k <= spot::read_key(t, at + 12 * i) {
+            return i;
+        }
+        i += 1;
+    }
+    i
+}
+
+// Takes the mark from the spot with key k, if it is among the n that rise from at on, and says how many are below k; the first a are.
+fn strike_key(t: &[u8], at: usize, n: usize, m: &mut [bool], k: u64, a: usize) -> usize
+    requires { ⌜ Ready (now t) at 12 n × (n ≤ length (now m)) × (a ≤ belowIn k (keysFrom (now t) 12 n at)) ⌝ }
+    ensures { λ r. ⌜ (r ≡ belowIn k (keysFrom (now (t .entry)) 12 n at)) × Struck (now (t .entry)) at n (k ∷ []) (now (m .entry)) (now (m .exit)) ⌝ }
+{
+    let i = onward(t, at, n, k, a);
     if i < n {
         m[i] = m[i] & (spot::read_key(t, at + 12 * i) != k);
     }
+    i
 }
 
-// The same with c rising keys, w bytes apart from a on: only those from lo to hi are looked for, the spots outside have no mark.
+// Takes the marks from those with one of c rising keys, w bytes apart from a on: only keys from lo to hi are looked for, the spots outside have no mark. As
+// the keys rise, one pass over the spots serves them all.
 fn strike(
     t: &[u8],
     at: usize,
@@ -189,13 +206,14 @@ fn strike(
     requires { ⌜ Ready (now t) at 12 n × Ready (now t) a w c × (n ≤ length (now m)) × Blank (now t) at n lo hi (now m) ⌝ }
     ensures { λ _. ⌜ Struck (now (t .entry)) at n (keysFrom (now (t .entry)) w c a) (now (m .entry)) (now (m .exit)) ⌝ }
 {
+    let mut i = 0;
     let mut j = below(t, a, w, c, lo);
     while j < c {
         let k = spot::read_key(t, a + w * j);
         if hi < k {
             return;
         }
-        strike_key(t, at, n, m, k);
+        i = strike_key(t, at, n, m, k, i);
         j += 1;
     }
 }

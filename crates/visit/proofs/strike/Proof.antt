@@ -1,20 +1,23 @@
--- `visit::strike` meets its contract: keys below lo and above hi strike none.
+-- `visit::strike` meets its contract: keys below lo and above hi strike none, and no spot passed has a later key.
 -- Assumes nothing.
-use Prim.Native.Nat.{_+_, _-_, _*_, _≤_}
+use mathlib.Core.Path.{sym, subst}
+use Prim.Native.Nat.{ℕ, _+_, _-_, _*_, _≤_, _<_}
 use lib.ListN.{length}
 use denote.Ref.{now}
-use Rattle.visit.proofs.Marking.{strike-start, strike-next, strike-stop, strike-end}
+use Rattle.visit.proofs.Marking.{strike-start, strike-next, strike-on, strike-stop, strike-end}
 use Rattle.visit.proofs.Search.{key-room}
-use Rattle.visit.specs.Visit.{keysFrom, Struck}
+use Rattle.spot.specs.Spots.{keyAt}
+use Rattle.visit.specs.Visit.{keysFrom, belowIn, Struck}
 use native.Mathlib.Omega.{arith}
 use Rattle.visit.proofs.strike.Statement.{statement}
 use Rattle.visit.proofs.strike.Tie as tie
 
 abbrev Inv-loop : tie.InvT-loop
-Inv-loop t at n m₀ a w c lo hi j₀ m j = (j ≤ c) × Struck t at n (keysFrom t w j a) m₀ m
+Inv-loop t at n m₀ a w c lo hi i₀ j₀ m i j =
+    (j ≤ c) × Struck t at n (keysFrom t w j a) m₀ m × (j < c → i ≤ belowIn (keyAt t (a + w * j)) (keysFrom t 12 n at))
 
 abbrev μ-loop : tie.MeasureT-loop
-μ-loop t at n m₀ a w c lo hi j₀ m j = c - j
+μ-loop t at n m₀ a w c lo hi i₀ j₀ m i j = c - j
 
 below-requires : tie.Need-below-requires Inv-loop μ-loop
 below-requires c κs = c .before .before .pre .1
@@ -23,7 +26,7 @@ loop-holds : tie.Need-loop-holds Inv-loop μ-loop
 loop-holds c =
     let s = c .before .before .before .args in
     let p = c .before .before .before .pre in
-    (omega arith, strike-start (now (s .t)) (s .at) (s .n) (s .a) (s .w) (s .c) (s .lo) (s .hi) (p .1 .4) (now (s .m)) (p .3) (c .below .ensures .0) (c .below .ensures .1))
+    (omega arith, strike-start (now (s .t)) (s .at) (s .n) (s .a) (s .w) (s .c) (s .lo) (s .hi) (p .1 .4) (now (s .m)) (p .3) (c .below .ensures .0) (c .below .ensures .1), λ h. omega arith)
 
 -- the key stands within the slice
 room : (c : tie.In-loop Inv-loop μ-loop) → let s = c .before .before .before .before .before .args in s .a + s .w * c .before .loop .j + 8 ≤ length (now (s .t))
@@ -52,7 +55,14 @@ returns c =
     strike-stop (now (s .t)) (s .at) (s .n) (s .a) (s .w) (s .c) (s .lo) (s .hi) (p .1 .4) (l .j) (p .3) (omega arith) (c .before .read-key .ensures) (c .if1 .taken) (l .inv .1)
 
 strike-key-requires : tie.Need-strike-key-requires Inv-loop μ-loop
-strike-key-requires c κs = (c .before .before .before .before .before .before .before .before .pre .0, omega (arith, c .before .before .before .before .before .before .before .before .pre .2, c .before .before .before .before .loop .inv .1 .sized))
+strike-key-requires c κs =
+    let s = c .before .before .before .before .before .before .before .before .args in
+    let p = c .before .before .before .before .before .before .before .before .pre in
+    let l = c .before .before .before .before .loop in (
+      p .0,
+      omega (arith, p .2, l .inv .1 .sized),
+      subst (λ (k : ℕ). l .i ≤ belowIn k (keysFrom (now (s .t)) 12 (s .n) (s .at))) (sym (c .before .before .read-key .ensures)) (l .inv .2 (omega arith)),
+    )
 
 add-j : tie.Need-add-j Inv-loop μ-loop
 add-j c = omega arith
@@ -65,7 +75,12 @@ loop-again c =
     let s = c .before .before .before .before .before .before .before .before .before .before .before .args in
     let p = c .before .before .before .before .before .before .before .before .before .before .before .pre in
     let l = c .before .before .before .before .before .before .before .loop in
-    (omega arith, strike-next (now (s .t)) (s .at) (s .n) (s .a) (s .w) (s .c) (s .lo) (s .hi) (p .1 .4) (l .j) (c .before .before .before .before .before .read-key .ensures) (l .inv .1) (c .before .before .strike-key .ensures))
+    let e = c .before .before .before .before .before .read-key .ensures in
+    let v = c .before .before .strike-key .ensures in (
+      omega arith,
+      strike-next (now (s .t)) (s .at) (s .n) (s .a) (s .w) (s .c) (s .lo) (s .hi) (p .1 .4) (l .j) e (l .inv .1) (v .1),
+      λ h. strike-on (now (s .t)) (s .at) (s .n) (s .a) (s .w) (s .c) (s .lo) (s .hi) (p .1 .4) (l .j) e (v .0) h,
+    )
 
 same-length-2 : tie.Need-same-length-2 Inv-loop μ-loop
 same-length-2 c = c .before .loop .inv .1 .sized

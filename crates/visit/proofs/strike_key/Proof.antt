@@ -6,22 +6,27 @@ use Rattle.visit.proofs.Marking.{struck-hit, struck-miss}
 use Rattle.visit.proofs.strike_key.Statement.{statement}
 use Rattle.visit.proofs.strike_key.Tie as tie
 
+onward-requires : tie.Need-onward-requires
+onward-requires c κs = (c .before .before .pre .0, c .before .before .pre .2)
+
 returns : tie.Need-returns
 returns c =
     let s = c .before .before .before .before .before .before .args in
     let p = c .before .before .before .before .before .before .pre in
-    struck-hit (now (s .t)) (s .at) (s .n) (p .0 .4) (s .k) (c .before .before .before .below .ensures .0) (now (s .m)) (p .1) (c .before .before .if1 .taken) (c .read-key .ensures)
+    let e = c .before .before .before .onward .ensures in
+    (e, struck-hit (now (s .t)) (s .at) (s .n) (p .0 .4) (s .k) e (now (s .m)) (p .1) (c .before .before .if1 .taken) (c .read-key .ensures))
 
 returns-2 : tie.Need-returns-2
 returns-2 c =
     let s = c .before .before .before .before .args in
-    struck-miss (now (s .t)) (s .at) (s .n) (c .before .before .before .before .pre .0 .4) (s .k) (c .before .below .ensures .0) (now (s .m)) (c .if1 .left)
+    let e = c .before .onward .ensures in
+    (e, struck-miss (now (s .t)) (s .at) (s .n) (c .before .before .before .before .pre .0 .4) (s .k) e (now (s .m)) (c .if1 .left))
 
 pub strike-key-spec : {M : Type 1} → statement M
 strike-key-spec =
     tie.close
     (tie.spec
-    (λ c κs. search needs)
+    onward-requires
     (λ c. search needs)
     (λ c. search needs)
     (λ c. search needs)
