@@ -137,7 +137,8 @@ uint64_t spot_check(const uint8_t *table, size_t table_len);
 uint64_t spot_report(const uint8_t *table, size_t table_len, int32_t x1, int32_t x2, int32_t y,
                      uint8_t *output, size_t output_len, uint8_t *read_map, size_t read_map_len);
 
-/* Of the live spots with x1 <= place <= x2 the k highest in rank order (by rank, then by place), highest first; all, if fewer. Output and read map as for spot_report. */
+/* Of the live spots with x1 <= place <= x2 the k of highest rank, the highest first; all, if fewer. Of equal ranks the lower place comes first, and stays where k cuts
+ * between them. Output and read map as for spot_report. */
 uint64_t spot_top(const uint8_t *table, size_t table_len, int32_t x1, int32_t x2, uint32_t k,
                   uint8_t *output, size_t output_len, uint8_t *read_map, size_t read_map_len);
 

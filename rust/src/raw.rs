@@ -101,7 +101,7 @@ pub fn report(table: &[u8], x1: i32, x2: i32, y: i32, output: &mut [u8], read_ma
     Answer::unpack(unsafe { spot_report(t, n, x1, x2, y, output.as_mut_ptr(), output.len(), read_map.as_mut_ptr(), read_map.len()) })
 }
 
-/// Of the live spots with x1 ≤ place ≤ x2 the k highest in rank order, highest first; the read map marks the blocks read.
+/// Of the live spots with x1 ≤ place ≤ x2 the k of highest rank, the highest first, of equal ranks those of lower places, the lower first; the read map marks the blocks read.
 pub fn top(table: &[u8], x1: i32, x2: i32, k: u32, output: &mut [u8], read_map: &mut [u8]) -> Answer {
     let (t, n) = (table.as_ptr(), table.len());
     Answer::unpack(unsafe { spot_top(t, n, x1, x2, k, output.as_mut_ptr(), output.len(), read_map.as_mut_ptr(), read_map.len()) })

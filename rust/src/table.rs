@@ -75,7 +75,8 @@ impl<B: AsRef<[u8]>> Table<B> {
         Ok(spots(output, n as usize))
     }
 
-    /// Of the live spots with x1 ≤ place ≤ x2 the k highest in rank order, highest first; all, if there are fewer. Output and map as for `report`.
+    /// Of the live spots with x1 ≤ place ≤ x2 the k of highest rank, the highest first; of equal ranks the lower place comes first, and stays where k cuts between them. All, if
+    /// there are fewer. Output and map as for `report`.
     ///
     /// ```
     /// use spot_table::{ReadMap, Spot, Table};
@@ -85,7 +86,7 @@ impl<B: AsRef<[u8]>> Table<B> {
     /// table.add(Spot { place: 240, rank: 7, track: 2 }, &mut work)?;
     /// let mut output = [0; 12];
     /// let best = table.top(0, 240, 1, &mut output, &mut ReadMap::new())?.next();
-    /// assert_eq!(best.map(|s| s.place), Some(240));
+    /// assert_eq!(best.map(|s| s.place), Some(0));
     /// # Ok::<(), spot_table::Refusal>(())
     /// ```
     pub fn top<'o>(&self, x1: i32, x2: i32, k: u32, output: &'o mut [u8], map: &mut ReadMap) -> Result<Spots<'o>, Refusal> {

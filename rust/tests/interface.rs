@@ -39,7 +39,7 @@ fn iterators() {
     assert_eq!(marked(&[]).next(), None);
     assert_eq!(marked(&[255; MAP]).collect::<Vec<_>>(), (0..4096).collect::<Vec<_>>());
     let best = table.top(0, 1760, 3, &mut output, &mut map).unwrap();
-    assert_eq!(best.map(|s| (s.rank, s.place)).collect::<Vec<_>>(), [(6, 1740), (6, 1670), (6, 1600)]);
+    assert_eq!(best.map(|s| (s.rank, s.place)).collect::<Vec<_>>(), [(6, 60), (6, 130), (6, 200)]);
 }
 
 /// The C header says the same: version, sizes, and the words of each number.

@@ -1,7 +1,8 @@
 //! Top against the plain list and against the blocks that a Report at the last rank reads, on sound tables with and without waiting changes, and on damaged ones.
 
-use spot_reference::{make, read_by_report, some_spots, Made, Random};
+use spot_reference::{make, read_by_report, some_spots, top_order, Key, Node, Random};
 use spot_table::*;
+use std::collections::BTreeMap;
 
 fn marks(map: &[u8]) -> Vec<usize> {
     marked(map).collect()
@@ -13,15 +14,11 @@ fn ask(table: &[u8], x1: i32, x2: i32, k: u32, room: usize) -> (Answer, Vec<u8>,
     (a, out, map)
 }
 
-/// The k highest of the range, highest first, by a plain sort.
-fn due(made: &Made, x1: i32, x2: i32, k: usize) -> Vec<Spot> {
-    let mut all: Vec<Spot> = made
-        .live
-        .iter()
-        .filter(|(key, _)| x1 <= key.0 && key.0 <= x2)
-        .map(|(key, t)| Spot { place: key.0, rank: key.1, track: *t })
-        .collect();
-    all.sort_by_key(|s| std::cmp::Reverse((s.rank, s.place)));
+/// The first k of the range in the order of Top's answers, by a plain sort.
+fn due(live: &BTreeMap<Key, u32>, x1: i32, x2: i32, k: usize) -> Vec<Spot> {
+    let placed = live.iter().filter(|(key, _)| (x1..=x2).contains(&key.0));
+    let mut all: Vec<Spot> = placed.map(|(key, t)| Spot { place: key.0, rank: key.1, track: *t }).collect();
+    all.sort_by_key(|s| top_order((s.place, s.rank)));
     all.truncate(k);
     all
 }
@@ -53,7 +50,7 @@ fn lengths() {
 }
 
 #[test]
-fn highest_first() {
+fn in_order() {
     let mut random = Random(0x1234567);
     for round in 0..60 {
         let blocks = [9, 12, 32, 100, 300, 1000][round % 6];
@@ -71,7 +68,7 @@ fn highest_first() {
                 2 => random.below(n + 2) as u32,
                 _ => 1 + random.below(70) as u32,
             };
-            let want = due(&made, x1, x2, k as usize);
+            let want = due(&made.live, x1, x2, k as usize);
             let room = 12 * want.len() + random.below(24);
             let (a, out, map) = ask(&made.table, x1, x2, k, room);
             assert_eq!(a, Answer::new(0, want.len() as u32), "round {round}: {x1} {x2} {k}");
@@ -89,6 +86,33 @@ fn highest_first() {
             }
         }
     }
+}
+
+/// Rows of one rank, hung from the far end: an addition waits beside points of its rank and comes before them, and a row lies in several nodes.
+#[test]
+fn rows_of_one_rank() {
+    let (mut table, mut work) = (vec![0; 32 * BLOCK], vec![0; 32 * BLOCK]);
+    let (mut live, mut beside) = (BTreeMap::new(), 0);
+    assert_eq!(format(&mut table), Answer::new(0, 0));
+    for i in 0..320 {
+        let s = Spot { place: 160 - i, rank: 7 + i % 50 / 49, track: i as u32 };
+        assert_eq!(add(&mut table, &mut work, s), Answer::new(0, 0));
+        live.insert((s.place, s.rank), s.track);
+        if i % 16 != 15 {
+            continue;
+        }
+        let root = Node::read(&table[BLOCK * (table[7] as usize)..][..BLOCK]);
+        beside += root.inserts.keys().any(|a| root.points.keys().any(|p| a.1 == p.1 && a.0 < p.0)) as usize;
+        for (x1, x2) in [(i32::MIN, i32::MAX), (-100, 100), (160 - i, 165 - i)] {
+            for k in 0..=live.len() + 1 {
+                let want = due(&live, x1, x2, k);
+                let (a, out, _) = ask(&table, x1, x2, k as u32, 12 * want.len());
+                assert_eq!(a, Answer::new(0, want.len() as u32), "spot {i}: {x1} {x2} {k}");
+                assert_eq!(spot_table::spots(&out, want.len()).collect::<Vec<_>>(), want, "spot {i}: {x1} {x2} {k}");
+            }
+        }
+    }
+    assert!(beside >= 10, "{beside} looks with such an addition");
 }
 
 #[test]

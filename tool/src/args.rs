@@ -146,6 +146,8 @@ pub enum Command {
         shape: Shape,
     },
     /// Show the spots of highest rank between two places, best first
+    ///
+    /// Of equal ranks the lower place comes first: a guide takes the cases of a row from the entrance on.
     #[command(after_help = "Example: spotcard top show.card 0 2400 3          the three best of the first 24 metres")]
     Top {
         /// The card

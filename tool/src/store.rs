@@ -9,7 +9,7 @@ pub const MOST_BLOCKS: usize = 4096;
 /// Capacity: spots for each block after block 0.
 pub const SPOTS_A_BLOCK: usize = 16;
 
-/// Top uses 1.3 MB of stack on the largest tables.
+/// A call takes 240 KB of stack at most (`spot_table::STACK`); the rest is room for the thread itself.
 const STACK: usize = 8 << 20;
 
 /// The library's numbers of refusal.
@@ -113,7 +113,7 @@ impl Table {
         self.ask(|table, out, map| spot_table::report(table, x1, x2, y, out, map))
     }
 
-    /// The k highest in rank order of the live spots from place x1 to x2, highest first.
+    /// The k of highest rank of the live spots from place x1 to x2, the highest first, of equal ranks the lower place.
     pub fn top(&self, x1: i32, x2: i32, k: u32) -> Result<Found, Refusal> {
         self.ask(|table, out, map| spot_table::top(table, x1, x2, k, out, map))
     }

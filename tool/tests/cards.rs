@@ -2,6 +2,7 @@
 
 mod common;
 use common::{sheet, spots, Folder, BLOCK};
+use std::collections::BTreeMap;
 use std::os::unix::fs::PermissionsExt;
 use std::{fs, process};
 
@@ -104,7 +105,8 @@ fn reports_and_tops_are_shown_in_their_order() {
     let f = Folder::new();
     f.card("a.card", 32, &[(0, 5, 1), (240, 7, 2), (0, 7, 3), (300, 1, 4)]);
     assert_eq!(f.run(&["report", "a.card", "0", "240", "6", "--csv"]).exit(0).out, "place,rank,track\n0,7,3\n240,7,2\n");
-    assert_eq!(f.run(&["top", "a.card", "0", "300", "3", "--csv"]).exit(0).out, "place,rank,track\n240,7,2\n0,7,3\n0,5,1\n");
+    assert_eq!(f.run(&["top", "a.card", "0", "300", "3", "--csv"]).exit(0).out, "place,rank,track\n0,7,3\n240,7,2\n0,5,1\n");
+    assert_eq!(f.run(&["top", "a.card", "0", "300", "1", "--csv"]).exit(0).out, "place,rank,track\n0,7,3\n");
     f.run(&["report", "a.card", "0", "300", "-9", "--blocks"])
         .exit(0)
         .says("4 spots from 0 to 300 cm with rank -9 or more")
@@ -116,8 +118,14 @@ fn reports_and_tops_are_shown_in_their_order() {
 #[test]
 fn many_reports_and_tops_agree_with_a_plain_list() {
     let f = Folder::new();
-    let mut all = spots(900, 9);
-    f.card("a.card", 80, &all);
+    agree_with_a_plain_list(&f, "a.card", spots(900, 9));
+    // whole rows of one rank
+    let few = spots(900, 10).into_iter().map(|(place, rank, track)| ((place, rank % 3), track)).collect::<BTreeMap<_, _>>();
+    agree_with_a_plain_list(&f, "b.card", few.into_iter().map(|((place, rank), track)| (place, rank, track)).collect());
+}
+
+fn agree_with_a_plain_list(f: &Folder, card: &str, mut all: Vec<(i32, i32, u32)>) {
+    f.card(card, 80, &all);
     all.sort();
     let mut random = common::Random(77);
     for _ in 0..25 {
@@ -127,11 +135,11 @@ fn many_reports_and_tops_agree_with_a_plain_list() {
         let inside = || all.iter().copied().filter(|s| x1 <= s.0 && s.0 <= x2);
         let report: Vec<_> = inside().filter(|s| s.1 >= y).collect();
         let mut top: Vec<_> = inside().collect();
-        top.sort_by_key(|s| std::cmp::Reverse((s.1, s.0)));
+        top.sort_by_key(|s| (std::cmp::Reverse(s.1), s.0));
         top.truncate(k);
         let [x1, x2, y, k] = [x1.to_string(), x2.to_string(), y.to_string(), k.to_string()];
-        assert_eq!(f.run(&["report", "a.card", &x1, &x2, &y, "--csv"]).exit(0).out, sheet(&report));
-        assert_eq!(f.run(&["top", "a.card", &x1, &x2, &k, "--csv"]).exit(0).out, sheet(&top));
+        assert_eq!(f.run(&["report", card, &x1, &x2, &y, "--csv"]).exit(0).out, sheet(&report));
+        assert_eq!(f.run(&["top", card, &x1, &x2, &k, "--csv"]).exit(0).out, sheet(&top));
     }
 }
 

@@ -12,6 +12,14 @@ pub fn before(a1: i32, a2: i32, b1: i32, b2: i32) -> bool {
     a1 < b1
 }
 
+// A before b in the order of Top's answers: the higher rank first, of equal ranks the lower place.
+pub fn top_before(a_place: i32, a_rank: i32, b_place: i32, b_rank: i32) -> bool {
+    if a_rank == b_rank {
+        return a_place < b_place;
+    }
+    b_rank < a_rank
+}
+
 pub fn clear(tracks: &mut [u64; 4784]) {
     let mut i = 0;
     while i < SLOTS {
@@ -131,15 +139,15 @@ pub fn highest(places: &[i32; 4784], ranks: &[i32; 4784], tracks: &[u64; 4784]) 
     best
 }
 
-// How many spots have a place from x1 to x2 and are not below (rank, place) in rank order.
+// How many spots have a place from x1 to x2 and do not come behind (place, rank) in the order of Top's answers.
 pub fn count(
     places: &[i32; 4784],
     ranks: &[i32; 4784],
     tracks: &[u64; 4784],
     x1: i32,
     x2: i32,
-    rank: i32,
     place: i32,
+    rank: i32,
 ) -> u64 {
     let mut n = 0;
     let mut i = 0;
@@ -147,7 +155,7 @@ pub fn count(
         if (tracks[i] != NONE)
             & (x1 <= places[i])
             & (places[i] <= x2)
-            & !before(ranks[i], places[i], rank, place)
+            & !top_before(place, rank, places[i], ranks[i])
         {
             n = std::num::wrapping_add_u64(n, 1);
         }

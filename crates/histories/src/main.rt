@@ -116,7 +116,7 @@ fn withdraw(
     told(run, a, 0, 0)
 }
 
-// Compares n spots of an output with the list: each is there with its track and in the range, and they rise in place order or, in rank order, fall.
+// Compares n spots of an output with the list: each is there with its track and in the range, and they come in place order or in that of Top's answers.
 fn spots_in_list(
     output: &[u8],
     n: usize,
@@ -127,7 +127,7 @@ fn spots_in_list(
     x1: i32,
     x2: i32,
     y: i32,
-    falls: bool,
+    by_top: bool,
 ) -> Run
     requires { ⌜ (n ≤ 4784) × (12 * n ≤ length (now output)) ⌝ }
 {
@@ -139,7 +139,7 @@ fn spots_in_list(
         let place = spot::read_i32(output, 12 * i);
         let rank = spot::read_i32(output, 12 * i + 4);
         let track = octets::read32(output, 12 * i + 8);
-        let ordered = in_order(falls, last_place, last_rank, place, rank) | (i == 0);
+        let ordered = in_order(by_top, last_place, last_rank, place, rank) | (i == 0);
         let wanted = (x1 <= place) & (place <= x2) & (y <= rank);
         run = spot_in_list(
             places,
@@ -158,9 +158,9 @@ fn spots_in_list(
     run
 }
 
-fn in_order(falls: bool, a_place: i32, a_rank: i32, b_place: i32, b_rank: i32) -> bool {
-    if falls {
-        return list::before(b_rank, b_place, a_rank, a_place);
+fn in_order(by_top: bool, a_place: i32, a_rank: i32, b_place: i32, b_rank: i32) -> bool {
+    if by_top {
+        return list::top_before(a_place, a_rank, b_place, b_rank);
     }
     list::before(a_place, a_rank, b_place, b_rank)
 }
@@ -202,7 +202,7 @@ fn report(
         run,
         a,
         0,
-        list::count(places, ranks, tracks, x1, x2, y, -2147483648),
+        list::count(places, ranks, tracks, x1, x2, 2147483647, y),
     );
     if 4784 < n {
         return counted;
@@ -231,7 +231,7 @@ fn top(
     let mut read_map = [0u8; 512];
     let a = table::top(table, x1, x2, k, &mut output, &mut read_map);
     let n = a.detail as usize;
-    let all = list::count(places, ranks, tracks, x1, x2, -2147483648, -2147483648);
+    let all = list::count(places, ranks, tracks, x1, x2, 2147483647, -2147483648);
     let counted = told(run, a, 0, least(all, k as u64));
     if 4784 < n {
         return counted;
@@ -253,7 +253,7 @@ fn top(
     );
     let place = spot::read_i32(&output, 12 * n - 12);
     let rank = spot::read_i32(&output, 12 * n - 8);
-    let above = list::count(places, ranks, tracks, x1, x2, rank, place);
+    let above = list::count(places, ranks, tracks, x1, x2, place, rank);
     found(compared, above, above == n as u64)
 }
 
@@ -270,7 +270,7 @@ fn look(
         tracks,
         -2147483648,
         2147483647,
-        -2147483648,
+        2147483647,
         -2147483648,
     );
     let counted = told(begun, table::count(table), 0, all);
@@ -317,7 +317,7 @@ fn look_at_all(
     look(table, places, ranks, tracks, t)
 }
 
-// An add of a random identity: places and ranks from -h to h - 1.
+// An add of a random identity, with a rank around 0, from -h to h - 1, or at one of the ends.
 fn add_any(
     table: &mut [u8],
     scratch: &mut [u8],
@@ -326,7 +326,10 @@ fn add_any(
     tracks: &mut [u64; 4784],
     capacity: u64,
     run: Run,
-) -> Run {
+    h: u64,
+) -> Run
+    requires { ⌜ (0 < h) × (h ≤ 32768) ⌝ }
+{
     let r = drawn(run);
     let s = drawn(r);
     add(
@@ -338,7 +341,7 @@ fn add_any(
         capacity,
         s,
         around(r, 3000),
-        around(s, 20),
+        around(s, h),
     )
 }
 
@@ -428,7 +431,27 @@ fn add_present(
     r
 }
 
-// Call i of a history. 0: random; 1: rising places; 2: always the highest withdrawn; 3: alternating at capacity.
+// Of eight calls `adds` are adds of a random identity, with ranks as there, the others withdrawals.
+fn mixed(
+    table: &mut [u8],
+    scratch: &mut [u8],
+    places: &mut [i32; 4784],
+    ranks: &mut [i32; 4784],
+    tracks: &mut [u64; 4784],
+    capacity: u64,
+    run: Run,
+    adds: u64,
+    h: u64,
+) -> Run
+    requires { ⌜ (0 < capacity) × (capacity ≤ 4784) × (0 < h) × (h ≤ 32768) ⌝ }
+{
+    if below(run, 8) < adds {
+        return add_any(table, scratch, places, ranks, tracks, capacity, run, h);
+    }
+    withdraw_any(table, scratch, places, ranks, tracks, capacity, run)
+}
+
+// Call i of a history. 0: random; 1: rising places; 2: always the highest withdrawn; 3: alternating at capacity; 4: four ranks alone, two of them the ends.
 fn step(
     table: &mut [u8],
     scratch: &mut [u8],
@@ -444,10 +467,7 @@ fn step(
 {
     let r = drawn(run);
     if kind == 0 {
-        if below(r, 8) < 5 {
-            return add_any(table, scratch, places, ranks, tracks, capacity, r);
-        }
-        return withdraw_any(table, scratch, places, ranks, tracks, capacity, r);
+        return mixed(table, scratch, places, ranks, tracks, capacity, r, 5, 20);
     }
     if kind == 1 {
         if i % 3 < 2 {
@@ -468,12 +488,15 @@ fn step(
     }
     if kind == 2 {
         if i % 512 < 300 {
-            return add_any(table, scratch, places, ranks, tracks, capacity, r);
+            return add_any(table, scratch, places, ranks, tracks, capacity, r, 20);
         }
         return withdraw_highest(table, scratch, places, ranks, tracks, r);
     }
+    if kind == 4 {
+        return mixed(table, scratch, places, ranks, tracks, capacity, r, 6, 1);
+    }
     if i < capacity + capacity / 4 {
-        return add_any(table, scratch, places, ranks, tracks, capacity, r);
+        return add_any(table, scratch, places, ranks, tracks, capacity, r, 20);
     }
     if i % 4 == 0 {
         return withdraw_any(table, scratch, places, ranks, tracks, capacity, r);
@@ -481,7 +504,7 @@ fn step(
     if i % 4 == 1 {
         return add_present(table, scratch, places, ranks, tracks, capacity, r);
     }
-    add_any(table, scratch, places, ranks, tracks, capacity, r)
+    add_any(table, scratch, places, ranks, tracks, capacity, r, 20)
 }
 
 fn text(words: &[u8]) {
@@ -602,28 +625,29 @@ fn show_run(capacity: u64, kind: u64, run: Run) {
     text(b"\n");
 }
 
-fn four(table: &mut [u8], scratch: &mut [u8], capacity: u64, n: u64)
+fn each_kind(table: &mut [u8], scratch: &mut [u8], capacity: u64, n: u64)
     requires { ⌜ (0 < capacity) × (capacity ≤ 4784) × (n ≤ 65536) ⌝ }
 {
     history(table, scratch, capacity, 0, n);
     history(table, scratch, capacity, 1, n);
     history(table, scratch, capacity, 2, n);
     history(table, scratch, capacity, 3, n);
+    history(table, scratch, capacity, 4, n);
 }
 
 fn small_tables() {
     let mut nine = [165u8; 18432];
     let mut scratch = [165u8; 65536];
-    four(&mut nine, &mut scratch, 128, 3000);
+    each_kind(&mut nine, &mut scratch, 128, 3000);
     let mut ten = [165u8; 20480];
-    four(&mut ten, &mut scratch, 144, 3000);
+    each_kind(&mut ten, &mut scratch, 144, 3000);
     let mut bench = [165u8; 65536];
-    four(&mut bench, &mut scratch, 496, 4000);
+    each_kind(&mut bench, &mut scratch, 496, 4000);
 }
 
 fn main() {
     small_tables();
     let mut table = [165u8; 614400];
     let mut scratch = [165u8; 614400];
-    four(&mut table, &mut scratch, 4784, 9000);
+    each_kind(&mut table, &mut scratch, 4784, 9000);
 }

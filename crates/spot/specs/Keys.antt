@@ -61,13 +61,17 @@ rankKey k = k % word * word + k / word
 abbrev pub rankOf : ℕ → ℕ
 rankOf k = rankKey k / word
 
--- the order of Top's answers is > on these: rank order
+-- a number with its lower half the other way up. It is its own inverse.
+unfoldable pub turnLow : ℕ → ℕ
+turnLow r = r / word * word + (4294967295 - r % word)
+
+-- "Among equal ranks Top shall list the lower place first and choose by it": the order of Top's answers is > on these
 unfoldable pub topKey : ℕ → ℕ
-topKey k = rankKey k
+topKey k = turnLow (rankKey k)
 
 -- back again
 unfoldable pub keyOfTop : ℕ → ℕ
-keyOfTop r = rankKey r
+keyOfTop r = rankKey (turnLow r)
 
 -- "from its entry's lowest identity up to, and without, the next entry's"
 unfoldable pub within : ℕ → ℕ → ℕ → Bool

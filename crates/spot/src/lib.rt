@@ -6,7 +6,7 @@ ghost use lib.ListN.{length};
 ghost use mir.Syntax.{w32};
 ghost use mir.Val.{toZ};
 ghost use Rattle.octets.specs.Bytes.{be};
-ghost use Rattle.spot.specs.Keys.{biased, unbiased, turned, key, rankKey, topKey, keyOfTop};
+ghost use Rattle.spot.specs.Keys.{biased, unbiased, turned, key, rankKey, turnLow, topKey, keyOfTop};
 ghost use Rattle.spot.specs.Spots.{keyAt, spotAt, putKey, putSpot};
 ghost use Rattle.spot.specs.Query.{query, topQuery, everything, fromOf, lastOf, leastOf, placed, wantsKey, wanted};
 
@@ -78,18 +78,25 @@ pub fn rank_key(k: u64) -> u64
     k % 4294967296 * 4294967296 + k / 4294967296
 }
 
-// What Top's answers are ordered by, the highest first.
+// A number with its lower half the other way up.
+fn turn_low(r: u64) -> u64
+    ensures { λ x. ⌜ x ≡ turnLow r ⌝ }
+{
+    r / 4294967296 * 4294967296 + (4294967295 - r % 4294967296)
+}
+
+// What Top's answers are ordered by, the highest first: the higher rank, and of equal ranks the lower place.
 pub fn top_key(k: u64) -> u64
     ensures { λ r. ⌜ r ≡ topKey k ⌝ }
 {
-    rank_key(k)
+    turn_low(rank_key(k))
 }
 
 // And back.
 pub fn key_of_top(r: u64) -> u64
     ensures { λ k. ⌜ k ≡ keyOfTop r ⌝ }
 {
-    rank_key(r)
+    rank_key(turn_low(r))
 }
 
 pub fn read_key(s: &[u8], at: usize) -> u64

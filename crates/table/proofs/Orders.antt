@@ -32,8 +32,8 @@ module _ (p r q s : ℤ) (fp : Fits p) (fr : Fits r) (fq : Fits q) (fs : Fits s)
   pub model-places : ltZ p q || (eqZ p q && ltZ r s) ≡ ltb (key p r) (key q s)
   model-places = rw (eqZ-biased p q fp fq) (place-order p r q s fp fr fq fs)
 
-  -- the order of Top's answers is that of top keys
-  pub model-tops : ltZ r s || (eqZ r s && ltZ p q) ≡ ltb (topKey (key p r)) (topKey (key q s))
+  -- the order of Top's answers, "among equal ranks the lower place first", is that of top keys
+  pub model-tops : ltZ r s || (eqZ r s && ltZ q p) ≡ ltb (topKey (key p r)) (topKey (key q s))
   model-tops = rw (eqZ-biased r s fr fs) (top-order p r q s fp fr fq fs)
 
   -- one identity, one key

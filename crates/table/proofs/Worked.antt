@@ -82,6 +82,10 @@ most = pos 2147483647
 abbrev two : List Call
 two = add (pos 0) (pos 7) 1 ∷ add (pos 240) (pos 7) 2 ∷ []
 
+-- a row of one rank, on both sides of place 0, and a higher spot
+abbrev row : List Call
+row = add (pos 0) (pos 7) 1 ∷ add (pos 240) (pos 7) 2 ∷ add (negsuc 2) (pos 7) 3 ∷ add (pos 100) (pos 8) 4 ∷ []
+
 -- n spots: places and ranks n - 1 down to 0, the track 1
 filling : ℕ → List Call
 filling zero = []
@@ -104,8 +108,12 @@ rows =
     asks (record { before = add (pos 0) (pos 5) 1 ∷ []; call = withdraw (pos 0) (pos 5); lent = room 0; number = 0; detail = 0; front = [] }) ∷
     asks (record { before = add (pos 0) (pos 5) 1 ∷ withdraw (pos 0) (pos 5) ∷ []; call = withdraw (pos 0) (pos 5); lent = room 0; number = 0; detail = 0; front = [] }) ∷
     asks (record { before = add (pos 0) (pos 5) 1 ∷ withdraw (pos 0) (pos 5) ∷ withdraw (pos 0) (pos 5) ∷ []; call = count; lent = room 0; number = 0; detail = 0; front = [] }) ∷
-    -- M4
-    asks (record { before = two; call = top (pos 0) (pos 240) 1; lent = room 12; number = 0; detail = 1; front = 0 ∷ 0 ∷ 0 ∷ 240 ∷ 0 ∷ 0 ∷ 0 ∷ 7 ∷ 0 ∷ 0 ∷ 0 ∷ 2 ∷ [] }) ∷
+    -- M4: "gives place 0"
+    asks (record { before = two; call = top (pos 0) (pos 240) 1; lent = room 12; number = 0; detail = 1; front = 0 ∷ 0 ∷ 0 ∷ 0 ∷ 0 ∷ 0 ∷ 0 ∷ 7 ∷ 0 ∷ 0 ∷ 0 ∷ 1 ∷ [] }) ∷
+    -- a row of equal ranks: the lower place first, in the list and where k cuts inside it; a higher rank before all of them
+    asks (record { before = row; call = top (negsuc 2) (pos 240) 3; lent = room 36; number = 0; detail = 3; front = 0 ∷ 0 ∷ 0 ∷ 100 ∷ 0 ∷ 0 ∷ 0 ∷ 8 ∷ 0 ∷ 0 ∷ 0 ∷ 4 ∷ 255 ∷ 255 ∷ 255 ∷ 253 ∷ 0 ∷ 0 ∷ 0 ∷ 7 ∷ 0 ∷ 0 ∷ 0 ∷ 3 ∷ 0 ∷ 0 ∷ 0 ∷ 0 ∷ 0 ∷ 0 ∷ 0 ∷ 7 ∷ 0 ∷ 0 ∷ 0 ∷ 1 ∷ [] }) ∷
+    asks (record { before = row; call = top (negsuc 2) (pos 240) 4; lent = room 48; number = 0; detail = 4; front = 0 ∷ 0 ∷ 0 ∷ 100 ∷ 0 ∷ 0 ∷ 0 ∷ 8 ∷ 0 ∷ 0 ∷ 0 ∷ 4 ∷ 255 ∷ 255 ∷ 255 ∷ 253 ∷ 0 ∷ 0 ∷ 0 ∷ 7 ∷ 0 ∷ 0 ∷ 0 ∷ 3 ∷ 0 ∷ 0 ∷ 0 ∷ 0 ∷ 0 ∷ 0 ∷ 0 ∷ 7 ∷ 0 ∷ 0 ∷ 0 ∷ 1 ∷ 0 ∷ 0 ∷ 0 ∷ 240 ∷ 0 ∷ 0 ∷ 0 ∷ 7 ∷ 0 ∷ 0 ∷ 0 ∷ 2 ∷ [] }) ∷
+    asks (record { before = row; call = top (negsuc 1) (pos 99) 1; lent = room 12; number = 0; detail = 1; front = 0 ∷ 0 ∷ 0 ∷ 0 ∷ 0 ∷ 0 ∷ 0 ∷ 7 ∷ 0 ∷ 0 ∷ 0 ∷ 1 ∷ [] }) ∷
     -- M5
     asks (record { before = two; call = report (pos 240) (pos 0) (pos 7); lent = room 24; number = 0; detail = 0; front = [] }) ∷
     -- M6
@@ -146,7 +154,7 @@ rows =
     asks (record { before = filling 128 ++ (add (pos 5) (pos 5) 9 ∷ []); call = count; lent = room 0; number = 0; detail = 128; front = [] }) ∷
     asks (record { before = filling 128 ++ (withdraw (pos 5) (pos 5) ∷ []); call = add (pos 5) (pos 6) 9; lent = room 0; number = 0; detail = 0; front = [] }) ∷
     asks (record { before = filling 128 ++ (withdraw (pos 5) (pos 5) ∷ add (pos 5) (pos 6) 9 ∷ []); call = report (pos 5) (pos 5) least; lent = room 12; number = 0; detail = 1; front = 0 ∷ 0 ∷ 0 ∷ 5 ∷ 0 ∷ 0 ∷ 0 ∷ 6 ∷ 0 ∷ 0 ∷ 0 ∷ 9 ∷ [] }) ∷
-    -- the ends of 32 bits, in place order, in rank order, and with no spot left out
+    -- the ends of 32 bits, in place order, in Top's order, and with no spot left out
     asks (record {
       before = corners;
       call = report least most least;
@@ -168,12 +176,12 @@ rows =
       number = 0;
       detail = 6;
       front =
-          127 ∷ 255 ∷ 255 ∷ 255 ∷ 127 ∷ 255 ∷ 255 ∷ 255 ∷ 0 ∷ 0 ∷ 0 ∷ 1 ∷
           128 ∷ 0 ∷ 0 ∷ 0 ∷ 127 ∷ 255 ∷ 255 ∷ 255 ∷ 0 ∷ 0 ∷ 0 ∷ 3 ∷
+          127 ∷ 255 ∷ 255 ∷ 255 ∷ 127 ∷ 255 ∷ 255 ∷ 255 ∷ 0 ∷ 0 ∷ 0 ∷ 1 ∷
           255 ∷ 255 ∷ 255 ∷ 255 ∷ 0 ∷ 0 ∷ 0 ∷ 0 ∷ 255 ∷ 255 ∷ 255 ∷ 255 ∷
           0 ∷ 0 ∷ 0 ∷ 0 ∷ 255 ∷ 255 ∷ 255 ∷ 255 ∷ 0 ∷ 0 ∷ 0 ∷ 5 ∷
-          127 ∷ 255 ∷ 255 ∷ 255 ∷ 128 ∷ 0 ∷ 0 ∷ 0 ∷ 0 ∷ 0 ∷ 0 ∷ 4 ∷
-          128 ∷ 0 ∷ 0 ∷ 0 ∷ 128 ∷ 0 ∷ 0 ∷ 0 ∷ 0 ∷ 0 ∷ 0 ∷ 2 ∷ [];
+          128 ∷ 0 ∷ 0 ∷ 0 ∷ 128 ∷ 0 ∷ 0 ∷ 0 ∷ 0 ∷ 0 ∷ 0 ∷ 2 ∷
+          127 ∷ 255 ∷ 255 ∷ 255 ∷ 128 ∷ 0 ∷ 0 ∷ 0 ∷ 0 ∷ 0 ∷ 0 ∷ 4 ∷ [];
     }) ∷
     asks (record { before = corners; call = report least least most; lent = room 12; number = 0; detail = 1; front = 128 ∷ 0 ∷ 0 ∷ 0 ∷ 127 ∷ 255 ∷ 255 ∷ 255 ∷ 0 ∷ 0 ∷ 0 ∷ 3 ∷ [] }) ∷
     asks (record { before = corners; call = report most least least; lent = room 12; number = 0; detail = 0; front = [] }) ∷

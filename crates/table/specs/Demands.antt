@@ -89,7 +89,8 @@ pub record ReportOf (x1 x2 y : ℤ) (t : List ℕ) (given : List PlainSpot) : Ty
   pub rise : InOrder placeBefore given
   pub each : (s : PlainSpot) → List·Memᴰ s given ↔ (OfPlaces x1 x2 t s × (leZ y (s .rank) ≡ true))
 
--- "Top(x1, x2, k) gives, of the live spots with x1 ≤ place ≤ x2, the k highest in rank order (all, if fewer), highest first"
+-- "Top(x1, x2, k) gives, of the live spots with x1 ≤ place ≤ x2, the k highest in rank order (all, if fewer), highest first"; and "Among equal ranks Top
+-- shall list the lower place first and choose by it": the first by `fall`, the second by `highest`
 pub record TopOf (x1 x2 : ℤ) (k : ℕ) (t : List ℕ) (given : List PlainSpot) : Type 0 where
   pub fall : InOrder topBefore given
   pub wanted : (s : PlainSpot) → List·Memᴰ s given → OfPlaces x1 x2 t s

@@ -31,9 +31,9 @@ hasIdentity place rank s = eqZ (s .place) place && eqZ (s .rank) rank
 unfoldable pub placeBefore : PlainSpot → PlainSpot → Bool
 placeBefore s r = ltZ (s .place) (r .place) || (eqZ (s .place) (r .place) && ltZ (s .rank) (r .rank))
 
--- "The rank order compares ranks, then places", the highest first: s comes before r in a Top
+-- "Among equal ranks Top shall list the lower place first and choose by it": s comes before r in a Top
 unfoldable pub topBefore : PlainSpot → PlainSpot → Bool
-topBefore s r = ltZ (r .rank) (s .rank) || (eqZ (r .rank) (s .rank) && ltZ (r .place) (s .place))
+topBefore s r = ltZ (r .rank) (s .rank) || (eqZ (r .rank) (s .rank) && ltZ (s .place) (r .place))
 
 -- "x1 ≤ place ≤ x2"
 unfoldable pub ofPlaces : ℤ → ℤ → PlainSpot → Bool
@@ -70,7 +70,7 @@ takenOut place rank ss = chosen (λ s. not (hasIdentity place rank s)) ss
 unfoldable pub broughtIn : PlainSpot → List PlainSpot → List PlainSpot
 broughtIn s ss = insertBy placeBefore s (takenOut (s .place) (s .rank) ss)
 
--- "of the live spots with x1 ≤ place ≤ x2, the k highest in rank order (all, if fewer), highest first"
+-- "of the live spots with x1 ≤ place ≤ x2, the k highest in rank order (all, if fewer), highest first"; among equal ranks by place, as 2026-02 has it
 unfoldable pub highest : ℤ → ℤ → ℕ → List PlainSpot → List PlainSpot
 highest x1 x2 k ss = take k (sortBy topBefore (chosen (ofPlaces x1 x2) ss))
 

@@ -48,8 +48,8 @@ pub record HandsOut (q : Query) (t out : List ℕ) (r : Answer) (out′ map′ :
       → (b : ℕ) × (bit map′ b ≡ true) × List·Memᴰ s (storeOf t b .points ++ storeOf t b .inserts) × (b ≡ 0 → ⊥)
   pub header : bit map′ 0 ≡ true
 
--- "Top(x1, x2, k), k unsigned 32-bit, gives, of the live spots with x1 ≤ place ≤ x2, the k highest in rank order (all, if fewer), highest first".
--- Where the walk finds an identity twice, which only an unsound table does, the choice between the two is free.
+-- "Top(x1, x2, k), k unsigned 32-bit, gives, of the live spots with x1 ≤ place ≤ x2, the k highest in rank order (all, if fewer), highest first";
+-- "Among equal ranks Top shall list the lower place first and choose by it". Where the walk finds an identity twice, which only an unsound table does, the choice between the two is free.
 pub record TopPost (x1 x2 : ℤ) (k : ℕ) (t out map : List ℕ) (r : Answer) (out′ map′ : List ℕ) : Type 0 where
   pub exact : rising (keys (spots (topWalk t x1 x2 k))) ≡ true → QueryPost (top x1 x2 k) (topTable t x1 x2 k) t out map r out′ map′
   -- on every table: 1 and 2 as the lengths give them, else 0, 3 with detail 0, or 5 with more spots than the output holds

@@ -32,6 +32,7 @@ topWalk t x1 x2 (suc k) = walkTable t (topQuery x1 x2 (threshold t x1 x2 (suc k)
 abbrev pub best : ℕ → Walk → Walk
 best k w = mapSpots (λ found. take k (byTop found)) w
 
--- "gives, of the live spots with x1 ≤ place ≤ x2, the k highest in rank order (all, if fewer), highest first"
+-- "gives, of the live spots with x1 ≤ place ≤ x2, the k highest in rank order (all, if fewer), highest first", and "Among equal ranks
+-- Top shall list the lower place first and choose by it"
 unfoldable pub topTable : List ℕ → ℤ → ℤ → ℕ → Walk
 topTable t x1 x2 k = best k (topWalk t x1 x2 k)

@@ -322,6 +322,151 @@ fn nine_blocks_used() {
     full(&mut table, &mut scratch);
 }
 
+// Adds n spots of this rank at neighbouring places; `first` is the first of them, biased.
+fn add_row(table: &mut [u8], scratch: &mut [u8], first: u64, n: u64, rank: i32)
+    requires { ⌜ (n ≤ 65536) × (first + n ≤ 4294967296) ⌝ }
+{
+    let mut i = 0;
+    while i < n {
+        table::add(table, scratch, spot::unbias(first + i), rank, i as u32);
+        i += 1;
+    }
+}
+
+// Top with room for 8 spots, and the number of blocks that it marks.
+fn best(name: &[u8], table: &[u8], x1: i32, x2: i32, k: u32) {
+    let mut map = [0u8; 512];
+    let mut output = [0u8; 96];
+    let a = table::top(table, x1, x2, k, &mut output, &mut map);
+    show_spots(name, a, &output);
+    show_marks(&map);
+}
+
+fn best_of_all(name: &[u8], table: &[u8], k: u32) {
+    best(name, table, -2147483648, 2147483647, k);
+}
+
+// Five spots of rank 7 from place -2 on, one above them and one below.
+fn hang_five(table: &mut [u8], scratch: &mut [u8]) {
+    table::format(table);
+    add_row(table, scratch, 2147483646, 5, 7);
+    table::add(table, scratch, 1, 8, 5);
+    table::add(table, scratch, -9, 6, 6);
+}
+
+fn row_cut(table: &[u8]) {
+    say(b"a row of one rank, cut by k\n");
+    best_of_all(b"  top 1", table, 1);
+    best_of_all(b"  top 3", table, 3);
+    best_of_all(b"  top 7", table, 7);
+    best(b"  top 2 from place -1 to 0", table, -1, 0, 2);
+}
+
+fn hang_to_both_ends(table: &mut [u8], scratch: &mut [u8]) {
+    table::format(table);
+    add_row(table, scratch, 2147483647, 2, 7);
+    table::add(table, scratch, 2147483647, 7, 2);
+    table::add(table, scratch, -2147483648, 7, 3);
+}
+
+fn row_to_both_ends(table: &[u8]) {
+    say(b"a row of one rank, to both ends of the places\n");
+    best_of_all(b"  top 1", table, 1);
+    best_of_all(b"  top 3", table, 3);
+    best_of_all(b"  top, all", table, 4294967295);
+}
+
+fn hang_both_end_ranks(table: &mut [u8], scratch: &mut [u8]) {
+    table::format(table);
+    add_row(table, scratch, 2147483646, 3, -2147483648);
+    add_row(table, scratch, 2147483647, 3, 2147483647);
+}
+
+fn rows_of_both_end_ranks(table: &[u8]) {
+    say(b"rows of the first and of the last rank\n");
+    best_of_all(b"  top 2", table, 2);
+    best_of_all(b"  top 4", table, 4);
+    best_of_all(b"  top, all", table, 4294967295);
+}
+
+fn rows_in_a_leaf(table: &mut [u8], scratch: &mut [u8]) {
+    hang_five(table, scratch);
+    row_cut(table);
+    hang_to_both_ends(table, scratch);
+    row_to_both_ends(table);
+    hang_both_end_ranks(table, scratch);
+    rows_of_both_end_ranks(table);
+}
+
+// What the root in block 1 holds.
+fn show_root(table: &[u8]) {
+    if table.len() == 65536 {
+        say(b"  levels, points and inserts of the root: ");
+        io::print_decimal(1, octets::byte_at(table, 5));
+        say(b" ");
+        io::print_decimal(1, octets::byte_at(table, 2052));
+        say(b" ");
+        io::print_decimal(1, octets::byte_at(table, 2053));
+        say(b"\n");
+    }
+}
+
+// 40 points of rank 7 from place 0 on. Additions of their rank at lower places lie below them in rank order: they wait beside them and come first.
+fn hang_beside_points(table: &mut [u8], scratch: &mut [u8]) {
+    table::format(table);
+    add_row(table, scratch, 2147483648, 40, 7);
+    table::rebuild(table, scratch);
+    add_row(table, scratch, 2147483645, 3, 7);
+    add_row(table, scratch, 2147483644, 3, 6);
+}
+
+fn row_of_points_and_inserts(table: &[u8]) {
+    say(b"a row of one rank in the points and the inserts of a node\n");
+    show_root(table);
+    best_of_all(b"  top 1", table, 1);
+    best_of_all(b"  top 5", table, 5);
+    best(b"  top 8 up to place 1", table, -2147483648, 1, 8);
+}
+
+// 300 spots of rank 7 from place -150 on. The points of the root are the highest in rank order, so those that come first lie in a leaf.
+fn hang_over_nodes(table: &mut [u8], scratch: &mut [u8]) {
+    table::format(table);
+    add_row(table, scratch, 2147483498, 300, 7);
+    table::rebuild(table, scratch);
+}
+
+fn row_over_nodes(table: &[u8]) {
+    say(b"a row of one rank over all nodes\n");
+    show_root(table);
+    best_of_all(b"  top 1", table, 1);
+    best_of_all(b"  top 3", table, 3);
+    best(b"  top 3 from place 100 on", table, 100, 2147483647, 3);
+}
+
+// Of the same rank two on either side of the row: those before it wait in the root.
+fn more_of_the_row(table: &mut [u8], scratch: &mut [u8]) {
+    add_row(table, scratch, 2147483496, 2, 7);
+    add_row(table, scratch, 2147483798, 2, 7);
+    show_root(table);
+    best_of_all(b"  top 4", table, 4);
+    best(b"  top 8 from place 149 on", table, 149, 2147483647, 8);
+}
+
+fn rows_in_nodes(table: &mut [u8], scratch: &mut [u8]) {
+    hang_beside_points(table, scratch);
+    row_of_points_and_inserts(table);
+    hang_over_nodes(table, scratch);
+    row_over_nodes(table);
+    more_of_the_row(table, scratch);
+}
+
+fn rows_of_one_rank() {
+    let mut table = [165u8; 65536];
+    let mut scratch = [165u8; 65536];
+    rows_in_a_leaf(&mut table, &mut scratch);
+    rows_in_nodes(&mut table, &mut scratch);
+}
+
 // A table of three levels: the root in block 1, its children in blocks 2 and 8, and five leaves below each.
 fn three_levels(table: &mut [u8], scratch: &mut [u8]) {
     table::format(table);
@@ -399,25 +544,14 @@ fn highest_outside() {
     );
 }
 
-// Adds n spots of this rank, from place 0 on.
-fn add_row(table: &mut [u8], scratch: &mut [u8], n: u64, rank: i32)
-    requires { ⌜ n ≤ 65536 ⌝ }
-{
-    let mut i = 0;
-    while i < n {
-        table::add(table, scratch, spot::unbias(2147483648 + i), rank, 0);
-        i += 1;
-    }
-}
-
 // The root has 40 points, and 64 additions wait in it, 44 of them for the leaf in block 3, which is empty and damaged. An addition elsewhere brings a batch down.
 fn damaged_on_the_way() {
     let mut table = [0u8; 65536];
     let mut scratch = [0u8; 65536];
     table::format(&mut table);
-    add_row(&mut table, &mut scratch, 40, 100);
+    add_row(&mut table, &mut scratch, 2147483648, 40, 100);
     table::rebuild(&mut table, &mut scratch);
-    add_row(&mut table, &mut scratch, 64, 1);
+    add_row(&mut table, &mut scratch, 2147483648, 64, 1);
     table[8191] = 1;
     say(b"a damaged leaf for which additions wait\n");
     look(&table);
@@ -441,6 +575,7 @@ fn main() {
     header_of_version_2();
     fresh();
     nine_blocks_used();
+    rows_of_one_rank();
     as_built();
     low_before_the_range();
     block_named_twice();

@@ -1,6 +1,6 @@
 //! The file that guides read today: spots of 12 bytes, sorted by place. Read through, or searched by halving.
 
-use spot_reference::Key;
+use spot_reference::{top_order, Key};
 
 const WIDTH: usize = 12;
 /// A block of the card.
@@ -65,16 +65,16 @@ pub fn report_halved(file: &[u8], x1: i32, x2: i32, y: i32, out: &mut [u8]) -> u
     report(part(file, x1, x2), x1, x2, y, out)
 }
 
-/// The k best of the range, highest first: kept, cut at the k-th, sorted.
+/// The first k of the range in the order of Top's answers: kept, cut at the k-th, sorted.
 pub fn top(file: &[u8], x1: i32, x2: i32, k: usize, out: &mut [u8]) -> usize {
     let wanted = file.chunks_exact(WIDTH).filter(|s| (x1..=x2).contains(&word(s, 0)));
-    let mut kept: Vec<(i32, i32, &[u8])> = wanted.map(|s| (word(s, 4), word(s, 0), &s[8..])).collect();
+    let mut kept: Vec<(Key, &[u8])> = wanted.map(|s| ((word(s, 0), word(s, 4)), &s[8..])).collect();
     if k < kept.len() {
-        kept.select_nth_unstable_by(k, |a, b| b.cmp(a));
+        kept.select_nth_unstable_by_key(k, |s| top_order(s.0));
         kept.truncate(k);
     }
-    kept.sort_unstable_by(|a, b| b.cmp(a));
-    for (i, (rank, place, track)) in kept.iter().enumerate() {
+    kept.sort_unstable_by_key(|s| top_order(s.0));
+    for (i, ((place, rank), track)) in kept.iter().enumerate() {
         let s = &mut out[WIDTH * i..WIDTH * (i + 1)];
         s[..4].copy_from_slice(&place.to_be_bytes());
         s[4..8].copy_from_slice(&rank.to_be_bytes());

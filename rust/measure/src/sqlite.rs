@@ -1,4 +1,4 @@
-//! SQLite in memory: primary key (place, rank) without rowid, an index on (rank, place), rows fetched.
+//! SQLite in memory: primary key (place, rank) without rowid, an index on (rank falling, place), rows fetched.
 
 use crate::flat::put;
 use spot_reference::Key;
@@ -42,9 +42,9 @@ impl Sqlite {
         assert_eq!(unsafe { sqlite3_open(c":memory:".as_ptr(), &mut db) }, 0);
         let mut s = Sqlite { db, report: null_mut(), top: null_mut(), add: null_mut(), withdraw: null_mut(), count: null_mut() };
         s.run("CREATE TABLE spots(place INTEGER, rank INTEGER, track INTEGER, PRIMARY KEY(place, rank)) WITHOUT ROWID");
-        s.run("CREATE INDEX by_rank ON spots(rank, place)");
+        s.run("CREATE INDEX by_rank ON spots(rank DESC, place)");
         s.report = s.prepare("SELECT place, rank, track FROM spots WHERE place BETWEEN ?1 AND ?2 AND rank >= ?3 ORDER BY place, rank");
-        s.top = s.prepare("SELECT place, rank, track FROM spots WHERE place BETWEEN ?1 AND ?2 ORDER BY rank DESC, place DESC LIMIT ?3");
+        s.top = s.prepare("SELECT place, rank, track FROM spots WHERE place BETWEEN ?1 AND ?2 ORDER BY rank DESC, place ASC LIMIT ?3");
         s.add = s.prepare("INSERT OR REPLACE INTO spots VALUES(?1, ?2, ?3)");
         s.withdraw = s.prepare("DELETE FROM spots WHERE place = ?1 AND rank = ?2");
         s.count = s.prepare("SELECT count(*) FROM spots");

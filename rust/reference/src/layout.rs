@@ -1,6 +1,8 @@
-//! How the bytes of a card lie: widths, the parts of a node, identities and tracks.
+//! How the bytes of a card lie: widths, the parts of a node, identities and tracks; the orders of identities.
 
-/// An identity in place order; rank order compares (rank, place).
+use std::cmp::Reverse;
+
+/// An identity in place order; rank order compares (rank, place), Top's answers come in `top_order`.
 pub type Key = (i32, i32);
 
 pub const BLOCK: usize = 2048;
@@ -16,6 +18,11 @@ pub const KEY: usize = 8;
 
 pub fn by_rank(k: Key) -> (i32, i32) {
     (k.1, k.0)
+}
+
+/// Rising in this, the order of Top's answers: the higher rank first, of equal ranks the lower place.
+pub fn top_order(k: Key) -> (Reverse<i32>, i32) {
+    (Reverse(k.1), k.0)
 }
 
 pub fn key(s: &[u8]) -> Key {

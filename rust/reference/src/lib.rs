@@ -10,6 +10,6 @@ mod tree;
 pub mod words;
 
 pub use explain::{faults, sound, Fault, Way, MOST_FAULTS, RULES};
-pub use layout::Key;
+pub use layout::{top_order, Key};
 pub use tables::{make, read_by_report, some_spots, Entry, Made, Node, Random};
 pub use tree::{nodes, Placed};

@@ -6,11 +6,8 @@ use borrow.Author.Needs.{needs}
 use Rattle.histories.proofs.below.Statement.{statement}
 use Rattle.histories.proofs.below.Tie as tie
 
-rem-result : tie.Need-rem-result
-rem-result c = search needs
-
 returns : tie.Need-returns
 returns c = mod-lt (c .before .args .run .seed / 65536) (c .before .pre)
 
 pub below-spec : {M : Type 1} → statement M
-below-spec = tie.close (tie.spec rem-result returns)
+below-spec = tie.close (tie.spec (λ c. search needs) returns)

@@ -7,11 +7,11 @@ use Rattle.histories.proofs.spots_in_list.Statement.{statement}
 use Rattle.histories.proofs.spots_in_list.Tie as tie
 
 abbrev Inv-loop : tie.InvT-loop
-Inv-loop output n places ranks tracks x1 x2 y falls run₀ last-place₀ last-rank₀ i₀ run last-place last-rank i =
+Inv-loop output n places ranks tracks x1 x2 y by-top run₀ last-place₀ last-rank₀ i₀ run last-place last-rank i =
     Unit {0}
 
 abbrev μ-loop : tie.MeasureT-loop
-μ-loop output n places ranks tracks x1 x2 y falls run₀ last-place₀ last-rank₀ i₀ run last-place last-rank i =
+μ-loop output n places ranks tracks x1 x2 y by-top run₀ last-place₀ last-rank₀ i₀ run last-place last-rank i =
     n - i
 
 loop-holds : tie.Need-loop-holds Inv-loop μ-loop

@@ -9,10 +9,10 @@ use Rattle.vectors.proofs.add_row.Statement.{statement}
 use Rattle.vectors.proofs.add_row.Tie as tie
 
 abbrev Inv-loop : tie.InvT-loop
-Inv-loop table₀ scratch₀ n rank i₀ table scratch i = (length table ≡ length table₀) × (length scratch ≡ length scratch₀)
+Inv-loop table₀ scratch₀ first n rank i₀ table scratch i = (length table ≡ length table₀) × (length scratch ≡ length scratch₀)
 
 abbrev μ-loop : tie.MeasureT-loop
-μ-loop table₀ scratch₀ n rank i₀ table scratch i = n - i
+μ-loop table₀ scratch₀ first n rank i₀ table scratch i = n - i
 
 loop-holds : tie.Need-loop-holds Inv-loop μ-loop
 loop-holds c = search needs
@@ -22,6 +22,9 @@ add-unbias c = omega arith
 
 unbias-requires : tie.Need-unbias-requires Inv-loop μ-loop
 unbias-requires c κs = search needs
+
+cast-add : tie.Need-cast-add Inv-loop μ-loop
+cast-add c = omega arith
 
 add-requires : tie.Need-add-requires Inv-loop μ-loop
 add-requires c κs = search needs
@@ -53,6 +56,7 @@ add-row-spec =
     loop-holds
     add-unbias
     unbias-requires
+    cast-add
     add-requires
     add-i
     loop-less

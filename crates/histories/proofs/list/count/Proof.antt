@@ -6,10 +6,10 @@ use Rattle.histories.proofs.list.count.Statement.{statement}
 use Rattle.histories.proofs.list.count.Tie as tie
 
 abbrev Inv-loop : tie.InvT-loop
-Inv-loop places ranks tracks x1 x2 rank place n₀ i₀ n i = Unit {0}
+Inv-loop places ranks tracks x1 x2 place rank n₀ i₀ n i = Unit {0}
 
 abbrev μ-loop : tie.MeasureT-loop
-μ-loop places ranks tracks x1 x2 rank place n₀ i₀ n i = 4784 - i
+μ-loop places ranks tracks x1 x2 place rank n₀ i₀ n i = 4784 - i
 
 loop-holds : tie.Need-loop-holds Inv-loop μ-loop
 loop-holds c = tt
@@ -32,20 +32,20 @@ mul-if1-3 c = omega arith
 element-copy-out-if1-3 : tie.Need-element-copy-out-if1-3 Inv-loop μ-loop
 element-copy-out-if1-3 c = omega arith
 
-mul-before : tie.Need-mul-before Inv-loop μ-loop
-mul-before c = omega arith
+mul-top-before : tie.Need-mul-top-before Inv-loop μ-loop
+mul-top-before c = omega arith
 
-element-copy-out-before : tie.Need-element-copy-out-before Inv-loop μ-loop
-element-copy-out-before c = omega arith
+element-copy-out-top-before : tie.Need-element-copy-out-top-before Inv-loop μ-loop
+element-copy-out-top-before c = omega arith
 
-mul-before-2 : tie.Need-mul-before-2 Inv-loop μ-loop
-mul-before-2 c = omega arith
+mul-top-before-2 : tie.Need-mul-top-before-2 Inv-loop μ-loop
+mul-top-before-2 c = omega arith
 
-element-copy-out-before-2 : tie.Need-element-copy-out-before-2 Inv-loop μ-loop
-element-copy-out-before-2 c = omega arith
+element-copy-out-top-before-2 : tie.Need-element-copy-out-top-before-2 Inv-loop μ-loop
+element-copy-out-top-before-2 c = omega arith
 
-before-requires : tie.Need-before-requires Inv-loop μ-loop
-before-requires c κs = tt
+top-before-requires : tie.Need-top-before-requires Inv-loop μ-loop
+top-before-requires c κs = tt
 
 wrapping-add-u64-requires : tie.Need-wrapping-add-u64-requires Inv-loop μ-loop
 wrapping-add-u64-requires c κs = tt
@@ -75,11 +75,11 @@ count-spec =
     element-copy-out-if1-2
     mul-if1-3
     element-copy-out-if1-3
-    mul-before
-    element-copy-out-before
-    mul-before-2
-    element-copy-out-before-2
-    before-requires
+    mul-top-before
+    element-copy-out-top-before
+    mul-top-before-2
+    element-copy-out-top-before-2
+    top-before-requires
     wrapping-add-u64-requires
     add-i
     loop-less
