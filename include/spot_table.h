@@ -21,7 +21,7 @@
  *   spot_format     writes every block.
  *   spot_count      reads block 0 and every node block that has spots.
  *   spot_check      reads block 0 and every node block.
- *   spot_report     reads at most 1 + 36h + 9 * (spots div 16) blocks on a sound table, and marks exactly those; each twice, to count and to write.
+ *   spot_report     reads at most 1 + 36h + 9 * (spots div 16) blocks on a sound table, and marks exactly those; each once up to 128 spots, twice above, to count and to write.
  *   spot_top        reads the blocks of the report from the lowest rank that it gives; once up to 512 spots, twice above.
  *   spot_add        reads block 0 and the h blocks on the way down, and writes block 0 and the root where the root has room. Where it has none, changes go down in batches:
  *   spot_withdraw   some more blocks a level. Rarely, where no block is spare, all is laid out anew as by spot_rebuild. Both zero as much of the work area as the table is
@@ -50,9 +50,9 @@ extern "C" {
 
 /* Bytes of stack that suffice for a call on any table, return address included. measure/stack computes them from the built archive and fails where one is too low. */
 #define SPOT_STACK_FORMAT 8192
-#define SPOT_STACK_COUNT 16384
-#define SPOT_STACK_CHECK 16384
-#define SPOT_STACK_REPORT 16384
+#define SPOT_STACK_COUNT 24576
+#define SPOT_STACK_CHECK 24576
+#define SPOT_STACK_REPORT 24576
 #define SPOT_STACK_TOP 163840
 #define SPOT_STACK_ADD 245760
 #define SPOT_STACK_WITHDRAW 245760

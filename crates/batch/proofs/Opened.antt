@@ -28,20 +28,18 @@ use Rattle.block.specs.NodeRules.{names, nodeOk, filled, lowest}
 use Rattle.block.proofs.Facts.{node-facts}
 use Rattle.tree.specs.Part.{Part, nextLow}
 use Rattle.tree.specs.Lookup.{lookup}
-use Rattle.tree.proofs.Ranges.{steps-of}
-use Rattle.tree.proofs.Says.{names-P, names-I, names-D}
 use Rattle.buffer.specs.Buffer.{held}
 use Rattle.node.specs.Memory.{entriesOf, nodeIn, EntryAt, Loaded}
 use Rattle.node.specs.declared.Entries.{Entries}
 use Rattle.node.specs.declared.NodeValue.{NodeValue}
-use Rattle.update.specs.Held.{Held, insertAll}
-use Rattle.update.specs.Change.{part, Sound}
-use Rattle.update.specs.Open.{under, Open}
-use Rattle.update.proofs.Loose.{opened, lookup-step}
-use Rattle.update.proofs.Node.{rules-of}
-use Rattle.update.proofs.Open.{heldOf, open-node, open-lowest}
-use Rattle.update.proofs.Settle.{open-inserts, open-deletes, open-spill}
-use Rattle.update.proofs.Spread.{start, childAt}
+use Rattle.update_theory.specs.Held.{Held, insertAll}
+use Rattle.update_theory.specs.Change.{part, Sound}
+use Rattle.update_theory.specs.Open.{under, Open}
+use Rattle.update_theory.proofs.Loose.{opened}
+use Rattle.update_theory.proofs.Node.{ready-by}
+use Rattle.update_theory.proofs.Open.{heldOf, open-read, open-node, open-lowest}
+use Rattle.update_theory.proofs.Settle.{open-inserts, open-deletes, open-spill}
+use Rattle.update_theory.proofs.Spread.{start, childAt}
 use Rattle.edit.specs.Edits.{heldIn, Threshold, Spilled}
 use Rattle.choose.specs.Choices.{ChildFor}
 use Rattle.choose.proofs.Found.{floorAt, child-holds}
@@ -92,31 +90,12 @@ receives l a t b n ni nd ok d hi hd =
 pub open-leaf : (l : ℕ) (m : Store) (p : Part) → p .lo ≤ p .hi → Sound (suc l) m (p ∷ []) → m (p .block) .level ≡ 0
     → Open l m (p .lo) (p .hi) 0 (m (p .block) .entries) (heldOf (m (p .block))) (λ k. lookup (suc l) m k p)
 open-leaf l m p h s e =
-    let o = opened l m p s in
     let n = m (p .block) in
-    let f = node-facts l (p .asked) n (o .ok) in
-    let r = rules-of l p n (o .ok) (o .inside) in
-    let b = f .leaf-bare e in
-    let noI : (k : ℕ) → List·Memᴰ k (keys (n .inserts)) → ⊥ = λ k i. List·Memᴰ·not-nil (subst (λ (ss : List Spot). List·Memᴰ k (keys ss)) (b .1) i) in
-    let noD : (k : ℕ) → List·Memᴰ k (n .deletes) → ⊥ = λ k i. List·Memᴰ·not-nil (subst (λ (ks : List ℕ). List·Memᴰ k ks) (b .2) i) in
-    record {
-      kids = o .kids;
-      steps = steps-of l p n h (o .ok) (o .inside);
-      ready = record {
-        upP = f .points-rise;
-        upI = f .inserts-rise;
-        upD = f .deletes-rise;
-        inP = λ k i. r .inside k (names-P n i);
-        inI = λ k i. r .inside k (names-I n i);
-        inD = λ k i. r .inside k (names-D n i);
-        off = λ k i j. noI k i;
-        above = λ k i. omega arith;
-        underI = λ k i. absurd (noI k i);
-        underD = λ k i. absurd (noD k i);
-        deep = λ k a i. absurd (Option·some-ne-none _ (sym i ∙ ap (λ (es : List Entry). under l m (p .lo) (p .hi) es k) (b .0)));
-      };
-      found = λ k w. sym (lookup-step l m k p);
-    }
+    let b = node-facts l (p .asked) n (opened l m p s .ok) .leaf-bare e in
+    open-read l m p h s
+    (λ each rules. ready-by l m p n each rules 0 (λ k i. omega arith) (λ k i. absurd (List·Memᴰ·not-nil (subst (λ (ss : List Spot). List·Memᴰ k (keys ss)) (b .1) i)))
+    (λ k i. absurd (List·Memᴰ·not-nil (subst (λ (ks : List ℕ). List·Memᴰ k ks) (b .2) i)))
+    (λ k a i. absurd (Option·some-ne-none _ (sym i ∙ ap (λ (es : List Entry). under l m (p .lo) (p .hi) es k) (b .0)))))
 
 -- P's lowest went to I, one after the other
 pub open-spilled : (l : ℕ) (m : Store) (lo hi : ℕ) → hi ≤ allKeys → (r : ℕ) (es : List Entry) (b c : Held) (f : ℕ → Option ℕ) → Spilled b c → Open l m lo hi r es b f

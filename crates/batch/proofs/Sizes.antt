@@ -21,7 +21,7 @@ use Rattle.spot.specs.Sorted.{only, but, insertKey}
 use Rattle.spot.proofs.Canon.{length-put}
 use Rattle.spot.proofs.Buffers.{keys-mem, only-mem, only-rises, put-mem, put-up, length-only}
 use Rattle.spot.proofs.Sorted.{but-not, but-yes, length-but}
-use Rattle.update.specs.Held.{Held, insertOne, deleteOne, insertAll, deleteAll}
+use Rattle.update_theory.specs.Held.{Held, insertOne, deleteOne, insertAll, deleteAll}
 
 -- what b has become, after at most `more` inserts and `gone` changes
 pub record Sized (b c : Held) (more gone : ℕ) : Type 0 where

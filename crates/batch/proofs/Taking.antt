@@ -11,7 +11,7 @@ use Rattle.spot.specs.declared.Spot.{Spot}
 use Rattle.buffer.specs.Buffer.{held, named}
 use Rattle.buffer.specs.declared.KeyBuffer.{KeyBuffer}
 use Rattle.node.specs.declared.NodeValue.{NodeValue}
-use Rattle.update.specs.Held.{Held, insertAll, deleteAll}
+use Rattle.update_theory.specs.Held.{Held, insertAll, deleteAll}
 use Rattle.edit.specs.Edits.{heldIn, Tidy, Edited, Threshold, Spilled}
 use Rattle.batch.specs.Batches.{Receives, SpilledInner, TakenIn}
 use Rattle.batch.proofs.Sizes.{Sized, sized-start, sized-inserts, sized-deletes, inserts-bare, deletes-bare}

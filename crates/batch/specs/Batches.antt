@@ -19,7 +19,7 @@ use Rattle.buffer.specs.Buffer.{held, named}
 use Rattle.node.specs.Memory.{entriesOf, EntryAt}
 use Rattle.node.specs.declared.Entries.{Entries}
 use Rattle.node.specs.declared.NodeValue.{NodeValue}
-use Rattle.update.specs.Held.{insertAll, deleteAll}
+use Rattle.update_theory.specs.Held.{insertAll, deleteAll}
 use Rattle.edit.specs.Edits.{heldIn, Tidy, Threshold, Spilled, SpillPost, Half}
 use Rattle.choose.specs.Choices.{ChildFor}
 use Rattle.batch.specs.declared.Picked.{Picked}

@@ -20,7 +20,7 @@ use Rattle.block.specs.declared.Asked.the-variants.{Root, Child}
 use Rattle.block.specs.Table.{version1}
 use Rattle.block.specs.Node.{nodeFrom}
 use Rattle.block.specs.NodeRules.{agrees, isHighest, isLowest}
-use Rattle.block.specs.Checks.{agreesFine, keyed, lastKey}
+use Rattle.block.specs.Checks.{agreesFine, entryKeyed, lastKey}
 use Rattle.block.proofs.Above.{least-last}
 use Rattle.spot.proofs.Buffers.{keys-records, keys-small}
 
@@ -85,10 +85,10 @@ unfolding all
 same-size x y z y' z' e p q r = rw (p, q, r, and-true)
 
 module _ (blocks : ℕ) (s : List ℕ) (c i d : ℕ) where
-  pub agrees-is : (a : Asked) → keyed a ≡ true → (p : ℕ)
+  pub agrees-is : (a : Asked) → entryKeyed a ≡ true → (p : ℕ)
       → agrees a (nodeFrom version1 blocks s c p i d)
       ≡ agreesFine a p (minimum lastKey (map rankKey (keysFrom s 12 p (8 + 28 * c)))) (maximum (map rankKey (keysFrom s 12 p (8 + 28 * c))))
-  unfolding agrees agreesFine nodeFrom keyed
+  unfolding agrees agreesFine nodeFrom entryKeyed
   agrees-is (Root b) kd p = refl
   agrees-is (Child e) kd zero = all3 (eqb (e .size) 0)
   agrees-is (Child e) kd (suc p) =

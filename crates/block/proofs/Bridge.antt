@@ -22,7 +22,7 @@ use Rattle.block.specs.Table.{blockOk, version1}
 use Rattle.block.specs.Node.{Node, nodeOf, nodeFrom, laidOut, usedBytes, entryAt, entryBlank, firstBlank, firstOpen}
 use Rattle.block.specs.NodeRules.{lowOf, standsIn, nodeOk, fewest, buffersRise, namedOnce, pointsAbove, tops, filled, lowest}
 use Rattle.block.specs.Access.{frontOf}
-use Rattle.block.specs.Checks.{_and_, keyed, isZero, ranksUnder, apart, lastKey, risesUnder, sizesFine, otherBlock, entryShows, firstFine, entriesFine, blocksFine, aboveTops, countFine, frontFine, listsFine, restFine, bodyFine}
+use Rattle.block.specs.Checks.{_and_, entryKeyed, isZero, ranksUnder, apart, lastKey, risesUnder, sizesFine, otherBlock, entryShows, firstFine, entriesFine, blocksFine, aboveTops, countFine, frontFine, listsFine, restFine, bodyFine}
 use Rattle.octets.proofs.Tests.{and-left, and-right, and-both, or-either, or-right, bool-ext, all-at, all-cons, all-nil, every-left, every-right, every-join}
 use Rattle.octets.proofs.Sets.{distinct-split, distinct-join}
 use Rattle.octets.proofs.Rising.{rising-lower, rising-from, rising-distinct}
@@ -37,7 +37,7 @@ use Rattle.block.proofs.Marks.{credibleAt, fine-make, fine-blank, fine-
 use Rattle.block.proofs.Rules.{rising-floor, floor-forward, floor-back, names-are, count-is, count-most, filled-is, lowest-is, leaf-is, lows-is, blocks-is}
 use Rattle.block.proofs.Children.{once-is, lows-above-is, apart-is, credible-is}
 
-module _ (s : List ℕ) (blocks level : ℕ) (a : Asked) (keys64 : keyed a ≡ true) (c p i d : ℕ) where
+module _ (s : List ℕ) (blocks level : ℕ) (a : Asked) (keys64 : entryKeyed a ≡ true) (c p i d : ℕ) where
   abbrev node : Node
   node = nodeFrom version1 blocks s c p i d
 
@@ -410,7 +410,7 @@ module _ (s : List ℕ) (blocks level : ℕ) (a : Asked) (keys64 : keyed a ≡ t
       bool-ext (frontFine level (fewest a) head and bodyFine s blocks a head) (nodeOk level a node) (λ q. from-all (fst _ _ q) (snd _ _ q)) (λ q. pair (to-head q) (to-body q))
 
 -- the node of a block passes exactly if its front and its body pass
-node-is : (s : List ℕ) (blocks level : ℕ) (a : Asked) → keyed a ≡ true
+node-is : (s : List ℕ) (blocks level : ℕ) (a : Asked) → entryKeyed a ≡ true
     → (frontFine level (fewest a) (frontOf s) and bodyFine s blocks a (frontOf s)) ≡ nodeOk level a (nodeOf blocks s)
 unfolding frontOf nodeOf
 node-is s blocks level a k = same s blocks level a k (be 1 s 7) (be 1 s 4) (be 1 s 5) (be 1 s 6)
@@ -424,7 +424,7 @@ unfolding frontFine
 used-is level few h q = eqb-true _ _ (fst _ _ (fst _ _ (fst _ _ (fst _ _ (fst _ _ (fst _ _ q))))))
 
 -- a call that tests the front, and one that tests the body
-module _ (s : List ℕ) (blocks level : ℕ) (a : Asked) (keys64 : keyed a ≡ true) {f : ℕ} {h : Front} {r : Bool} (ef : f ≡ fewest a) (eh : h ≡ frontOf s)
+module _ (s : List ℕ) (blocks level : ℕ) (a : Asked) (keys64 : entryKeyed a ≡ true) {f : ℕ} {h : Front} {r : Bool} (ef : f ≡ fewest a) (eh : h ≡ frontOf s)
     (er : r ≡ frontFine level f h) where
   front-is : r ≡ frontFine level (fewest a) (frontOf s)
   front-is = cc

@@ -133,9 +133,9 @@ frontFine level few h =
     and leafFine (h .level) (h .i) (h .d)
 
 -- the entry's keys are of 64 bits
-unfoldable pub keyed : Asked → Bool
-keyed (Root b) = true
-keyed (Child e) = leb (e .top) lastKey && leb (e .bottom) lastKey
+unfoldable pub entryKeyed : Asked → Bool
+entryKeyed (Root b) = true
+entryKeyed (Child e) = leb (e .top) lastKey && leb (e .bottom) lastKey
 
 -- the entry agrees with P's size, lowest and highest
 unfoldable pub agreesFine : Asked → ℕ → ℕ → ℕ → Bool

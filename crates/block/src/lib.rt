@@ -14,7 +14,7 @@ ghost use Rattle.block.specs.HeaderRules.{headerOk};
 ghost use Rattle.block.specs.Fresh.{formatted};
 ghost use Rattle.block.specs.Answers.{answer};
 ghost use Rattle.block.specs.Access.{frontOf, Small, usedOf, EntryIs};
-ghost use Rattle.block.specs.Checks.{isZero, risesUnder, PointsAre, Past, apart, inFine, credibleFine, entryFine, entriesFine, freshFine, blocksFine, aboveTops, countFine, sizesFine, leafFine, frontFine, keyed, agreesFine, bodyFine, mapFine, numbersFine, freshMarks};
+ghost use Rattle.block.specs.Checks.{isZero, risesUnder, PointsAre, Past, apart, inFine, credibleFine, entryFine, entriesFine, freshFine, blocksFine, aboveTops, countFine, sizesFine, leafFine, frontFine, entryKeyed, agreesFine, bodyFine, mapFine, numbersFine, freshMarks};
 
 // A table: its blocks, and the spots that it has room for in each block after the first.
 pub const BLOCK_BYTES: usize = 2048;
@@ -523,7 +523,7 @@ fn above_tops(p: usize, low: u64) -> u64
 
 // The fewest children of an inner node. The keys of what leads there are of 64 bits by their type, which the entry as a record does not say.
 fn fewest_of(a: Asked) -> usize
-    ensures { λ r. ⌜ (r ≡ fewest a) × (keyed a ≡ true) ⌝ }
+    ensures { λ r. ⌜ (r ≡ fewest a) × (entryKeyed a ≡ true) ⌝ }
 {
     match a {
         Asked::Root(_) => 2,

@@ -73,7 +73,6 @@ pub record Keyed (A : Type 0) : Type 0 where
   pub key : A → ℕ
   pub named : List A → List ℕ
   pub insert : A → List A → List A
-  pub named-nil : named [] ≡ []
   pub named-cons : (x : A) (l : List A) → named (x ∷ l) ≡ key x ∷ named l
   pub named-length : (l : List A) → length (named l) ≡ length l
   pub named-append : (l m : List A) → named (l ++ m) ≡ named l ++ named m
@@ -87,7 +86,6 @@ spots = record {
   key = λ s. s .key;
   named = keys;
   insert = put;
-  named-nil = refl;
   named-cons = λ x l. refl;
   named-length = keys-length;
   named-append = keys-append;
@@ -102,7 +100,6 @@ plain = record {
   key = λ k. k;
   named = λ l. l;
   insert = insertKey;
-  named-nil = refl;
   named-cons = λ x l. refl;
   named-length = λ l. refl;
   named-append = λ l m. refl;

@@ -31,6 +31,3 @@ module _ (b : SpotBuffer) (long : length (b .spots) ≡ 80) (fits : b .n ≤ 80)
 module _ (b : KeyBuffer) (long : length (b .keys) ≡ 32) (fits : b .n ≤ 32) where
   pub named-length : length (named b) ≡ b .n
   named-length = length-take-le (b .n) (b .keys) (omega arith)
-
-  pub name-in : (i : ℕ) → i < b .n → List·Memᴰ (getD (named b) i 0) (named b)
-  name-in i h = at-mem (named b) i 0 (omega (arith, named-length))

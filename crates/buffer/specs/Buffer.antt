@@ -38,7 +38,7 @@ abbrev pub below : ℕ → List ℕ → ℕ
 below k ks = length (keep (λ j. ltb j k) ks)
 
 -- s is in the list, and no key there is lower, or higher, in rank order
-pub record Lowest (ss : List Spot) (s : Spot) : Type 0 where
+pub record LowestIn (ss : List Spot) (s : Spot) : Type 0 where
   pub there : find (s .key) ss ≡ some (s .track)
   pub least : (k : ℕ) → List·Memᴰ k (keys ss) → rankKey (s .key) ≤ rankKey k
 

@@ -16,9 +16,9 @@ use Rattle.spot.specs.declared.Spot.{Spot}
 use Rattle.spot.specs.Keys.{rankKey, within, allKeys}
 use Rattle.spot.specs.Spots.{keys, keyAt, spotAt, spotsFrom}
 use Rattle.spot.proofs.Buffers.{spots-within}
-use Rattle.rebuild.specs.Build.{band}
-use Rattle.rebuild.proofs.Bands.{band-rises}
-use Rattle.rebuild.proofs.Choose.{band-none, band-step, ends-apart}
+use Rattle.rebuild_theory.specs.Build.{band}
+use Rattle.rebuild_theory.proofs.Bands.{band-rises}
+use Rattle.rebuild_theory.proofs.Choose.{band-none, band-step, ends-apart}
 use Rattle.buffer.specs.declared.SpotBuffer.{SpotBuffer}
 use Rattle.buffer.specs.Buffer.{held, Ordered}
 use Rattle.octets.proofs.Lists.{take-push}

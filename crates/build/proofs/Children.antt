@@ -17,9 +17,9 @@ use Rattle.block.specs.Node.{storeOf}
 use Rattle.block.specs.Table.{block, blocksOf}
 use Rattle.node.specs.declared.Entries.{Entries}
 use Rattle.node.specs.Memory.{entriesOf, EntryFits}
-use Rattle.rebuild.specs.Build.{leaves, nodes, fansOk, shapeOf, Shares, Built, BuildPost}
-use Rattle.rebuild.proofs.Choose.{Division, divide}
-use Rattle.rebuild.proofs.Steps.{child-built}
+use Rattle.rebuild_theory.specs.Build.{leaves, nodes, fansOk, shapeOf, Shares, Built, BuildPost}
+use Rattle.rebuild_theory.proofs.Choose.{Division, divide}
+use Rattle.rebuild_theory.proofs.Steps.{child-built}
 use Rattle.build.specs.Building.{Segment, Buildable}
 use Rattle.build.proofs.Segments.{segment-part, fans-root, Under}
 

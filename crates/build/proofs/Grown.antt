@@ -17,9 +17,9 @@ use Rattle.block.specs.NodeRules.{agrees}
 use Rattle.block.specs.Table.{block, blocksOf}
 use Rattle.node.specs.declared.Entries.{Entries}
 use Rattle.node.specs.Memory.{entriesOf, EntryFits, EntriesFit}
-use Rattle.rebuild.specs.Build.{leaves, nodes, fansOk, shapeOf, band, builtNode, firstKey, Built, BuildPost}
-use Rattle.rebuild.proofs.Built.{nodes-some}
-use Rattle.rebuild.proofs.Steps.{band-length, leaf-built, node-built}
+use Rattle.rebuild_theory.specs.Build.{leaves, nodes, fansOk, shapeOf, band, builtNode, firstSpotKey, Built, BuildPost}
+use Rattle.rebuild_theory.proofs.Built.{nodes-some}
+use Rattle.rebuild_theory.proofs.Steps.{band-length, leaf-built, node-built}
 use Rattle.build.specs.declared.Limit.{Limit}
 use Rattle.build.specs.Building.{limitOf, Cut, Buildable, Own, OwnPut}
 use Rattle.build.proofs.Segments.{shape-step, shape-leaf, shape-length, Under, under}
@@ -39,7 +39,7 @@ built-points room level b u es ps e = ap (λ (m : Node). m .points) e
 
 -- a tree whose node is stored last
 own-post : (fs : List ℕ) (b x : ℕ) (ys : List Spot) (t₀ t : List ℕ) → length t ≡ length t₀ → ((i : ℕ) → (i < b) ⊎ (b + nodes fs ≤ i) → block t i ≡ block t₀ i)
-    → {u : List ℕ} {level : ℕ} {es : List Entry} {ps : List Spot} {e : Entry} → OwnPut t u b level es ps (firstKey ys) e
+    → {u : List ℕ} {level : ℕ} {es : List Entry} {ps : List Spot} {e : Entry} → OwnPut t u b level es ps (firstSpotKey ys) e
     → Built fs (blocksOf (length t₀)) (storeOf u) b ys x
     → BuildPost (blocksOf (length t₀)) fs b ys x t₀ u e
 own-post fs b x ys t₀ t same old {u} {level} {es} {ps} {e} p built =
@@ -56,7 +56,7 @@ own-post fs b x ys t₀ t same old {u} {level} {es} {ps} {e} p built =
       sized = p .sized ∙ same;
     }
 
-module _ (t list : List ℕ) (from n f g h b : ℕ) (r : Buildable t list from n f g h b) (x : ℕ) where
+module _ {t list : List ℕ} {from n f g h b : ℕ} (r : Buildable t list from n f g h b) (x : ℕ) where
   abbrev ys : List Spot
   ys = spotsFrom list from n
 
@@ -84,7 +84,7 @@ module _ (t list : List ℕ) (from n f g h b : ℕ) (r : Buildable t list from n
           near = own-room .1;
         }
 
-    pub leaf-post : (es : Entries) {u : List ℕ} {e : Entry} → entriesOf es ≡ [] → OwnPut t u b 0 (entriesOf es) (band 0 x ys) (firstKey ys) e
+    pub leaf-post : (es : Entries) {u : List ℕ} {e : Entry} → entriesOf es ≡ [] → OwnPut t u b 0 (entriesOf es) (band 0 x ys) (firstSpotKey ys) e
         → BuildPost (blocksOf (length t)) (shapeOf f g h) b ys x t u e × EntryFits e
     leaf-post es {u} {e} q p =
         let n′ = length-records (spotAt list) 12 n (12 * from) in
@@ -131,7 +131,7 @@ module _ (t list : List ℕ) (from n f g h b : ℕ) (r : Buildable t list from n
         }
 
     pub inner-post : (l : Limit) (c : ℕ) → x ≡ limitOf l → Cut list from n l c → {t₁ : List ℕ} {es : Entries} {left j : ℕ} → Children list from n f b c fs t t₁ es left j → f ≤ j
-        → {u : List ℕ} {e : Entry} → OwnPut t₁ u b h (entriesOf es) (band c x ys) (firstKey ys) e
+        → {u : List ℕ} {e : Entry} → OwnPut t₁ u b h (entriesOf es) (band c x ys) (firstSpotKey ys) e
         → BuildPost (blocksOf (length t)) (shapeOf f g h) b ys x t u e × EntryFits e
     inner-post l c q cut {t₁} {es} {left} {j} k done {u} {e} p =
         let i = k .inside in

@@ -90,9 +90,6 @@ module _ (a h n : ℕ) (la : a < 4294967296) (lh : h < 256) (ln : n < 4294967296
   len₃ : length s₃ ≡ 2048
   len₃ = ap length e₃ ∙ put-length 1 s₂ 5 h ∙ len₂
 
-  len₄ : length s₄ ≡ 2048
-  len₄ = ap length e₄ ∙ put-length 2 s₃ 6 1 ∙ len₃
-
   -- what is written before stays
   past₂ : (m j : ℕ) → j + m ≤ 4 → be m s₂ j ≡ be m s₁ j
   past₂ = be-before 1 s₁ s₂ 4 1 e₂
@@ -117,7 +114,7 @@ module _ (a h n : ℕ) (la : a < 4294967296) (lh : h < 256) (ln : n < 4294967296
             ∙ be-put-same 1 s₁ 4 1 (omega (arith, len₁)) (omega arith);
         levels = past₅ 1 5 (omega arith) ∙ past₄ 1 5 (omega arith) ∙ ap (λ (x : List ℕ). be 1 x 5) e₃ ∙ be-put-same 1 s₂ 5 h (omega (arith, len₂)) lh;
         root = past₅ 2 6 (omega arith) ∙ ap (λ (x : List ℕ). be 2 x 6) e₄ ∙ be-put-same 2 s₃ 6 1 (omega (arith, len₃)) (omega arith);
-        bound = ap (λ (x : List ℕ). be 4 x 8) e₅ ∙ be-put-same 4 s₄ 8 n (omega (arith, len₄)) ln;
+        bound = ap (λ (x : List ℕ). be 4 x 8) e₅ ∙ be-put-same 4 s₄ 8 n (omega (arith, ap length e₄ ∙ put-length 2 s₃ 6 1 ∙ len₃)) ln;
         blank =
             ap (drop 12) e₅ ∙ drop-put-be 4 s₄ 8 n 12 (omega arith) ∙ ap (drop 12) e₄ ∙ drop-put-be 2 s₃ 6 1 12 (omega arith) ∙ ap (drop 12) e₃
             ∙ drop-put-be 1 s₂ 5 h 12 (omega arith)

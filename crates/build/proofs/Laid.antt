@@ -19,10 +19,10 @@ use Rattle.block.specs.Node.{storeOf}
 use Rattle.block.specs.Table.{blocksOf, capacity, tableSized}
 use Rattle.block.proofs.Frames.{store-same}
 use Rattle.block.proofs.Making.{blocks-least, blocks-most as most-blocks}
-use Rattle.rebuild.specs.Build.{nodes, shapeOf, shape, Built, BuildPost, Rebuilt}
-use Rattle.rebuild.proofs.Built.{nodes-some}
-use Rattle.rebuild.proofs.Kept.{built-kept}
-use Rattle.rebuild.proofs.Shape.{Fits, shape-fits}
+use Rattle.rebuild_theory.specs.Build.{nodes, shapeOf, shape, Built, BuildPost, Rebuilt}
+use Rattle.rebuild_theory.proofs.Built.{nodes-some}
+use Rattle.rebuild_theory.proofs.Kept.{built-kept}
+use Rattle.rebuild_theory.proofs.Shape.{Fits, shape-fits}
 use Rattle.build.specs.declared.Fans.{Fans}
 use Rattle.build.specs.Building.{Segment, Buildable, HeaderFits, HeaderWritten, ShapeIs}
 use Rattle.build.proofs.Segments.{shape-length}

@@ -12,7 +12,7 @@ use Rattle.spot.specs.Spots.{keys, keyAt, spotAt, spotsFrom}
 use Rattle.spot.proofs.Buffers.{find-mem}
 use Rattle.buffer.specs.declared.SpotBuffer.{SpotBuffer}
 use Rattle.buffer.specs.declared.KeyBuffer.{KeyBuffer}
-use Rattle.buffer.specs.Buffer.{held, named, Highest, Lowest}
+use Rattle.buffer.specs.Buffer.{held, named, Highest, LowestIn}
 use Rattle.block.specs.declared.Entry.{Entry}
 use Rattle.block.specs.Node.{openBelow, firstOpen}
 use Rattle.block.specs.NodeRules.{zeroFirst, lows}
@@ -23,8 +23,8 @@ use Rattle.node.specs.declared.NodeValue.{NodeValue}
 use Rattle.node.specs.Memory.{entriesOf, EntriesFit, Storable, Stored}
 use Rattle.node.proofs.Fits.{open-fits}
 use Rattle.tree.proofs.Entries.{agree-make, agree-empty}
-use Rattle.rebuild.specs.Build.{firstKey, builtNode}
-use Rattle.build.specs.Building.{EntryFor, OwnPut}
+use Rattle.rebuild_theory.specs.Build.{firstSpotKey, builtNode}
+use Rattle.build.specs.Building.{EntryOfPoints, OwnPut}
 
 abbrev pub noEntry : Entry
 noEntry = record { block = 0; size = 0; low = 0; top = 0; bottom = 0 }
@@ -37,16 +37,16 @@ opened (e ∷ l) (suc n) h = refl
 
 -- ---- the entry of a node
 
-pub first-none : (list : List ℕ) (from n : ℕ) → n ≡ 0 → 0 ≡ firstKey (spotsFrom list from n)
+pub first-none : (list : List ℕ) (from n : ℕ) → n ≡ 0 → 0 ≡ firstSpotKey (spotsFrom list from n)
 first-none list from zero e = refl
 first-none list from (suc n) e = let z : ⊥ = omega arith in absurd z
 
-pub first-some : (list : List ℕ) (from n : ℕ) → (n ≡ 0 → ⊥) → keyAt list (12 * from) ≡ firstKey (spotsFrom list from n)
+pub first-some : (list : List ℕ) (from n : ℕ) → (n ≡ 0 → ⊥) → keyAt list (12 * from) ≡ firstSpotKey (spotsFrom list from n)
 unfolding spotAt
 first-some list from zero d = absurd (d refl)
 first-some list from (suc n) d = refl
 
-pub entry-none : (b k : ℕ) (ps : List Spot) → b < 65536 → ps ≡ [] → EntryFor b k ps (record { block = b; size = 0; low = k; top = 0; bottom = 0 })
+pub entry-none : (b k : ℕ) (ps : List Spot) → b < 65536 → ps ≡ [] → EntryOfPoints b k ps (record { block = b; size = 0; low = k; top = 0; bottom = 0 })
 entry-none b k ps h e =
     record {
       at = refl;
@@ -55,8 +55,8 @@ entry-none b k ps h e =
       fits = record { block = h; size = omega arith; top = λ z. refl; bottom = λ z. refl };
     }
 
-pub entry-some : (b k : ℕ) (ps : List Spot) (size : ℕ) (hi lo : Spot) → b < 65536 → size ≡ length ps → (size ≡ 0 → ⊥) → size ≤ 64 → Highest ps hi → Lowest ps lo
-    → EntryFor b k ps (record { block = b; size = size; low = k; top = hi .key; bottom = lo .key })
+pub entry-some : (b k : ℕ) (ps : List Spot) (size : ℕ) (hi lo : Spot) → b < 65536 → size ≡ length ps → (size ≡ 0 → ⊥) → size ≤ 64 → Highest ps hi → LowestIn ps lo
+    → EntryOfPoints b k ps (record { block = b; size = size; low = k; top = hi .key; bottom = lo .key })
 entry-some b k ps size hi lo h e d few high low =
     record {
       at = refl;
@@ -91,14 +91,14 @@ module _ (level : ℕ) (es opened-es : Entries) (points inserts : SpotBuffer) (d
         deletes = omega arith;
       }
 
-  pub own-put : {t u : List ℕ} {b k low : ℕ} {ps : List Spot} {e : Entry} → Stored t u b own → held points ≡ ps → low ≡ k → EntryFor b low (held points) e → OwnPut t u b level (entriesOf es) ps k e
+  pub own-put : {t u : List ℕ} {b k low : ℕ} {ps : List Spot} {e : Entry} → Stored t u b own → held points ≡ ps → low ≡ k → EntryOfPoints b low (held points) e → OwnPut t u b level (entriesOf es) ps k e
   unfolding builtNode
   own-put {t} {u} {b} {k} {low} {ps} {e} s q l w =
       record {
         is = s .here ∙ (λ i. record { level = level; entries = open-is i; points = q i; inserts = none-held i; deletes = none-named i; laid = true; room = blocksOf (length t) });
         else = s .else;
         sized = s .sized;
-        entry = subst (λ (j : ℕ). EntryFor b j ps e) l (subst (λ (x : List Spot). EntryFor b low x e) q w);
+        entry = subst (λ (j : ℕ). EntryOfPoints b j ps e) l (subst (λ (x : List Spot). EntryOfPoints b low x e) q w);
       }
     where
       none-held : held inserts ≡ []

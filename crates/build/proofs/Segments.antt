@@ -14,8 +14,8 @@ use Rattle.octets.proofs.Rising.{rising-left, rising-right}
 use Rattle.octets.proofs.Tests.{and-left, and-right, and-both}
 use Rattle.spot.specs.Spots.{keys, spotsFrom}
 use Rattle.spot.proofs.Buffers.{keys-append, spots-join}
-use Rattle.rebuild.specs.Build.{leaves, nodes, fansOk, shapeOf}
-use Rattle.rebuild.proofs.Shape.{leaves-some}
+use Rattle.rebuild_theory.specs.Build.{leaves, nodes, fansOk, shapeOf}
+use Rattle.rebuild_theory.proofs.Shape.{leaves-some}
 use Rattle.build.specs.Building.{Segment}
 
 -- ---- a part of a segment

@@ -14,7 +14,7 @@ use Rattle.octets.specs.Lists.{all, every}
 use Rattle.octets.proofs.Tests.{every-at, all-at}
 use Rattle.octets.proofs.Order.{same-or-not}
 use Rattle.octets.proofs.Lists.{drop-next}
-use Rattle.rebuild.specs.Build.{leaves, nodes, shapeOf, shapes, firstFor, shape}
+use Rattle.rebuild_theory.specs.Build.{leaves, nodes, shapeOf, shapes, firstFor, shape}
 use Rattle.build.specs.Building.{ShapeIs}
 
 pub nodes-none : (f g h : ℕ) → h ≡ 0 → 1 ≡ nodes (shapeOf f g h)

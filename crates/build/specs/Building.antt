@@ -21,7 +21,7 @@ use Rattle.block.specs.declared.Entry.{Entry}
 use Rattle.block.specs.declared.Asked.the-variants.{Child}
 use Rattle.node.specs.declared.Entries.{Entries}
 use Rattle.node.specs.Memory.{EntryFits, EntriesFit}
-use Rattle.rebuild.specs.Build.{leaves, nodes, fansOk, shapeOf, shape, band, builtNode}
+use Rattle.rebuild_theory.specs.Build.{leaves, nodes, fansOk, shapeOf, shape, band, builtNode}
 use Rattle.build.specs.declared.Limit.{Limit}
 use Rattle.build.specs.declared.Fans.{Fans}
 
@@ -104,7 +104,7 @@ pub record ShapeIs (n : ℕ) (r : Fans) : Type 0 where
   pub high : r .height ≤ 5
 
 -- the entry of a node in block b whose range begins at k, and whose points are ps
-pub record EntryFor (b k : ℕ) (ps : List Spot) (e : Entry) : Type 0 where
+pub record EntryOfPoints (b k : ℕ) (ps : List Spot) (e : Entry) : Type 0 where
   pub at : e .block ≡ b
   pub low : e .low ≡ k
   pub agree : (m : Node) → m .points ≡ ps → agrees (Child e) m ≡ true
@@ -124,4 +124,4 @@ pub record OwnPut (t t′ : List ℕ) (b level : ℕ) (es : List Entry) (ps : Li
   pub is : storeOf t′ b ≡ builtNode (blocksOf (length t)) level (firstOpen es) ps
   pub else : (z : ℕ) → (z ≡ b → ⊥) → block t′ z ≡ block t z
   pub sized : length t′ ≡ length t
-  pub entry : EntryFor b k ps e
+  pub entry : EntryOfPoints b k ps e

@@ -11,8 +11,8 @@ ghost use Rattle.block.specs.Header.{headerOf};
 ghost use Rattle.block.specs.Node.{firstOpen};
 ghost use Rattle.buffer.specs.Buffer.{held, Ordered};
 ghost use Rattle.node.specs.Memory.{entriesOf, EntryFits};
-ghost use Rattle.rebuild.specs.Build.{nodes, shapeOf, band, firstKey, BuildPost, Rebuilt};
-ghost use Rattle.build.specs.Building.{limitOf, Segment, Cut, Buildable, HeaderFits, HeaderWritten, ShapeIs, NumbersAre, HeadSays, FirstMarked, EntryFor, Own, OwnPut};
+ghost use Rattle.rebuild_theory.specs.Build.{nodes, shapeOf, band, firstSpotKey, BuildPost, Rebuilt};
+ghost use Rattle.build.specs.Building.{limitOf, Segment, Cut, Buildable, HeaderFits, HeaderWritten, ShapeIs, NumbersAre, HeadSays, FirstMarked, EntryOfPoints, Own, OwnPut};
 
 // A limit of rank keys: all up to `last`, or none.
 pub struct Limit {
@@ -330,7 +330,7 @@ fn open_first(es: node::Entries) -> node::Entries
 // The lowest key of a segment, 0 where it is empty.
 fn first_key(list: &[u8], from: usize, n: usize) -> u64
     requires { ⌜ Segment (now list) from n ⌝ }
-    ensures { λ r. ⌜ r ≡ firstKey (spotsFrom (now (list .entry)) from n) ⌝ }
+    ensures { λ r. ⌜ r ≡ firstSpotKey (spotsFrom (now (list .entry)) from n) ⌝ }
 {
     if n == 0 {
         return 0;
@@ -341,7 +341,7 @@ fn first_key(list: &[u8], from: usize, n: usize) -> u64
 // The entry of a node in block b with these points: the highest and the lowest in rank order, 0 where there are none.
 fn entry_for(b: usize, low: u64, points: buffer::SpotBuffer) -> block::Entry
     requires { ⌜ Ordered points × (points .n ≤ 64) × (b < 65536) ⌝ }
-    ensures { λ r. ⌜ EntryFor b low (held points) r ⌝ }
+    ensures { λ r. ⌜ EntryOfPoints b low (held points) r ⌝ }
 {
     let size = points.n;
     if size == 0 {
@@ -377,7 +377,7 @@ fn put_own(
     b: usize,
 ) -> block::Entry
     requires { ⌜ Own (now t) (now list) from n cut (limitOf limit) level es b ⌝ }
-    ensures { λ r. ⌜ OwnPut (now (t .entry)) (now (t .exit)) b level (entriesOf es) (band cut (limitOf limit) (spotsFrom (now (list .entry)) from n)) (firstKey (spotsFrom (now (list .entry)) from n)) r ⌝ }
+    ensures { λ r. ⌜ OwnPut (now (t .entry)) (now (t .exit)) b level (entriesOf es) (band cut (limitOf limit) (spotsFrom (now (list .entry)) from n)) (firstSpotKey (spotsFrom (now (list .entry)) from n)) r ⌝ }
 {
     let points = take_band(list, from, n, cut, limit);
     let entries = open_first(es);

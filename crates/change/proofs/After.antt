@@ -30,9 +30,9 @@ use Rattle.tree.specs.Sound.{soundAt, mapExact, Shaped}
 use Rattle.tree.proofs.Tables.{live-none}
 use Rattle.tree.proofs.Marks.{exact-once, exact-bit, read-mem}
 use Rattle.tree.proofs.Sources.{table-reach, header-few}
-use Rattle.update.specs.Change.{part, reaches, Sound}
-use Rattle.update.specs.Spare.{Taken}
-use Rattle.update.proofs.Count.{map-after}
+use Rattle.update_theory.specs.Change.{part, reaches, Sound}
+use Rattle.update_theory.specs.Spare.{Taken}
+use Rattle.update_theory.proofs.Count.{map-after}
 use Rattle.spare.specs.declared.Spare.{Spare}
 use Rattle.spare.specs.Spares.{spareOf, takenOf, SpareIn, Reheaded}
 use Rattle.spare.proofs.Taking.{taken-is, taken-not}
@@ -91,9 +91,6 @@ module _ (t v u : List ℕ) (spare : Spare) (left h root bound : ℕ) (f : ℕ �
   is-whole : whole (headOf u) ≡ part root (Root root) 0 allKeys
   is-whole = ap (λ (b : ℕ). part b (Root b) 0 allKeys) (r .rootIs)
 
-  is-reach : reach (headOf u .levels) (storeOf u) (whole (headOf u)) ≡ reach h (storeOf u) (part root (Root root) 0 allKeys)
-  is-reach = ap₂ (λ (n : ℕ) (p : Part). reach n (storeOf u) p) (r .levels) is-whole
-
   map-is : mapExact (headOf u .inUse) (reach h (storeOf u) (part root (Root root) 0 allKeys)) ≡ true
   map-is =
       map-after (headOf t .inUse) (headOf u .inUse) (reach (headOf t .levels) (storeOf t) (whole (headOf t))) (reach h (storeOf u) (part root (Root root) 0 allKeys))
@@ -109,7 +106,7 @@ module _ (t v u : List ℕ) (spare : Spare) (left h root bound : ℕ) (f : ℕ �
       record {
         header = subst⁻¹ (λ (n : ℕ). headerOk n (headOf u) ≡ true) (r .sized) (r .ok);
         tree = ap₂ (λ (n : ℕ) (p : Part). soundAt n (storeOf u) p) (r .levels) is-whole ∙ of-sound h (storeOf u) (part root (Root root) 0 allKeys) (tree .sound) .0;
-        map = ap (mapExact (headOf u .inUse)) is-reach ∙ map-is;
+        map = ap₂ (λ (n : ℕ) (p : Part). mapExact (headOf u .inUse) (reach n (storeOf u) p)) (r .levels) is-whole ∙ map-is;
       }
 
   -- and its live spots are those

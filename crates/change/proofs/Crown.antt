@@ -21,20 +21,19 @@ use Rattle.block.specs.Node.{Node, storeOf}
 use Rattle.block.specs.NodeRules.{lows, zeroFirst, lowsRise, childCountOk, fewest, childBlocksOk, leafBuffersEmpty, agrees, filled, lowest, standsIn}
 use Rattle.block.proofs.Views.{length-lows}
 use Rattle.tree.specs.Part.{parts}
-use Rattle.tree.specs.Lookup.{lookup}
-use Rattle.tree.specs.Reach.{reach}
 use Rattle.tree.proofs.Below.{sizes-filled, sizes-lowest}
-use Rattle.update.specs.Held.{Held}
-use Rattle.update.specs.Change.{part, reaches, Sound}
-use Rattle.update.specs.Spare.{Taken}
-use Rattle.update.specs.Open.{under, Open}
-use Rattle.update.specs.Rounds.{Full}
-use Rattle.update.proofs.Close.{Shape, raise, raised}
+use Rattle.update_theory.specs.Held.{Held}
+use Rattle.update_theory.specs.Change.{part, reaches, Sound}
+use Rattle.update_theory.specs.Spare.{Taken}
+use Rattle.update_theory.specs.Open.{under, Open}
+use Rattle.update_theory.specs.Rounds.{FilledUp}
+use Rattle.update_theory.proofs.Close.{Shape, raise, Raised, raised}
 use Rattle.node.specs.Memory.{entriesOf, nodeIn, EntryFits, Storable, Stored}
 use Rattle.node.specs.declared.NodeValue.{NodeValue}
 use Rattle.node.proofs.Laws.{stored-else}
 use Rattle.edit.specs.Edits.{heldIn}
 use Rattle.journal.specs.Journal.{Undoable}
+use Rattle.fill.proofs.Works.{work-stores}
 use Rattle.fill.specs.Filling.{Workable, FillPost, FilledBy}
 use Rattle.fill.specs.declared.Filled.{Filled}
 use Rattle.change.specs.Growing.{Rooted, Over, OverSound}
@@ -76,15 +75,7 @@ module _ {level : ℕ} {first second : Entry} {n : NodeValue} (o : Over level fi
 
     -- and then stored
     pub crown-stores : Storable (r .node)
-    crown-stores =
-        record {
-          level = let z = p .works .level in let w = p .works .deep in omega arith;
-          entries = p .works .entries;
-          first = ap zeroFirst (p .sameLows) ∙ first-zero;
-          points = p .works .points;
-          inserts = omega (arith, p .inserts, o .inserts);
-          deletes = omega (arith, p .deletes, o .deletes);
-        }
+    crown-stores = work-stores (p .works) (ap zeroFirst (p .sameLows) ∙ first-zero) (omega (arith, p .inserts, o .inserts)) (omega (arith, p .deletes, o .deletes))
 
     abbrev above : ℕ
     above = suc (rankKey (first .top) + rankKey (second .top))
@@ -125,7 +116,7 @@ module _ {level : ℕ} {first second : Entry} {n : NodeValue} (o : Over level fi
       deep : eqb (r .node .level) 0 ≡ false
       deep = ne-eqb (r .node .level) 0 (λ e. let z = p .works .level in omega arith)
 
-      sizes : Full es (heldIn (r .node)) → (filled m || lowest m) ≡ true
+      sizes : FilledUp es (heldIn (r .node)) → (filled m || lowest m) ≡ true
       sizes (inl h) =
           let np = length-take (r .node .points .n) (r .node .points .spots) in
           let ni = length-take (r .node .inserts .n) (r .node .inserts .spots) in
@@ -155,15 +146,12 @@ module _ {level : ℕ} {first second : Entry} {n : NodeValue} (o : Over level fi
       pub crowned : Rooted level (storeOf t) (parts 0 allKeys (first ∷ second ∷ [])) (λ z. z ≡ b) (suc level) (storeOf t₂) b f
       crowned =
           subst (λ (ds : List Entry). Rooted level (storeOf t) (parts 0 allKeys ds) (λ z. z ≡ b) (suc level) (storeOf t₂) b f) (o .entries)
-          (record { sound = u .0; found = u .1; reached = u .2; still = u .3 })
+          (record { sound = u .sound; found = u .found; reached = u .reached; still = u .still })
         where
           off-n : List·Memᴰ b (reaches level (storeOf t) (parts 0 allKeys (entriesOf (n .entries)))) → ⊥
           off-n = subst⁻¹ (λ (ds : List Entry). List·Memᴰ b (reaches level (storeOf t) (parts 0 allKeys ds)) → ⊥) (o .entries) off
 
-          u : Sound (suc level) (storeOf t₂) (part b (Root b) 0 allKeys ∷ []) × ((k : ℕ) → within 0 allKeys k ≡ true → lookup (suc level) (storeOf t₂) k (part b (Root b) 0 allKeys) ≡ f k)
-              × ((z : ℕ) → List·Memᴰ z (reach (suc level) (storeOf t₂) (part b (Root b) 0 allKeys)) → List·Memᴰ z (reaches level (storeOf t) (parts 0 allKeys (entriesOf (n .entries)))) ⊎ (z ≡ b))
-              × ((z : ℕ) → List·Memᴰ z (reaches level (storeOf t) (parts 0 allKeys (entriesOf (n .entries)))) ⊎ (z ≡ b) → List·Memᴰ z (reach (suc level) (storeOf t₂) (part b (Root b) 0 allKeys)))
-              × ((z : ℕ) → (List·Memᴰ z (reaches level (storeOf t) (parts 0 allKeys (entriesOf (n .entries)))) → ⊥) → (z ≡ b → ⊥) → storeOf t₂ z ≡ storeOf t z)
+          u : Raised level (λ z. z ≡ b) (storeOf t) (parts 0 allKeys (entriesOf (n .entries))) (storeOf t₂) (part b (Root b) 0 allKeys) f
           u =
               raised level (λ z. z ≡ b) (storeOf t) (parts 0 allKeys (entriesOf (n .entries))) (storeOf t₁) (storeOf t₂) b (Root b) 0 allKeys (filled-is .rank) m f
               (under level (storeOf t₁) 0 allKeys es) (Taken [] [])

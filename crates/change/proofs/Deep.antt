@@ -32,7 +32,7 @@ use Rattle.change.specs.declared.Outcome.the-variants.{Done, Broken}
 use Rattle.change.specs.Changing.{refusal, ChangedBy}
 use Rattle.change.specs.Growing.{GrowPost, Finishable, HeavyAt}
 use Rattle.change.proofs.After.{root-sound, root-apart, change-shaped, change-live}
-use Rattle.change.proofs.Settles.{spares-kept}
+use Rattle.settle.proofs.Ways.{spares-kept}
 
 -- a table that block 0 is right of is whole blocks, nine or more
 module _ (t : List ℕ) (h : headerOk (length t) (headOf t) ≡ true) where

@@ -3,16 +3,17 @@
 use mathlib.Core.Path.{_≡_, refl, ap, sym, _∙_, subst, subst⁻¹}
 use mathlib.Core.Logic.{_⊎_, inl, inr, ⊎-elim}
 use mathlib.Core.Bool.{Bool, true, false, cond, _||_, false≢true, true≢false}
-use mathlib.Core.List.{List, [], _∷_, _++_, List·Memᴰ, List·Memᴰ·head, Memᴰ·append-right}
+use mathlib.Core.List.{List, [], _∷_, _++_, List·Memᴰ}
 use mathlib.Core.Option.{Option}
 use Prim.Native.Nat.{ℕ, suc, _+_, _-_, _≤_, _<_}
 use native.Mathlib.Numerals.{add-one}
 use native.Mathlib.Omega.{arith}
 use lib.ListN.{length}
 use lib.Dec.{eqb, ltb}
-use borrow.Author.Tests.{eqb-false, ltb-false}
+use borrow.Author.Tests.{eq-eqb, ltb-false}
 use Rattle.octets.specs.Lists.{distinct}
 use Rattle.octets.specs.Sets.{Apart}
+use Rattle.octets.proofs.Tests.{neither}
 use Rattle.octets.proofs.Sets.{in-or-not}
 use Rattle.spot.specs.Keys.{allKeys, within}
 use Rattle.spot.specs.declared.Spot.{Spot}
@@ -21,9 +22,9 @@ use Rattle.block.specs.Table.{blocksOf}
 use Rattle.block.specs.Node.{Store, storeOf}
 use Rattle.tree.specs.Part.{Part, parts}
 use Rattle.tree.specs.Lookup.{lookup}
-use Rattle.update.specs.Change.{part, reaches, Sound, Changed}
-use Rattle.update.specs.Spare.{Taken}
-use Rattle.update.specs.Open.{under}
+use Rattle.update_theory.specs.Change.{part, reaches, Sound, Changed}
+use Rattle.update_theory.specs.Spare.{Taken}
+use Rattle.update_theory.specs.Open.{under}
 use Rattle.node.specs.Memory.{Stored}
 use Rattle.node.specs.declared.NodeValue.{NodeValue}
 use Rattle.journal.specs.Journal.{Kept}
@@ -32,34 +33,23 @@ use Rattle.fill.specs.Filling.{FillPost}
 use Rattle.fill.specs.declared.Filled.{Filled}
 use Rattle.block.specs.declared.Entry.{Entry}
 use Rattle.spare.specs.declared.Spare.{Spare}
-use Rattle.spare.specs.Spares.{spareOf, takenOf, SpareFits}
+use Rattle.spare.specs.Spares.{spareOf, takenOf}
 use Rattle.spare.proofs.Taking.{spare-less, taken-is, last-new, spare-step}
 use Rattle.batch.specs.Batches.{batchSays}
-use Rattle.settle.specs.Settling.{Settleable, OnSound, SettlePost, SettledTo}
+use Rattle.settle.specs.Settling.{Settleable, WhereSound, SettlePost, SettledTo}
 use Rattle.settle.specs.declared.Settled.{Settled}
+use Rattle.settle.proofs.Ways.{spares-kept}
 use Rattle.change.specs.declared.Grown.{Grown}
 use Rattle.change.specs.Growing.{Rooted, Over, Crownable, OverSound, CrownPost, OnTree, GrowPost}
 use Rattle.change.proofs.Trees.{rooted-one, rooted-after}
 use Rattle.change.proofs.Crown.{crowned}
 
--- spare blocks of a table are spare in another of its length
-pub spares-kept : (t u : List ℕ) (s : Spare) → length u ≡ length t → SpareFits t s → SpareFits u s
-spares-kept t u s e f =
-    record { few = f .few; inside = λ b i. let z = f .inside b i in (z .0, subst⁻¹ (λ (n : ℕ). b < blocksOf n) e (z .1)); once = f .once }
-
--- the last of the blocks that are left is one of the table
-pub last-inside : (t : List ℕ) (s : Spare) (left b : ℕ) → SpareFits t s → left ≤ s .n → spareOf s left ≡ spareOf s (left - 1) ++ (b ∷ []) → (1 ≤ b) × (b < blocksOf (length t))
-last-inside t s left b f h e =
-    f .inside b (spare-less s left (s .n) h b (subst⁻¹ (λ (bs : List ℕ). List·Memᴰ b bs) e (Memᴰ·append-right (spareOf s (left - 1)) (List·Memᴰ·head refl))))
-
 -- there is a spare block, and a level more is not too many
 pub room-above : (left level : ℕ) → eqb left 0 || ltb 6 level ≡ false → (0 < left) × (level ≤ 6)
-room-above left level h = go (eqb left 0) refl (ltb 6 level) refl h
-  where
-    go : (a : Bool) → eqb left 0 ≡ a → (b : Bool) → ltb 6 level ≡ b → a || b ≡ false → (0 < left) × (level ≤ 6)
-    go true x b y z = absurd (true≢false z)
-    go false x true y z = absurd (true≢false z)
-    go false x false y z = (let n = eqb-false left 0 x in omega (arith, n), ltb-false 6 level y)
+room-above left level h =
+    let a = neither (eqb left 0) (ltb 6 level) h in
+    let some : left ≡ 0 → ⊥ = λ z. true≢false (sym (eq-eqb left 0 z) ∙ a .0) in
+    (omega (arith, some), ltb-false 6 level (a .1))
 
 -- ---- a new root
 
@@ -97,7 +87,7 @@ crown-done {level = level} t₂ spare left b o p ok zero inner deep some last st
 -- ---- the tree
 
 -- what holds of a part that is sound holds of the tree
-at-root : (t : List ℕ) (root level : ℕ) (ss : List Spot) (ks : List ℕ) (spare : Spare) (Then : ℕ → ℕ → Type 0) → OnSound t level root (Root root) ss ks spare (spare .n) Then
+at-root : (t : List ℕ) (root level : ℕ) (ss : List Spot) (ks : List ℕ) (spare : Spare) (Then : ℕ → ℕ → Type 0) → WhereSound t level root (Root root) ss ks spare (spare .n) Then
     → OnTree t root level ss ks spare (Then 0 allKeys)
 at-root t root level ss ks spare Then h hi hd sound apart = h 0 allKeys (omega arith) (omega arith) (omega arith) hi hd sound apart
 

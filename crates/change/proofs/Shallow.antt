@@ -3,7 +3,7 @@
 use mathlib.Core.Path.{_≡_, refl, ap, sym, _∙_, subst, subst⁻¹}
 use mathlib.Core.Logic.{inl}
 use mathlib.Core.Bool.{true, false}
-use mathlib.Core.List.{List, [], _∷_, _++_, List·Memᴰ, List·Memᴰ·not-nil}
+use mathlib.Core.List.{List, [], _∷_, List·Memᴰ, List·Memᴰ·not-nil}
 use mathlib.Core.Option.{Option}
 use Prim.Native.Nat.{ℕ, suc, _+_, _*_, _≤_}
 use native.Mathlib.Numerals.{add-one}
@@ -11,10 +11,9 @@ use native.Mathlib.Omega.{arith}
 use lib.ListN.{length, length-take}
 use lib.Dec.{eqb}
 use borrow.Author.Tests.{eq-eqb, ne-eqb, le-leb, lt-ltb}
-use Rattle.octets.specs.Lists.{every, rest, rising, distinct}
+use Rattle.octets.specs.Lists.{every, rest, rising}
 use Rattle.octets.specs.Bitmap.{bit}
 use Rattle.octets.proofs.Tests.{all-at, all-cons, all-nil, every-make}
-use Rattle.octets.proofs.Sets.{distinct-left, distinct-split}
 use Rattle.spot.specs.Keys.{allKeys, within}
 use Rattle.spot.specs.Spots.{keys}
 use Rattle.spot.specs.declared.Spot.{Spot}
@@ -24,20 +23,20 @@ use Rattle.block.specs.Table.{block, blocksOf, blockOk, capacity}
 use Rattle.block.specs.Header.{Header, headOf}
 use Rattle.block.specs.HeaderRules.{headerOk}
 use Rattle.block.specs.Node.{Node, storeOf}
-use Rattle.block.specs.NodeRules.{names, lows, zeroFirst, lowsRise, childCountOk, fewest, childBlocksOk, leafBuffersEmpty, agrees, standsIn}
+use Rattle.block.specs.NodeRules.{lows, zeroFirst, lowsRise, childCountOk, fewest, childBlocksOk, leafBuffersEmpty, agrees, standsIn}
 use Rattle.block.proofs.Facts.{NodeFacts, node-facts, HeadFacts, head-facts}
 use Rattle.tree.specs.Part.{Part}
 use Rattle.tree.specs.Lookup.{lookup}
 use Rattle.tree.specs.Sound.{inRange}
 use Rattle.tree.proofs.Below.{sizes-filled}
 use Rattle.tree.proofs.Tables.{shaped}
-use Rattle.update.specs.Change.{part, Sound}
-use Rattle.update.specs.Spare.{Taken}
-use Rattle.update.specs.Going.{Going}
-use Rattle.update.proofs.Loose.{opened}
-use Rattle.update.proofs.Close.{Shape}
-use Rattle.update.proofs.Going.{going-start, going-done}
-use Rattle.buffer.specs.Buffer.{held, named}
+use Rattle.update_theory.specs.Change.{part, Sound}
+use Rattle.update_theory.specs.Spare.{Taken}
+use Rattle.update_theory.specs.Going.{Going}
+use Rattle.update_theory.proofs.Loose.{opened}
+use Rattle.update_theory.proofs.Close.{Shape}
+use Rattle.update_theory.proofs.Going.{going-start, going-done}
+use Rattle.buffer.specs.Buffer.{held}
 use Rattle.node.specs.Memory.{entriesOf, nodeIn, EntriesFit, Storable, Stored}
 use Rattle.node.specs.declared.Entries.{Entries}
 use Rattle.node.specs.declared.NodeValue.{NodeValue}
@@ -46,7 +45,7 @@ use Rattle.edit.specs.Edits.{heldIn}
 use Rattle.spare.specs.declared.Spare.{Spare}
 use Rattle.spare.specs.Spares.{SpareFits, SpareIn, HeadFits, Reheaded}
 use Rattle.batch.specs.Batches.{batchSays, Receives, TakenIn}
-use Rattle.batch.proofs.Opened.{taken-open}
+use Rattle.batch.proofs.Opened.{taken-open, receives}
 use Rattle.change.specs.Growing.{Rooted, LightAt, LightPost}
 use Rattle.change.proofs.Trees.{rooted-one}
 use Rattle.change.proofs.After.{root-sound, change-shaped, change-live}
@@ -78,22 +77,9 @@ module _ {t : List ℕ} {root level : ℕ} {n : NodeValue} {ni nd bound : ℕ} (
   pub light-deep : level ≤ 6
   light-deep = let z = head .levels-most in let y = a .levelIs in omega arith
 
-  named-once : distinct (names (nodeIn (blocksOf (length t)) n)) ≡ true
-  named-once = ap (λ (m : Node). distinct (names m)) (a .loaded .is) ∙ facts .once
-
   -- the root may take it in
   pub light-receives : Receives n ni nd
-  unfolding names
-  light-receives =
-      record {
-        tidy = record { points = a .loaded .points; inserts = a .loaded .inserts; deletes = a .loaded .deletes };
-        points = a .loaded .storable .points;
-        inserts = a .loaded .storable .inserts;
-        deletes = a .loaded .storable .deletes;
-        apart = distinct-split (keys (held (n .points))) (keys (held (n .inserts))) (distinct-left (keys (held (n .points)) ++ keys (held (n .inserts))) (named (n .deletes)) named-once) .off;
-        fewI = omega (arith, a .one);
-        fewD = omega (arith, a .one);
-      }
+  light-receives = receives level (Root root) t root n ni nd (a .ok) (a .loaded) (omega (arith, a .one)) (omega (arith, a .one))
 
   module _ {ss : List Spot} {ks : List ℕ} {m : NodeValue} (k : TakenIn n ss ks ni nd m) where
     -- and be stored then
@@ -142,9 +128,6 @@ module _ {t : List ℕ} {root level : ℕ} {n : NodeValue} {ni nd bound : ℕ} (
         same-entries : entriesOf (m .entries) ≡ storeOf t root .entries
         same-entries = ap entriesOf (k .entries) ∙ ap (λ (x : Node). x .entries) (a .loaded .is)
 
-        same-room : blocksOf (length t) ≡ storeOf t root .room
-        same-room = ap (λ (x : Node). x .room) (a .loaded .is)
-
         deep : eqb (m .level) 0 ≡ false
         deep = ne-eqb (m .level) 0 (λ e. a .room .inner refl (sym (k .level) ∙ e))
 
@@ -167,7 +150,7 @@ module _ {t : List ℕ} {root level : ℕ} {n : NodeValue} {ni nd bound : ℕ} (
               leaf = rw deep;
               agree = refl;
               low = omega arith;
-              blocks = every-make _ (entriesOf (m .entries)) (λ e i. let z = facts .child-blocks e (subst (λ (es : List Entry). List·Memᴰ e es) same-entries i) in all-cons _ _ (le-leb 1 (e .block) (z .0)) (all-cons _ _ (lt-ltb (e .block) (blocksOf (length t)) (let y = same-room in omega (arith, z .1))) all-nil));
+              blocks = every-make _ (entriesOf (m .entries)) (λ e i. let z = facts .child-blocks e (subst (λ (es : List Entry). List·Memᴰ e es) same-entries i) in all-cons _ _ (le-leb 1 (e .block) (z .0)) (all-cons _ _ (lt-ltb (e .block) (blocksOf (length t)) (omega (arith, z .1, ap (λ (x : Node). x .room) (a .loaded .is)))) all-nil));
               own = refl;
               full = omega arith;
             }

@@ -16,8 +16,8 @@ use Rattle.block.specs.NodeRules.{nodeOk, ValidBlock}
 use Rattle.block.proofs.Facts.{HeadFacts, head-facts}
 use Rattle.tree.specs.Sound.{sound}
 use Rattle.tree.proofs.Tables.{shaped}
-use Rattle.update.specs.Change.{part}
-use Rattle.update.proofs.Loose.{opened}
+use Rattle.update_theory.specs.Change.{part}
+use Rattle.update_theory.proofs.Loose.{opened}
 use Rattle.node.specs.Memory.{Loaded}
 use Rattle.node.specs.declared.NodeValue.{NodeValue}
 use Rattle.change.specs.declared.Outcome.the-variants.{Done, Broken}

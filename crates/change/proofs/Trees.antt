@@ -17,8 +17,8 @@ use Rattle.tree.specs.Lookup.{lookup}
 use Rattle.tree.specs.Reach.{reach}
 use Rattle.tree.specs.Sound.{soundAt}
 use Rattle.tree.proofs.Frame.{Same, reach-same, sound-same, lookup-same}
-use Rattle.update.specs.Change.{part, reaches, Sound, Changed}
-use Rattle.update.proofs.Change.{led-one}
+use Rattle.update_theory.specs.Change.{part, reaches, Sound, Changed}
+use Rattle.update_theory.proofs.Change.{led-one}
 use Rattle.change.specs.Growing.{Rooted}
 
 -- one part, alone

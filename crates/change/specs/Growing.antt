@@ -22,9 +22,9 @@ use Rattle.tree.specs.Part.{Part, parts}
 use Rattle.tree.specs.Lookup.{lookup, live}
 use Rattle.tree.specs.Reach.{reach}
 use Rattle.tree.specs.Sound.{sound, Shaped}
-use Rattle.update.specs.Change.{part, reaches, Sound}
-use Rattle.update.specs.Spare.{Taken}
-use Rattle.update.specs.Open.{under}
+use Rattle.update_theory.specs.Change.{part, reaches, Sound}
+use Rattle.update_theory.specs.Spare.{Taken}
+use Rattle.update_theory.specs.Open.{under}
 use Rattle.node.specs.Memory.{entriesOf, nodeIn, EntryFits, Loaded}
 use Rattle.node.specs.declared.NodeValue.{NodeValue}
 use Rattle.edit.specs.Edits.{heldIn, Tidy}

@@ -17,7 +17,7 @@ use Rattle.spot.specs.Sorted.{only, but, insertKey}
 use Rattle.spot.proofs.Buffers.{keys-only}
 use Rattle.buffer.specs.Buffer.{blank}
 use Rattle.node.specs.declared.NodeValue.{NodeValue}
-use Rattle.update.specs.Held.{Held, insertOne, deleteOne, insertAll, deleteAll}
+use Rattle.update_theory.specs.Held.{Held, insertOne, deleteOne, insertAll, deleteAll}
 use Rattle.edit.specs.Edits.{heldIn, Tidy, Edited}
 
 -- P, I and D as one

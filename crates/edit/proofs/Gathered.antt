@@ -17,7 +17,7 @@ use Rattle.buffer.specs.declared.KeyBuffer.{KeyBuffer}
 use Rattle.buffer.specs.Buffer.{held, named, Ordered, OrderedKeys, merged}
 use Rattle.buffer.proofs.Merged.{merged-none, merged-over, merged-but}
 use Rattle.node.specs.declared.NodeValue.{NodeValue}
-use Rattle.update.specs.Held.{Held, insertOne}
+use Rattle.update_theory.specs.Held.{Held, insertOne}
 use Rattle.edit.specs.Edits.{Edited}
 use Rattle.edit.proofs.Buffered.{buffers, same-held, inserted-high, inserted-low}
 
@@ -103,7 +103,9 @@ gathered-none r p i d m h l op oi od z e y f g =
     }
 
 -- a turn with s, which makes c′ of c; its key is taken out of D
-module _ {r : ℕ} {p₀ i₀ : SpotBuffer} {d₀ : KeyBuffer} {c : Held} {m : ℕ} (p i : SpotBuffer) (d : KeyBuffer) (h l : SpotBuffer) (g : Gathered r p₀ i₀ d₀ c m p i d h l) (s : Spot) {m′ : ℕ} (more : m + 1 ≤ m′) {c′ : Held} (turn : (b : Held) → b ≡ insertOne r s (buffers (joined h p) (joined l i) (named d)) → b ≡ c′) (d′ : KeyBuffer) (dn : d′ .n ≤ d .n) (de : named d′ ≡ keep (but (s .key)) (named d)) (du : OrderedKeys d′) where
+module _ {r : ℕ} {p₀ i₀ : SpotBuffer} {d₀ : KeyBuffer} {c c′ : Held} {m m′ : ℕ} (p i : SpotBuffer) (d : KeyBuffer) (h l : SpotBuffer) (g : Gathered r p₀ i₀ d₀ c m p i d h l)
+    (s : Spot) (more : m + 1 ≤ m′) (turn : (b : Held) → b ≡ insertOne r s (buffers (joined h p) (joined l i) (named d)) → b ≡ c′)
+    (d′ : KeyBuffer) (dn : d′ .n ≤ d .n) (de : named d′ ≡ keep (but (s .key)) (named d)) (du : OrderedKeys d′) where
   -- a turn for P
   pub gathered-high : (i′ o h′ : SpotBuffer) → r ≤ rankKey (s .key) → i′ .n ≤ i .n → held i′ ≡ only (but (s .key)) (held i) → Ordered i′
       → o .n ≤ h .n → held o ≡ only (but (s .key)) (held h) → h′ .n ≡ o .n + 1 → held h′ ≡ put s (held o) → Ordered h′

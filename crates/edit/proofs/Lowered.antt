@@ -19,11 +19,11 @@ use Rattle.spot.proofs.Buffers.{find-mem, only-mem, put-mem}
 use Rattle.spot.proofs.Sorted.{but-not, length-but}
 use Rattle.buffer.specs.declared.SpotBuffer.{SpotBuffer}
 use Rattle.buffer.specs.declared.KeyBuffer.{KeyBuffer}
-use Rattle.buffer.specs.Buffer.{held, named, Ordered, Lowest, merged}
+use Rattle.buffer.specs.Buffer.{held, named, Ordered, LowestIn, merged}
 use Rattle.buffer.proofs.Laws.{held-length}
 use Rattle.buffer.proofs.Merged.{merged-none, merged-length, merged-more}
 use Rattle.node.specs.declared.NodeValue.{NodeValue}
-use Rattle.update.specs.Held.{Held}
+use Rattle.update_theory.specs.Held.{Held}
 use Rattle.edit.specs.Edits.{Tidy, Spilled, SpillPost}
 use Rattle.edit.proofs.Buffered.{buffers, same-held}
 
@@ -57,7 +57,7 @@ lowering-none p i g d w a o h z e =
       full = omega arith;
     }
 
-module _ (p : SpotBuffer) (l : List Spot) (q : Spot) (least : Lowest (held p) q) (o : Apart (keys (held p)) (keys l)) where
+module _ (p : SpotBuffer) (l : List Spot) (q : Spot) (least : LowestIn (held p) q) (o : Apart (keys (held p)) (keys l)) where
   -- the lowest of P is in no list apart from P
   lowest-out : List·Memᴰ (q .key) (keys l) → ⊥
   lowest-out = o (q .key) (find-mem (q .key) (held p) (least .there))
@@ -80,13 +80,13 @@ more-off : (q : Spot) (gs is : List Spot) {hs : List Spot} → hs ≡ put q gs �
 more-off q gs is f n o z a b = ⊎-elim (λ (h : z ≡ q .key). n (rw h at b)) (λ j. o z j b) (put-mem q gs (mem-same (ap keys f) a))
 
 -- P has one fewer
-pub one-fewer : (p p′ : SpotBuffer) (q : Spot) → Lowest (held p) q → held p′ ≡ only (but (q .key)) (held p) → length (p .spots) ≡ 80 → Ordered p → length (p′ .spots) ≡ 80
+pub one-fewer : (p p′ : SpotBuffer) (q : Spot) → LowestIn (held p) q → held p′ ≡ only (but (q .key)) (held p) → length (p .spots) ≡ 80 → Ordered p → length (p′ .spots) ≡ 80
     → Ordered p′ → suc (p′ .n) ≡ p .n
 one-fewer p p′ q l e w o v u =
     ap suc (sym (held-length p′ v (u .fits)) ∙ ap length e) ∙ length-but 0 (q .key) (held p) (o .up) (find-mem (q .key) (held p) (l .there)) ∙ held-length p w (o .fits)
 
 -- after a turn
-pub lowering-more : {p₀ i₀ : SpotBuffer} {d : KeyBuffer} (p g p′ g′ : SpotBuffer) (q : Spot) → Lowering p₀ i₀ d p g → Ordered i₀ → Lowest (held p) q → 64 < p .n
+pub lowering-more : {p₀ i₀ : SpotBuffer} {d : KeyBuffer} (p g p′ g′ : SpotBuffer) (q : Spot) → Lowering p₀ i₀ d p g → Ordered i₀ → LowestIn (held p) q → 64 < p .n
     → held p′ ≡ only (but (q .key)) (held p) → length (p′ .spots) ≡ 80 → Ordered p′ → g′ .n ≡ g .n + 1 → held g′ ≡ put q (held g) → Ordered g′
     → Lowering p₀ i₀ d p′ g′
 lowering-more {p₀} {i₀} {d} p g p′ g′ q s u l h e w a n f b =

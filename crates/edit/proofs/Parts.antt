@@ -15,7 +15,7 @@ use Rattle.block.specs.Node.{Node, openBelow, firstOpen}
 use Rattle.block.specs.NodeRules.{agrees}
 use Rattle.block.proofs.Views.{length-open}
 use Rattle.tree.proofs.Entries.{agree-make}
-use Rattle.buffer.specs.Buffer.{Lowest, Highest}
+use Rattle.buffer.specs.Buffer.{LowestIn, Highest}
 use Rattle.node.specs.Memory.{EntryAt}
 
 module _ (l : List Entry) (n k : ℕ) (h : n ≤ length l) (g : k ≤ n) where
@@ -32,7 +32,7 @@ pub opened : {xs ys zs : List Entry} {e : Entry} → ys ≡ xs → EntryAt ys 0 
 opened a s g = g ∙ sym (ap firstOpen (sym a ∙ s .split))
 
 -- an entry that has the highest and the lowest of P
-pub agreed : (e : Entry) (n : Node) (t b : Spot) → e .size ≡ length (n .points) → Highest (n .points) t → Lowest (n .points) b → e .top ≡ t .key → e .bottom ≡ b .key
+pub agreed : (e : Entry) (n : Node) (t b : Spot) → e .size ≡ length (n .points) → Highest (n .points) t → LowestIn (n .points) b → e .top ≡ t .key → e .bottom ≡ b .key
     → agrees (Child e) n ≡ true
 agreed e n t b z h l p q =
     agree-make e n z (rw p (find-mem (t .key) (n .points) (h .there), h .most)) (rw q (find-mem (b .key) (n .points) (l .there), l .least))

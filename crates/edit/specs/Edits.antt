@@ -14,10 +14,10 @@ use Rattle.spot.specs.declared.Spot.{Spot}
 use Rattle.block.specs.declared.Entry.{Entry}
 use Rattle.block.specs.declared.Asked.the-variants.{Child}
 use Rattle.block.specs.NodeRules.{agrees}
-use Rattle.buffer.specs.Buffer.{held, named, Ordered, OrderedKeys, Lowest}
+use Rattle.buffer.specs.Buffer.{held, named, Ordered, OrderedKeys, LowestIn}
 use Rattle.node.specs.Memory.{entriesOf, nodeIn, EntryFits}
 use Rattle.node.specs.declared.NodeValue.{NodeValue}
-use Rattle.update.specs.Held.{Held}
+use Rattle.update_theory.specs.Held.{Held}
 
 -- the buffers of a node in memory
 abbrev pub heldIn : NodeValue → Held
@@ -42,7 +42,7 @@ pub record Edited (n r : NodeValue) (b : Held) (p i d : ℕ) : Type 0 where
 -- P was over 64: its lowest went to I, one after the other
 pub data Spilled : Held → Held → Type 0 where
   none : {b : Held} → Spilled b b
-  more : {b c : Held} (q : Spot) → Lowest (b .points) q
+  more : {b c : Held} (q : Spot) → LowestIn (b .points) q
       → Spilled (record { points = only (but (q .key)) (b .points); inserts = put q (b .inserts); deletes = b .deletes }) c
       → Spilled b c
 
@@ -74,7 +74,7 @@ pub record SpillPost (n x : NodeValue) : Type 0 where
 -- r is the rank key of P's lowest, or 0
 pub record Threshold (n : NodeValue) (r : ℕ) : Type 0 where
   pub nothing : (n .level ≡ 0) ⊎ (n .points .n < 32) → r ≡ 0
-  pub lowest : (n .level ≡ 0 → ⊥) → 32 ≤ n .points .n → (q : Spot) × Lowest (held (n .points)) q × (r ≡ rankKey (q .key))
+  pub lowest : (n .level ≡ 0 → ⊥) → 32 ≤ n .points .n → (q : Spot) × LowestIn (held (n .points)) q × (r ≡ rankKey (q .key))
 
 -- x has the keys of n that pass g, and the entries es
 pub record Half (n x : NodeValue) (g : ℕ → Bool) (es : List Entry) : Type 0 where

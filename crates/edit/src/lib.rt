@@ -11,7 +11,7 @@ ghost use Rattle.spot.specs.Spots.{keys, put};
 ghost use Rattle.spot.specs.Sorted.{only, but, lower};
 ghost use Rattle.buffer.specs.Buffer.{held, named, Ordered, merged};
 ghost use Rattle.node.specs.Memory.{entriesOf};
-ghost use Rattle.update.specs.Held.{insertOne, deleteOne, insertAll, deleteAll};
+ghost use Rattle.update_theory.specs.Held.{insertOne, deleteOne, insertAll, deleteAll};
 ghost use Rattle.edit.specs.Edits.{heldIn, Tidy, Edited, SpillPost, Threshold, Half, EntryFor, BestChild};
 
 // One spot inserted: into P where its rank key is at least r, else it waits in I.

@@ -22,12 +22,12 @@ use Rattle.block.specs.NodeRules.{zeroFirst, lows}
 use Rattle.buffer.specs.Buffer.{held, named, Highest}
 use Rattle.tree.specs.Part.{Part}
 use Rattle.tree.specs.Lookup.{lookup}
-use Rattle.update.specs.Held.{Held}
-use Rattle.update.specs.Change.{part, Sound, Changed}
-use Rattle.update.specs.Spare.{Taken}
-use Rattle.update.specs.Rounds.{Loop}
-use Rattle.update.proofs.Spread.{childAt}
-use Rattle.update.proofs.Rounds.{child-bounds, child-low, child-sound, round-insert, round-end, round-dead, round-child, round-both}
+use Rattle.update_theory.specs.Held.{Held}
+use Rattle.update_theory.specs.Change.{part, Sound, Changed}
+use Rattle.update_theory.specs.Spare.{Taken}
+use Rattle.update_theory.specs.Rounds.{Loop}
+use Rattle.update_theory.proofs.Spread.{childAt}
+use Rattle.update_theory.proofs.Rounds.{child-bounds, child-low, child-sound, round-insert, round-end, round-dead, round-child, round-both}
 use Rattle.node.specs.Memory.{entriesOf, EntryAt}
 use Rattle.node.specs.declared.Entries.{Entries}
 use Rattle.node.specs.declared.NodeValue.{NodeValue}

@@ -23,7 +23,7 @@ use Rattle.journal.specs.Journal.{Kept}
 use Rattle.fill.specs.declared.Took.{Took}
 use Rattle.fill.specs.declared.Turn.{Turn}
 use Rattle.fill.specs.declared.Turned.{Turned}
-use Rattle.fill.specs.Filling.{Workable, RoundPost, OnLoop, GoesOn, TakePost, Replaced, InsertUp, ChildUp, ChildHighest, BothHighest, NothingLeft, InsertHighest, Planned, FetchPost, TakenUp, Ended, CarryPost}
+use Rattle.fill.specs.Filling.{Workable, RoundPost, OnLoop, GoesOn, TakePost, Replaced, InsertUp, ChildUp, ChildHighest, BothHighest, NothingLeft, InsertHighest, Planned, FetchPost, TakenUp, LastRound, CarryPost}
 use Rattle.fill.proofs.Works.{round-failed, round-ended, round-lifted, round-taken}
 use Rattle.fill.proofs.Onward.{same-at, best-at, child-ready, on-insert, on-end, on-child, on-both}
 
@@ -38,24 +38,29 @@ child-bare n c h b z =
       above = λ e a k i. absurd (List·Memᴰ·not-nil (subst⁻¹ (λ (j : ℕ). List·Memᴰ k (keys (take j (n .inserts .spots)))) (sym z) i));
     }
 
+-- the best child and the highest of I, where there are both
+pub record Compared (n : NodeValue) (c : ℕ) (e : Entry) (s : Spot) : Type 0 where
+  pub inside : c < n .entries .n
+  pub best : BestChild (entriesOf (n .entries)) c
+  pub entry : EntryAt (entriesOf (n .entries)) c e
+  pub highest : Highest (held (n .inserts)) s
+
 -- with I lower
-pub child-above : (n : NodeValue) (c : ℕ) (e : Entry) (s : Spot) → c < n .entries .n → BestChild (entriesOf (n .entries)) c → EntryAt (entriesOf (n .entries)) c e → Highest (held (n .inserts)) s
-    → rankKey (s .key) < rankKey (e .top) → ChildHighest n c
-child-above n c e s h b a g r =
+pub child-above : {n : NodeValue} {c : ℕ} {e : Entry} {s : Spot} → Compared n c e s → rankKey (s .key) < rankKey (e .top) → ChildHighest n c
+child-above {n} {c} {e} m r =
     record {
-      inside = h;
-      best = b;
+      inside = m .inside;
+      best = m .best;
       above = λ d q k i.
-          let z : rankKey (e .top) ≡ rankKey (d .top) = ap (λ (x : Entry). rankKey (x .top)) (same-at (entriesOf (n .entries)) c e d a q) in
-          let v = g .most k i in
+          let z : rankKey (e .top) ≡ rankKey (d .top) = ap (λ (x : Entry). rankKey (x .top)) (same-at (entriesOf (n .entries)) c e d (m .entry) q) in
+          let v = m .highest .most k i in
           omega arith;
     }
 
 -- with the same key in I
-pub both-same : (n : NodeValue) (c : ℕ) (e : Entry) (s : Spot) → c < n .entries .n → BestChild (entriesOf (n .entries)) c → EntryAt (entriesOf (n .entries)) c e → Highest (held (n .inserts)) s
-    → s .key ≡ e .top → BothHighest n c s
-both-same n c e s h b a g k =
-    record { inside = h; best = b; highest = g; same = λ d q. k ∙ ap (λ (x : Entry). x .top) (same-at (entriesOf (n .entries)) c e d a q) }
+pub both-same : {n : NodeValue} {c : ℕ} {e : Entry} {s : Spot} → Compared n c e s → s .key ≡ e .top → BothHighest n c s
+both-same {n} {c} {e} m k =
+    record { inside = m .inside; best = m .best; highest = m .highest; same = λ d q. k ∙ ap (λ (x : Entry). x .top) (same-at (entriesOf (n .entries)) c e d (m .entry) q) }
 
 -- the node with the child's new entry
 pub replaced-ready : {n m : NodeValue} {c : ℕ} {e : Entry} → Tidy n → n .points .n < 32 → Replaced n c e m → Tidy m × (m .points .n < 32)
@@ -83,14 +88,14 @@ pub tops-bare : (n : NodeValue) (c : ℕ) {a : ℕ} → BestChild (entriesOf (n 
 tops-bare n c b g d i m = absurd (m (b .none (let z = length-take (n .entries .n) (n .entries .list) in omega arith) d i))
 
 -- or their tops are lower
-pub tops-lower : (n : NodeValue) (c : ℕ) (e : Entry) (k : ℕ) → BestChild (entriesOf (n .entries)) c → EntryAt (entriesOf (n .entries)) c e → e .top < allKeys → k < allKeys
-    → rankKey (e .top) ≤ rankKey k → (k ≡ e .top → ⊥) → (d : Entry) → List·Memᴰ d (entriesOf (n .entries)) → (d .size ≡ 0 → ⊥) → rankKey (d .top) < rankKey k
-tops-lower n c e k b a g h l x d i m =
-    let u = best-at (entriesOf (n .entries)) c e a b .1 d i m in
-    let v = rank-strict (e .top) k g h (λ q. x (sym q)) l in
+pub tops-lower : {n : NodeValue} {c : ℕ} {e : Entry} {s : Spot} → Compared n c e s → e .top < allKeys → s .key < allKeys → rankKey (e .top) ≤ rankKey (s .key) → (s .key ≡ e .top → ⊥)
+    → (d : Entry) → List·Memᴰ d (entriesOf (n .entries)) → (d .size ≡ 0 → ⊥) → rankKey (d .top) < rankKey (s .key)
+tops-lower {n} {c} {e} {s} m g h l x d i some =
+    let u = best-at (entriesOf (n .entries)) c e (m .entry) (m .best) .1 d i some in
+    let v = rank-strict (e .top) (s .key) g h (λ q. x (sym q)) l in
     omega arith
 
-deeper : (level : ℕ) → (level ≡ 0 → ⊥) → level ≡ suc (level - 1)
+pub deeper : (level : ℕ) → (level ≡ 0 → ⊥) → level ≡ suc (level - 1)
 deeper level inner = omega (arith, inner)
 
 -- a child's top could not be taken
@@ -161,7 +166,7 @@ module _ {n : NodeValue} {p : Turn} {took : Took} {r : Turned} where
   pub carry-insert : took .ok ≡ true → p .below ≡ false → p .waits ≡ true → InsertUp n (p .high) r → CarryPost n p took r
   carry-insert o b w u = record { failed = λ x. clash o x; child = λ x y. clash y b; both = λ x y. clash y b; insert = λ x y z. u; over = λ x y z. clash w z }
 
-  pub carry-over : took .ok ≡ true → p .below ≡ false → p .waits ≡ false → Ended n r → CarryPost n p took r
+  pub carry-over : took .ok ≡ true → p .below ≡ false → p .waits ≡ false → LastRound n r → CarryPost n p took r
   carry-over o b w u = record { failed = λ x. clash o x; child = λ x y. clash y b; both = λ x y. clash y b; insert = λ x y z. clash z w; over = λ x y z. u }
 
 module _ {t s map : List ℕ} {level : ℕ} {p : Turn} {r : Took} where

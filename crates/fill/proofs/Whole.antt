@@ -22,14 +22,14 @@ use Rattle.block.specs.Node.{Node, storeOf}
 use Rattle.block.specs.NodeRules.{nodeOk, childBlocksOk, zeroFirst, lows, agrees}
 use Rattle.buffer.specs.Buffer.{held, named, Highest}
 use Rattle.tree.specs.Lookup.{lookup}
-use Rattle.update.specs.Held.{Held}
-use Rattle.update.specs.Change.{part, Sound, Changed}
-use Rattle.update.specs.Spare.{Taken}
-use Rattle.update.specs.Open.{Open}
-use Rattle.update.specs.Rounds.{Loop, Full}
-use Rattle.update.proofs.Going.{going-start}
-use Rattle.update.proofs.Loose.{opened}
-use Rattle.update.proofs.Taken.{after, take-finish, take-open, top-is, top-found}
+use Rattle.update_theory.specs.Held.{Held}
+use Rattle.update_theory.specs.Change.{part, Sound, Changed}
+use Rattle.update_theory.specs.Spare.{Taken}
+use Rattle.update_theory.specs.Open.{Open}
+use Rattle.update_theory.specs.Rounds.{Loop, FilledUp}
+use Rattle.update_theory.proofs.Going.{going-start}
+use Rattle.update_theory.proofs.Loose.{opened}
+use Rattle.update_theory.proofs.Taken.{after, take-finish, take-open, top-is, top-found}
 use Rattle.node.specs.Memory.{entriesOf, nodeIn, EntryFits, Storable, Stored, Loaded}
 use Rattle.node.specs.declared.Entries.{Entries}
 use Rattle.node.specs.declared.NodeValue.{NodeValue}
@@ -41,6 +41,7 @@ use Rattle.fill.specs.declared.Took.{Took}
 use Rattle.fill.specs.declared.Filled.{Filled}
 use Rattle.fill.specs.declared.Turned.{Turned}
 use Rattle.fill.specs.Filling.{Workable, OnNode, FillPost, FilledBy, RoundPost, OnChild, TakePost}
+use Rattle.fill.proofs.Works.{work-stores}
 
 -- ---- fill
 
@@ -83,7 +84,7 @@ fill-start {t} {s} {map} {level} {n} w =
 
 module _ {t₀ s₀ map₀ : List ℕ} {level : ℕ} {n₀ : NodeValue} {t s map : List ℕ} {n : NodeValue} (p : Filling t₀ s₀ map₀ level n₀ t s map n) where
   -- the post-condition, whatever ends the loop
-  pub fill-ends : (ok : Bool) → (ok ≡ true → Full (entriesOf (n .entries)) (heldIn n)) → FillPost t₀ t s map level n₀ (record { ok = ok; broken = false; node = n })
+  pub fill-ends : (ok : Bool) → (ok ≡ true → OnNode t₀ level n₀ (λ lo hi f. FilledUp (entriesOf (n .entries)) (heldIn n))) → FillPost t₀ t s map level n₀ (record { ok = ok; broken = false; node = n })
   fill-ends ok h =
       record {
         works = p .works;
@@ -91,55 +92,47 @@ module _ {t₀ s₀ map₀ : List ℕ} {level : ℕ} {n₀ : NodeValue} {t s map
         deletes = p .fewD;
         count = p .count;
         sameLows = p .sameLows;
-        done = λ e lo hi rank f full z o. let q = p .goes lo hi rank f full z o in record { rank = q .0; loop = q .1; full = h e };
+        done = λ e lo hi rank f full z o. let q = p .goes lo hi rank f full z o in record { rank = q .0; loop = q .1; full = h e lo hi rank f full z o };
         whole = λ lo hi rank f full z o. refl;
       }
 
-  module _ {t′ s′ map′ : List ℕ} {r : Turned} (k : Kept t s map t′ s′ map′) (q : RoundPost t t′ s′ map′ level n r) where
-    -- a round more
-    pub fill-turn : r .ok ≡ true → Filling t₀ s₀ map₀ level n₀ t′ s′ map′ (r .node)
-    fill-turn ok =
-        record {
-          kept = kept-trans (p .kept) k;
-          works = q .works;
-          fewI = omega (arith, p .fewI, q .inserts);
-          fewD = omega (arith, p .fewD, q .deletes);
-          count = q .count ∙ p .count;
-          sameLows = q .sameLows ∙ p .sameLows;
-          goes = λ lo hi rank f full z o.
-              let a = p .goes lo hi rank f full z o in
-              let b = q .goesOn ok (n₀ .inserts .n) (n₀ .deletes .n) lo hi (a .0) (storeOf t₀) (entriesOf (n₀ .entries)) f full z (a .1) in
-              (b .0, b .1);
-        }
+module _ {t₀ s₀ map₀ : List ℕ} {level : ℕ} {n₀ : NodeValue} {t s map : List ℕ} {n : NodeValue} (p : Filling t₀ s₀ map₀ level n₀ t s map n) {t′ s′ map′ : List ℕ} {r : Turned}
+    (k : Kept t s map t′ s′ map′) (q : RoundPost t t′ s′ map′ level n r) where
+  -- a round more
+  pub fill-turn : r .ok ≡ true → Filling t₀ s₀ map₀ level n₀ t′ s′ map′ (r .node)
+  fill-turn ok =
+      record {
+        kept = kept-trans (p .kept) k;
+        works = q .works;
+        fewI = omega (arith, p .fewI, q .inserts);
+        fewD = omega (arith, p .fewD, q .deletes);
+        count = q .count ∙ p .count;
+        sameLows = q .sameLows ∙ p .sameLows;
+        goes = λ lo hi rank f full z o.
+            let a = p .goes lo hi rank f full z o in
+            let b = q .goesOn ok (n₀ .inserts .n) (n₀ .deletes .n) lo hi (a .0) (storeOf t₀) (entriesOf (n₀ .entries)) f full z (a .1) in
+            (b .0, b .1);
+      }
 
-    -- one that fails
-    pub fill-fails : FillPost t₀ t′ s′ map′ level n₀ (record { ok = false; broken = r .broken; node = r .node })
-    fill-fails =
-        record {
-          works = q .works;
-          inserts = omega (arith, p .fewI, q .inserts);
-          deletes = omega (arith, p .fewD, q .deletes);
-          count = q .count ∙ p .count;
-          sameLows = q .sameLows ∙ p .sameLows;
-          done = λ e. absurd (false≢true e);
-          whole = λ lo hi rank f full z o. let a = p .goes lo hi rank f full z o in q .whole (n₀ .inserts .n) (n₀ .deletes .n) lo hi (a .0) (storeOf t₀) (entriesOf (n₀ .entries)) f full z (a .1);
-        }
+  -- one that fails
+  pub fill-fails : FillPost t₀ t′ s′ map′ level n₀ (record { ok = false; broken = r .broken; node = r .node })
+  fill-fails =
+      record {
+        works = q .works;
+        inserts = omega (arith, p .fewI, q .inserts);
+        deletes = omega (arith, p .fewD, q .deletes);
+        count = q .count ∙ p .count;
+        sameLows = q .sameLows ∙ p .sameLows;
+        done = λ e. absurd (false≢true e);
+        whole = λ lo hi rank f full z o. let a = p .goes lo hi rank f full z o in q .whole (n₀ .inserts .n) (n₀ .deletes .n) lo hi (a .0) (storeOf t₀) (entriesOf (n₀ .entries)) f full z (a .1);
+      }
 
-    -- one that is the last
-    pub fill-over : r .ok ≡ true → r .over ≡ true → FillPost t₀ t′ s′ map′ level n₀ (record { ok = true; broken = false; node = r .node })
-    fill-over ok over =
-        record {
-          works = q .works;
-          inserts = omega (arith, p .fewI, q .inserts);
-          deletes = omega (arith, p .fewD, q .deletes);
-          count = q .count ∙ p .count;
-          sameLows = q .sameLows ∙ p .sameLows;
-          done = λ e lo hi rank f full z o.
-              let a = p .goes lo hi rank f full z o in
-              let b = q .goesOn ok (n₀ .inserts .n) (n₀ .deletes .n) lo hi (a .0) (storeOf t₀) (entriesOf (n₀ .entries)) f full z (a .1) in
-              record { rank = b .0; loop = b .1; full = b .2 over };
-          whole = λ lo hi rank f full z o. refl;
-        }
+  -- one that is the last
+  pub fill-over : r .ok ≡ true → r .over ≡ true → FillPost t₀ t′ s′ map′ level n₀ (record { ok = true; broken = false; node = r .node })
+  fill-over ok over =
+      fill-ends (fill-turn ok) true
+      (λ e lo hi rank f full z o. let a = p .goes lo hi rank f full z o in
+      q .goesOn ok (n₀ .inserts .n) (n₀ .deletes .n) lo hi (a .0) (storeOf t₀) (entriesOf (n₀ .entries)) f full z (a .1) .2 over)
 
 -- ---- take_top
 
@@ -191,15 +184,8 @@ edited-zero l d = ap zeroFirst (ap (λ (es : Entries). lows (entriesOf es)) (d .
 -- and what fill makes of it may be stored
 pub filled-stores : {t t′ s′ map′ : List ℕ} {level : ℕ} {b : ℕ} {n m : NodeValue} {h : Held} {r : Filled} → Loaded t b n → Edited n m h (n .points .n) (n .inserts .n) (n .deletes .n)
     → FillPost t t′ s′ map′ level m r → Storable (r .node)
-filled-stores {n = n} {m = m} {r = r} l d p =
-    record {
-      level = let z = p .works .level in omega (arith, p .works .deep);
-      entries = p .works .entries;
-      first = ap zeroFirst (p .sameLows) ∙ edited-zero l d;
-      points = p .works .points;
-      inserts = omega (arith, p .inserts, d .inserts, l .storable .inserts);
-      deletes = omega (arith, p .deletes, d .deletes, l .storable .deletes);
-    }
+filled-stores l d p =
+    work-stores (p .works) (ap zeroFirst (p .sameLows) ∙ edited-zero l d) (omega (arith, p .inserts, d .inserts, l .storable .inserts)) (omega (arith, p .deletes, d .deletes, l .storable .deletes))
 
 -- the top is left out of the loaded node, which becomes m
 module _ {t : List ℕ} {level : ℕ} {e : Entry} {spot : Spot} {n m : NodeValue} (l : Loaded t (e .block) n) (high : Highest (held (n .points)) spot)

@@ -11,15 +11,15 @@ use Rattle.octets.proofs.Lists.{mem-more, mem-less}
 use Rattle.block.specs.declared.Entry.{Entry}
 use Rattle.block.specs.Table.{blocksOf}
 use Rattle.block.specs.Node.{storeOf}
-use Rattle.block.specs.NodeRules.{lows}
+use Rattle.block.specs.NodeRules.{zeroFirst, lows}
 use Rattle.buffer.specs.Buffer.{Ordered, OrderedKeys}
 use Rattle.buffer.specs.declared.SpotBuffer.{SpotBuffer}
 use Rattle.buffer.specs.declared.KeyBuffer.{KeyBuffer}
-use Rattle.update.proofs.Spare.{lows-same}
-use Rattle.node.specs.Memory.{entriesOf, EntriesFit, EntryFits, EntryAt}
+use Rattle.update_theory.proofs.Spare.{lows-same}
+use Rattle.node.specs.Memory.{entriesOf, EntriesFit, EntryFits, EntryAt, Storable}
 use Rattle.node.specs.declared.Entries.{Entries}
 use Rattle.node.specs.declared.NodeValue.{NodeValue}
-use Rattle.update.specs.Held.{Held}
+use Rattle.update_theory.specs.Held.{Held}
 use Rattle.edit.specs.Edits.{Tidy, Edited}
 use Rattle.journal.specs.Journal.{Kept}
 use Rattle.journal.proofs.Kept.{undoable-kept}
@@ -58,6 +58,11 @@ work-kept w k =
       inserts = w .inserts;
       deletes = w .deletes;
     }
+
+-- with the sizes right it may be stored
+pub work-stores : {t s map : List ℕ} {n : NodeValue} {level : ℕ} → Workable t s map n level → zeroFirst (lows (entriesOf (n .entries))) ≡ true → n .inserts .n ≤ 64 → n .deletes .n ≤ 16 → Storable n
+work-stores w first fewI fewD =
+    record { level = let z = w .level in omega (arith, w .deep); entries = w .entries; first = first; points = w .points; inserts = fewI; deletes = fewD }
 
 -- the buffers changed at the end of a round
 pub work-lifted : {t s map : List ℕ} {n : NodeValue} {r : Turned} {level : ℕ} → Workable t s map n level → n .points .n < 32 → Lifted n r → Workable t s map (r .node) level
@@ -136,19 +141,10 @@ round-lifted w h l g =
 -- it was the last
 pub round-ended : {t s map : List ℕ} {n m : NodeValue} {b : Held} {level : ℕ} → Workable t s map n level → n .points .n < 32 → Edited n m b (n .points .n) (n .inserts .n) 0
     → GoesOn (storeOf t) (storeOf t) level n m true → RoundPost t t s map level n (record { ok = true; broken = false; over = true; node = m })
-round-ended {t} {n = n} {m = m} w h l g =
+round-ended {m = m} w h l g =
     record {
-      works = record {
-        undoable = w .undoable;
-        tidy = l .tidy;
-        entries = subst⁻¹ EntriesFit (l .entries) (w .entries);
-        inside = subst⁻¹ (λ (es : Entries). Inside t (entriesOf es)) (l .entries) (w .inside);
-        level = l .level ∙ w .level;
-        deep = w .deep;
-        points = omega (arith, l .points);
-        inserts = omega (arith, l .inserts, w .inserts);
-        deletes = omega (arith, l .deletes);
-      };
+      works = work-lifted {r = record { ok = true; broken = false; over = false; node = m }} w h
+          (record { over = refl; whole = refl; tidy = l .tidy; entries = l .entries; level = l .level; points = omega (arith, l .points); inserts = l .inserts; deletes = omega (arith, l .deletes) });
       inserts = l .inserts;
       deletes = omega (arith, l .deletes);
       count = ap (λ (es : Entries). es .n) (l .entries);

@@ -20,10 +20,10 @@ use Rattle.block.specs.Node.{Store, storeOf}
 use Rattle.block.specs.NodeRules.{zeroFirst, lows}
 use Rattle.buffer.specs.Buffer.{held, named, Highest}
 use Rattle.tree.specs.Lookup.{lookup}
-use Rattle.update.specs.Change.{part, Sound, Changed}
-use Rattle.update.specs.Spare.{Taken}
-use Rattle.update.specs.Open.{Open}
-use Rattle.update.specs.Rounds.{Loop, Full}
+use Rattle.update_theory.specs.Change.{part, Sound, Changed}
+use Rattle.update_theory.specs.Spare.{Taken}
+use Rattle.update_theory.specs.Open.{Open}
+use Rattle.update_theory.specs.Rounds.{Loop, FilledUp}
 use Rattle.node.specs.Memory.{entriesOf, EntriesFit, EntryFits, EntryAt}
 use Rattle.node.specs.declared.NodeValue.{NodeValue}
 use Rattle.edit.specs.Edits.{heldIn, Tidy, Edited, BestChild}
@@ -53,7 +53,7 @@ pub record Workable (t s map : List ℕ) (n : NodeValue) (depth : ℕ) : Type 0 
 pub record FilledBy (x y : Store) (level : ℕ) (n : NodeValue) (r : NodeValue) (lo hi : ℕ) (f : ℕ → Option ℕ) : Type 0 where
   pub rank : ℕ
   pub loop : Loop (n .inserts .n) (n .deletes .n) level lo hi x (entriesOf (n .entries)) y rank (entriesOf (r .entries)) (heldIn r) f
-  pub full : Full (entriesOf (r .entries)) (heldIn r)
+  pub full : FilledUp (entriesOf (r .entries)) (heldIn r)
 
 -- what holds where the node stands open over the table's store
 abbrev pub OnNode : List ℕ → ℕ → NodeValue → (ℕ → ℕ → (ℕ → Option ℕ) → Type 0) → Type 0
@@ -100,7 +100,7 @@ OnLoop y level n Then =
 abbrev pub GoesOn : Store → Store → ℕ → NodeValue → NodeValue → Bool → Type 0
 GoesOn y z level n r over =
     OnLoop y level n (λ ni nd lo hi x es₀ f.
-    (after : ℕ) × Loop ni nd level lo hi x es₀ z after (entriesOf (r .entries)) (heldIn r) f × (over ≡ true → Full (entriesOf (r .entries)) (heldIn r)))
+    (after : ℕ) × Loop ni nd level lo hi x es₀ z after (entriesOf (r .entries)) (heldIn r) f × (over ≡ true → FilledUp (entriesOf (r .entries)) (heldIn r)))
 
 -- one round
 pub record RoundPost (t t′ s′ map′ : List ℕ) (level : ℕ) (n : NodeValue) (r : Turned) : Type 0 where
@@ -194,7 +194,7 @@ pub record TakenUp (n : NodeValue) (p : Turn) (took : Took) (Up : NodeValue → 
   pub up : Up next
 
 -- the last round
-pub record Ended (n : NodeValue) (r : Turned) : Type 0 where
+pub record LastRound (n : NodeValue) (r : Turned) : Type 0 where
   pub node : NodeValue
   pub is : r ≡ record { ok = true; broken = false; over = true; node = node }
   pub edited : Edited n node (record { points = held (n .points); inserts = held (n .inserts); deletes = [] }) (n .points .n) (n .inserts .n) 0
@@ -205,4 +205,4 @@ pub record CarryPost (n : NodeValue) (p : Turn) (took : Took) (r : Turned) : Typ
   pub child : took .ok ≡ true → p .below ≡ true → p .waits ≡ false → TakenUp n p took (λ m. ChildUp m (took .spot) r)
   pub both : took .ok ≡ true → p .below ≡ true → p .waits ≡ true → TakenUp n p took (λ m. InsertUp m (p .high) r)
   pub insert : took .ok ≡ true → p .below ≡ false → p .waits ≡ true → InsertUp n (p .high) r
-  pub over : took .ok ≡ true → p .below ≡ false → p .waits ≡ false → Ended n r
+  pub over : took .ok ≡ true → p .below ≡ false → p .waits ≡ false → LastRound n r

@@ -20,7 +20,7 @@ use Rattle.spot.specs.declared.Query.{Query}
 use Rattle.spot.proofs.TopKeys.{top-rank}
 use Rattle.block.specs.declared.Front.{Front}
 use Rattle.block.specs.NodeRules.{ValidBlock}
-use Rattle.frontier.specs.Picks.{spotsAt, fewKey, fewAt, keyBy, Apart, OneOf, Asked, Few, Inserted, fewFloor, taken}
+use Rattle.frontier.specs.Picks.{spotsAt, fewKey, fewAt, keyBy, KeysApart, OneOf, Asked, Few, Inserted, fewFloor, takenKey}
 use Rattle.frontier.proofs.Spots.{Sizes, points-above}
 
 -- ---- a row comes in
@@ -115,17 +115,17 @@ and-no false = refl
 
 module _ (q : Query) (k most floor : ℕ) where
   -- turned away by one of the three questions
-  pub kept-lower : topKey k < floor → taken q k most floor ≡ false
+  pub kept-lower : topKey k < floor → takenKey q k most floor ≡ false
   kept-lower l = ap (λ (x : Bool). x && (leb (topKey k) most && wantsKey q k)) (lt-leb floor (topKey k) l)
 
-  pub kept-over : most < topKey k → taken q k most floor ≡ false
+  pub kept-over : most < topKey k → takenKey q k most floor ≡ false
   kept-over l = ap (λ (x : Bool). leb floor (topKey k) && (x && wantsKey q k)) (lt-leb (topKey k) most l) ∙ and-no (leb floor (topKey k))
 
-  pub taken-wanted : floor ≤ topKey k → topKey k ≤ most → wantsKey q k ≡ taken q k most floor
+  pub taken-wanted : floor ≤ topKey k → topKey k ≤ most → wantsKey q k ≡ takenKey q k most floor
   taken-wanted l m =
       sym (ap (λ (x : Bool). x && (leb (topKey k) most && wantsKey q k)) (le-leb floor (topKey k) l) ∙ ap (λ (x : Bool). x && wantsKey q k) (le-leb (topKey k) most m))
 
-  taken-says : taken q k most floor ≡ true → (floor ≤ topKey k) × (topKey k ≤ most) × (wantsKey q k ≡ true)
+  taken-says : takenKey q k most floor ≡ true → (floor ≤ topKey k) × (topKey k ≤ most) × (wantsKey q k ≡ true)
   taken-says y =
       let r = and-right (leb floor (topKey k)) (leb (topKey k) most && wantsKey q k) y in (
         leb-true floor (topKey k) (and-left (leb floor (topKey k)) (leb (topKey k) most && wantsKey q k) y),
@@ -173,7 +173,7 @@ module _ (t : List ℕ) (at : ℕ) (q : Query) (most : ℕ) where
         }
 
     module _ {k floor : ℕ} (e : k ≡ keyAt t (at + 12 * i)) (is : floor ≡ fewFloor few n) where
-      pub few-skip : taken q k most floor ≡ false → Few t at (i + 1) q most few n
+      pub few-skip : takenKey q k most floor ≡ false → Few t at (i + 1) q most few n
       few-skip y =
           few-past (i + 1) (omega arith)
           (λ j x w a.
@@ -184,7 +184,7 @@ module _ (t : List ℕ) (at : ℕ) (q : Query) (most : ℕ) where
           (λ (z : topKey k < floor). omega (arith, ap topKey g))
           (less-or-not floor (topKey k)))
 
-      module _ {key r : ℕ} {few' : List (List ℕ)} (y : taken q k most floor ≡ true) (s : key ≡ topKey k) (some : 0 < length few) (m : ℕ) (apart : Apart t at m) (inside : i < m)
+      module _ {key r : ℕ} {few' : List (List ℕ)} (y : takenKey q k most floor ≡ true) (s : key ≡ topKey k) (some : 0 < length few) (m : ℕ) (apart : KeysApart t at m) (inside : i < m)
           (v : Inserted few n key i few' r) where
         abbrev p : ℕ
         p = v .place
@@ -338,13 +338,13 @@ pub record Passed (t : List ℕ) (at i : ℕ) (q : Query) (most len : ℕ) (few 
   pub best : Few t at i q most few n
 
 module _ {t : List ℕ} {at i : ℕ} {q : Query} {most len : ℕ} {few : List (List ℕ)} {n floor k : ℕ} (h : Passed t at i q most len few n floor) (e : k ≡ keyAt t (at + 12 * i)) where
-  pub passed-skip : {few' : List (List ℕ)} {n' floor' : ℕ} → taken q k most floor ≡ false → few' ≡ few → n' ≡ n → floor' ≡ floor → Passed t at (i + 1) q most len few' n' floor'
+  pub passed-skip : {few' : List (List ℕ)} {n' floor' : ℕ} → takenKey q k most floor ≡ false → few' ≡ few → n' ≡ n → floor' ≡ floor → Passed t at (i + 1) q most len few' n' floor'
   passed-skip {few'} {n'} {floor'} y a b c =
       subst (λ (f : List (List ℕ)). Passed t at (i + 1) q most len f n' floor') (sym a)
       (subst (λ (m : ℕ). Passed t at (i + 1) q most len few m floor') (sym b)
       (record { long = h .long; floor-is = c ∙ h .floor-is; best = few-skip t at q most (h .best) e (h .floor-is) y }))
 
-  pub passed-taken : {few₁ few' : List (List ℕ)} {key r n' floor₁ floor' : ℕ} → 0 < len → (m : ℕ) → Apart t at m → i < m → taken q k most floor ≡ true → key ≡ topKey k → Inserted few n key i few₁ r → floor₁ ≡ fewFloor few₁ r
+  pub passed-taken : {few₁ few' : List (List ℕ)} {key r n' floor₁ floor' : ℕ} → 0 < len → (m : ℕ) → KeysApart t at m → i < m → takenKey q k most floor ≡ true → key ≡ topKey k → Inserted few n key i few₁ r → floor₁ ≡ fewFloor few₁ r
       → few' ≡ few₁ → n' ≡ r → floor' ≡ floor₁ → Passed t at (i + 1) q most len few' n' floor'
   passed-taken {few₁} {few'} {key} {r} {n'} {floor₁} {floor'} some m apart inside y s v g a b c =
       subst (λ (f : List (List ℕ)). Passed t at (i + 1) q most len f n' floor') (sym a)
@@ -357,7 +357,7 @@ module _ {t : List ℕ} {at i : ℕ} {q : Query} {most len : ℕ} {few : List (L
 
 -- ---- the spots of a node
 
-pub apart-first : {t : List ℕ} {at n : ℕ} (m : ℕ) → m ≤ n → Apart t at n → Apart t at m
+pub apart-first : {t : List ℕ} {at n : ℕ} (m : ℕ) → m ≤ n → KeysApart t at n → KeysApart t at m
 apart-first m l h = record { differ = λ i j x y. h .differ i j x (omega arith) }
 
 pub one-first : {t : List ℕ} {at n k : ℕ} → k ≡ keyAt t at → OneOf t at n k

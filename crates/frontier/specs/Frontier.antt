@@ -72,14 +72,14 @@ pub record Slot : Type 0 where
   pub span : Span
   pub path : Path
 
--- the root's
+-- the root's; nothing is gathered along the way
 abbrev pub rootSlot : List ℕ → Slot
 rootSlot t =
     record {
       block = headOf t .root;
       level = headOf t .levels - 1;
       span = record { lo = 0; hi = 0; endless = true };
-      path = record { n = 0; blocks = [] };
+      path = record { n = 0; blocks = []; lo = 0; last = 0; waits = 0 };
     }
 
 -- the i-th child's
@@ -89,12 +89,12 @@ childSlot t s i =
       block = kidEntry t (s .block) i .block;
       level = s .level - 1;
       span = kidSpan t (s .block) (s .span) i;
-      path = record { n = s .path .n + 1; blocks = above (s .path) ++ (s .block ∷ []) };
+      path = record { n = s .path .n + 1; blocks = above (s .path) ++ (s .block ∷ []); lo = 0; last = 0; waits = 0 };
     }
 
 -- a slot without the nodes above it, as code has it by value
-abbrev pub placeOf : Slot → Place
-placeOf s = record { block = s .block; level = s .level; span = s .span }
+abbrev pub slotPlace : Slot → Place
+slotPlace s = record { block = s .block; level = s .level; span = s .span }
 
 abbrev pub kidPlace : List ℕ → Place → ℕ → Place
 kidPlace t p i = record { block = kidEntry t (p .block) i .block; level = p .level - 1; span = kidSpan t (p .block) (p .span) i }

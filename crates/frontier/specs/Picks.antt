@@ -118,7 +118,7 @@ abbrev pub keyBy : List ℕ → ℕ → ℕ → ℕ
 keyBy t at j = topKey (keyAt t (at + 12 * j))
 
 -- the first n spots have different keys
-pub record Apart (t : List ℕ) (at n : ℕ) : Type 0 where
+pub record KeysApart (t : List ℕ) (at n : ℕ) : Type 0 where
   pub differ : (i j : ℕ) → i < j → j < n → keyBy t at i ≡ keyBy t at j → ⊥
 
 -- k is the key of one of the first n spots, where there are any
@@ -158,8 +158,8 @@ abbrev pub fewFloor : List (List ℕ) → ℕ → ℕ
 fewFloor few n = cond (ltb n (length few)) 0 (fewKey few (n - 1))
 
 -- the spot with the key k is not under the floor, not over the limit, and wanted
-abbrev pub taken : Query → ℕ → ℕ → ℕ → Bool
-taken q k most floor = leb floor (topKey k) && (leb (topKey k) most && wantsKey q k)
+abbrev pub takenKey : Query → ℕ → ℕ → ℕ → Bool
+takenKey q k most floor = leb floor (topKey k) && (leb (topKey k) most && wantsKey q k)
 
 -- the indices in k rows from row l on
 abbrev pub indices : List (List ℕ) → ℕ → ℕ → List ℕ

@@ -12,8 +12,8 @@ ghost use Rattle.block.specs.Table.{tableSized};
 ghost use Rattle.block.specs.Node.{storeOf};
 ghost use Rattle.block.specs.NodeRules.{ValidBlock};
 ghost use Rattle.visit.specs.Visit.{waiting, waitingAbove};
-ghost use Rattle.frontier.specs.Frontier.{kidCount, kidKey, kidPlace, KidIs, rootSlot, placeOf, slotBy, Hangs};
-ghost use Rattle.frontier.specs.Picks.{spotsAt, spotCount, spotBy, wantedIn, foundIn, Laddered, PickedUnder, Wished, Unwaited, Apart, OneOf, Few, Inserted, fewFloor, taken, Packable, FirstOf, KidBest};
+ghost use Rattle.frontier.specs.Frontier.{kidCount, kidKey, kidPlace, KidIs, rootSlot, slotPlace, slotBy, Hangs};
+ghost use Rattle.frontier.specs.Picks.{spotsAt, spotCount, spotBy, wantedIn, foundIn, Laddered, PickedUnder, Wished, Unwaited, KeysApart, OneOf, Few, Inserted, fewFloor, takenKey, Packable, FirstOf, KidBest};
 
 // A node that was read: its block and level, and its range.
 pub struct Place {
@@ -106,7 +106,7 @@ pub fn best_kid(t: &[u8], b: usize, span: visit::Span, q: spot::Query, most: u64
 // The root's place.
 pub fn root_place(t: &[u8]) -> Place
     requires { ⌜ (tableSized (length (now t)) ≡ true) × (headerOk (length (now t)) (headOf (now t)) ≡ true) ⌝ }
-    ensures { λ r. ⌜ r ≡ placeOf (rootSlot (now (t .entry))) ⌝ }
+    ensures { λ r. ⌜ r ≡ slotPlace (rootSlot (now (t .entry))) ⌝ }
 {
     let block = block::root_of(t);
     let level = block::levels_of(t) - 1;
@@ -138,7 +138,7 @@ pub fn kid_place(t: &[u8], p: Place, i: usize) -> Place
 // The place of slot i: its parent's is asked for first, a level higher each time.
 pub fn place_at(t: &[u8], rows: &[[u16; 2]], i: usize) -> Place
     requires { ⌜ Hangs (now t) (now rows) i ⌝ }
-    ensures { λ r. ⌜ r ≡ placeOf (slotBy (now (t .entry)) (now (rows .entry)) i) ⌝ }
+    ensures { λ r. ⌜ r ≡ slotPlace (slotBy (now (t .entry)) (now (rows .entry)) i) ⌝ }
 {
     if i == 0 {
         return root_place(t);
@@ -195,7 +195,7 @@ pub fn spot_by(t: &[u8], b: usize, j: usize) -> spot::Spot
 
 // The spot with the key k is not under the floor, not over the limit, and wanted. Most are turned away by the first two questions.
 fn is_taken(q: spot::Query, k: u64, most: u64, floor: u64) -> bool
-    ensures { λ r. ⌜ r ≡ taken q k most floor ⌝ }
+    ensures { λ r. ⌜ r ≡ takenKey q k most floor ⌝ }
 {
     let key = spot::top_key(k);
     if key < floor {
@@ -251,7 +251,7 @@ fn run_few(
     few: &mut [[u64; 2]],
     m: usize,
 ) -> usize
-    requires { ⌜ (0 < length (now few)) × (from ≤ to) × (to ≤ 128) × (at + 12 * to ≤ length (now t)) × Apart (now t) at to × Few (now t) at from q most (now few) m ⌝ }
+    requires { ⌜ (0 < length (now few)) × (from ≤ to) × (to ≤ 128) × (at + 12 * to ≤ length (now t)) × KeysApart (now t) at to × Few (now t) at from q most (now few) m ⌝ }
     ensures { λ r. ⌜ Few (now (t .entry)) at to q most (now (few .exit)) r ⌝ }
 {
     let mut n = m;

@@ -1,68 +1,34 @@
-// The plain list: 4,784 slots, each with a spot or, where its track is 2^32, with none. It is searched from the first slot on.
+// The plain list: 4,784 slots, searched from the first one on. Slot i has an identity at i and a track at 4784 + i, or, where that is 2^32, no spot. An identity is one
+// number, the place before the rank, each moved up by 2^31, so that numbers compare as in place order.
+ghost use Prim.Native.Nat.{_≤_};
 
 pub const SLOTS: usize = 4784;
 
 pub const NONE: u64 = 4294967296;
 
-// A before b in the order that compares first numbers, then second ones.
-pub fn before(a1: i32, a2: i32, b1: i32, b2: i32) -> bool {
-    if a1 == b1 {
-        return a2 < b2;
-    }
-    a1 < b1
+pub fn place_of(id: u64) -> i32 {
+    spot::unbias(id / 4294967296)
 }
 
-// A before b in the order of Top's answers: the higher rank first, of equal ranks the lower place.
-pub fn top_before(a_place: i32, a_rank: i32, b_place: i32, b_rank: i32) -> bool {
-    if a_rank == b_rank {
-        return a_place < b_place;
-    }
-    b_rank < a_rank
+pub fn rank_of(id: u64) -> i32 {
+    spot::unbias(id % 4294967296)
 }
 
-pub fn clear(tracks: &mut [u64; 4784]) {
-    let mut i = 0;
-    while i < SLOTS {
-        tracks[i] = NONE;
-        i += 1;
+// Whether a comes before b in the order of Top's answers: the higher rank first, of equal ranks the lower place.
+pub fn top_before(a: u64, b: u64) -> bool {
+    let rank = rank_of(a);
+    let other = rank_of(b);
+    if rank == other {
+        return a < b;
     }
+    other < rank
 }
 
 // The slot of an identity, or 4,784.
-pub fn find(
-    places: &[i32; 4784],
-    ranks: &[i32; 4784],
-    tracks: &[u64; 4784],
-    place: i32,
-    rank: i32,
-) -> usize {
+pub fn find(list: &[u64; 9568], id: u64) -> usize {
     let mut i = 0;
     while i < SLOTS {
-        if (tracks[i] != NONE) & (places[i] == place) & (ranks[i] == rank) {
-            return i;
-        }
-        i += 1;
-    }
-    i
-}
-
-// The first slot without a spot, or 4,784.
-fn vacant(tracks: &[u64; 4784]) -> usize {
-    let mut i = 0;
-    while i < SLOTS {
-        if tracks[i] == NONE {
-            return i;
-        }
-        i += 1;
-    }
-    i
-}
-
-// The first slot from `start` on with a spot, or 4,784.
-pub fn present(tracks: &[u64; 4784], start: usize) -> usize {
-    let mut i = start;
-    while i < SLOTS {
-        if tracks[i] != NONE {
+        if (list[i] == id) & (list[SLOTS + i] != NONE) {
             return i;
         }
         i += 1;
@@ -70,96 +36,104 @@ pub fn present(tracks: &[u64; 4784], start: usize) -> usize {
     SLOTS
 }
 
-fn live(tracks: &[u64; 4784]) -> u64 {
-    let mut n = 0;
-    let mut i = 0;
+// The first slot from `start` on that has a spot, or that has none; or 4,784.
+pub fn first(list: &[u64; 9568], start: usize, held: bool) -> usize {
+    let mut i = start;
     while i < SLOTS {
-        if tracks[i] != NONE {
-            n = std::num::wrapping_add_u64(n, 1);
+        if (list[SLOTS + i] != NONE) == held {
+            return i;
         }
         i += 1;
     }
-    n
-}
-
-// Puts a spot in and returns the call's number.
-pub fn add(
-    places: &mut [i32; 4784],
-    ranks: &mut [i32; 4784],
-    tracks: &mut [u64; 4784],
-    capacity: u64,
-    place: i32,
-    rank: i32,
-    track: u32,
-) -> u32 {
-    let old = find(places, ranks, tracks, place, rank);
-    if old < SLOTS {
-        tracks[old] = track as u64;
-        return 0;
-    }
-    if capacity <= live(tracks) {
-        return 4;
-    }
-    let new = vacant(tracks);
-    if new < SLOTS {
-        places[new] = place;
-        ranks[new] = rank;
-        tracks[new] = track as u64;
-    }
-    0
-}
-
-pub fn withdraw(
-    places: &[i32; 4784],
-    ranks: &[i32; 4784],
-    tracks: &mut [u64; 4784],
-    place: i32,
-    rank: i32,
-) {
-    let old = find(places, ranks, tracks, place, rank);
-    if old < SLOTS {
-        tracks[old] = NONE;
-    }
+    SLOTS
 }
 
 // The slot of the highest spot in rank order, or 4,784.
-pub fn highest(places: &[i32; 4784], ranks: &[i32; 4784], tracks: &[u64; 4784]) -> usize {
+pub fn highest(list: &[u64; 9568]) -> usize {
     let mut best = SLOTS;
-    let mut rank = 0;
-    let mut place = 0;
+    let mut key = 0;
     let mut i = 0;
     while i < SLOTS {
-        if (tracks[i] != NONE) & ((best == SLOTS) | before(rank, place, ranks[i], places[i])) {
+        let k = spot::rank_key(list[i]);
+        if (list[SLOTS + i] != NONE) & (key <= k) {
             best = i;
-            rank = ranks[i];
-            place = places[i];
+            key = k;
         }
         i += 1;
     }
     best
 }
 
-// How many spots have a place from x1 to x2 and do not come behind (place, rank) in the order of Top's answers.
-pub fn count(
-    places: &[i32; 4784],
-    ranks: &[i32; 4784],
-    tracks: &[u64; 4784],
-    x1: i32,
-    x2: i32,
-    place: i32,
-    rank: i32,
-) -> u64 {
+// Whether a slot has a spot with a place from x1 to x2 that does not come behind `last` in the order of Top's answers.
+fn counts(id: u64, track: u64, x1: i32, x2: i32, last: u64) -> bool {
+    let place = place_of(id);
+    (track != NONE) & (x1 <= place) & (place <= x2) & !top_before(last, id)
+}
+
+// The number of such spots.
+pub fn count(list: &[u64; 9568], x1: i32, x2: i32, last: u64) -> u64 {
     let mut n = 0;
     let mut i = 0;
     while i < SLOTS {
-        if (tracks[i] != NONE)
-            & (x1 <= places[i])
-            & (places[i] <= x2)
-            & !top_before(place, rank, places[i], ranks[i])
-        {
-            n = std::num::wrapping_add_u64(n, 1);
-        }
+        let counted = counts(list[i], list[SLOTS + i], x1, x2, last);
+        n = std::num::wrapping_add_u64(n, counted as u64);
         i += 1;
     }
     n
+}
+
+// The number of spots with a place from x1 to x2 and a rank of at least y.
+pub fn report_count(list: &[u64; 9568], x1: i32, x2: i32, y: i32) -> u64 {
+    count(list, x1, x2, spot::key_of(2147483647, y))
+}
+
+pub fn live(list: &[u64; 9568]) -> u64 {
+    report_count(list, -2147483648, 2147483647, -2147483648)
+}
+
+// A step that is taken, else 0.
+fn taken(step: u64, b: bool) -> u64
+    ensures { λ r. ⌜ r ≤ step ⌝ }
+{
+    if b {
+        return step;
+    }
+    0
+}
+
+// The rank of the last of the k spots that Top gives, where there are k from place x1 to x2, else the least rank: the highest rank from which on k are found.
+pub fn last_rank(list: &[u64; 9568], x1: i32, x2: i32, k: u64) -> i32 {
+    let mut low = 0;
+    let mut step = 2147483648;
+    while 0 < step {
+        let found = report_count(list, x1, x2, spot::unbias(low + step));
+        low += taken(step, k <= found);
+        step /= 2;
+    }
+    spot::unbias(low)
+}
+
+fn put(list: &mut [u64; 9568], slot: usize, id: u64, track: u64) {
+    if slot < SLOTS {
+        list[slot] = id;
+        list[SLOTS + slot] = track;
+    }
+}
+
+// Puts a spot in and returns the call's number.
+pub fn add(list: &mut [u64; 9568], capacity: u64, id: u64, track: u64) -> u32 {
+    let old = find(list, id);
+    if old < SLOTS {
+        put(list, old, id, track);
+        return 0;
+    }
+    if capacity <= live(list) {
+        return 4;
+    }
+    put(list, first(list, 0, false), id, track);
+    0
+}
+
+pub fn withdraw(list: &mut [u64; 9568], id: u64) {
+    put(list, find(list, id), id, NONE);
 }

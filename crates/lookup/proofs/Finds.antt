@@ -28,7 +28,7 @@ use Rattle.visit.proofs.Counts.{spot-key}
 use Rattle.visit.proofs.Runs.{Runs}
 use Rattle.visit.proofs.Search.{run-has-none, run-has}
 use Rattle.lookup.specs.declared.Found.{Found}
-use Rattle.lookup.specs.Words.{foundIn}
+use Rattle.lookup.specs.Words.{trackFound}
 
 -- ---- a range
 
@@ -89,7 +89,7 @@ module _ (t : List ℕ) (b : ℕ) (h : Front) (r : Runs t b h) (k : ℕ) where
   pub deletes-has : {x : ℕ} {d : Bool} → x ≡ deletesFrom version1 (h .c) (h .p) (h .i) → d ≡ has k (keysFrom t 8 (h .d) (b * 2048 + x)) → d ≡ has k (storeOf t b .deletes)
   deletes-has e g = g ∙ ap (λ (x : ℕ). has k (keysFrom t 8 (h .d) (b * 2048 + x))) e ∙ ap (has k) (r .deletes)
 
-module _ (n : Node) (k : ℕ) (p : Found) (e : foundIn p ≡ find k (n .points)) (below : Option ℕ) where
+module _ (n : Node) (k : ℕ) (p : Found) (e : trackFound p ≡ find k (n .points)) (below : Option ℕ) where
   -- what I and D say
   abbrev changes : Option ℕ
   changes = orElse (find k (n .inserts)) (cond (has k (n .deletes)) none below)
@@ -100,9 +100,9 @@ module _ (n : Node) (k : ℕ) (p : Found) (e : foundIn p ≡ find k (n .points))
   pub word-point : p .there ≡ true → nodeWord n k below ≡ some (p .track)
   word-point y = point-is y
 
-  pub word-change : p .there ≡ false → (s : Found) (d : Bool) → foundIn s ≡ find k (n .inserts) → d ≡ has k (n .deletes)
+  pub word-change : p .there ≡ false → (s : Found) (d : Bool) → trackFound s ≡ find k (n .inserts) → d ≡ has k (n .deletes)
       → nodeWord n k below ≡ cond (s .there) (some (s .track)) (cond d none below)
   word-change y s d f g =
       point-is y ∙ ap (λ (o : Option ℕ). orElse o (cond (has k (n .deletes)) none below)) (sym f)
-      ∙ ap (λ (z : Bool). orElse (foundIn s) (cond z none below)) (sym g)
+      ∙ ap (λ (z : Bool). orElse (trackFound s) (cond z none below)) (sym g)
       ∙ sym (else-cond (s .there) (s .track) none (cond d none below))

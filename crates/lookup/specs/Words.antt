@@ -16,8 +16,8 @@ use Rattle.lookup.specs.declared.Looked.{Looked}
 use Rattle.lookup.specs.declared.Looked.the-variants.{Broken}
 use Rattle.lookup.specs.Answers.{told, pathOk}
 
-abbrev pub foundIn : Found → Option ℕ
-foundIn f = cond (f .there) (some (f .track)) none
+abbrev pub trackFound : Found → Option ℕ
+trackFound f = cond (f .there) (some (f .track)) none
 
 -- a node's word, where `below` is what is said below it
 abbrev pub wordIn : Word → Option ℕ → Option ℕ

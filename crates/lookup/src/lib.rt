@@ -11,7 +11,7 @@ ghost use Rattle.block.specs.Node.{storeOf};
 ghost use Rattle.block.specs.NodeRules.{ValidBlock};
 ghost use Rattle.visit.specs.Visit.{endOf, partOf, keysFrom};
 ghost use Rattle.lookup.specs.Answers.{LookupPost};
-ghost use Rattle.lookup.specs.Words.{foundIn, Speaks, Lookable, lookedIn};
+ghost use Rattle.lookup.specs.Words.{trackFound, Speaks, Lookable, lookedIn};
 
 pub enum Looked {
     Live(u32),
@@ -35,7 +35,7 @@ pub struct Word {
 // The spot of k among the n rising ones from at on.
 fn find_run(t: &[u8], at: usize, n: usize, k: u64) -> Found
     requires { ⌜ (n ≤ 64) × (at + 12 * n ≤ length (now t)) × (rising (keysFrom (now t) 12 n at) ≡ true) ⌝ }
-    ensures { λ r. ⌜ foundIn r ≡ find k (records (spotAt (now (t .entry))) 12 n at) ⌝ }
+    ensures { λ r. ⌜ trackFound r ≡ find k (records (spotAt (now (t .entry))) 12 n at) ⌝ }
 {
     let i = visit::below(t, at, spot::SPOT_BYTES, n, k);
     if n <= i {

@@ -1,11 +1,12 @@
 -- The spots of a table whose walk is whole, collected at the front of an output.
 -- Assumes nothing.
-use mathlib.Core.Path.{_≡_, refl, ap, sym, _∙_}
-use mathlib.Core.Bool.{Bool, true, false, cond, _&&_, true≢false}
+use mathlib.Core.Path.{_≡_, refl, ap, sym, subst, _∙_}
+use mathlib.Core.Bool.{Bool, true, false, cond, _&&_, true≢false, false≢true}
 use mathlib.Core.List.{List, [], _++_}
 use Prim.Native.Nat.{ℕ, suc, _+_, _-_, _*_, _≤_, _<_}
 use native.Mathlib.Omega.{arith}
 use lib.ListN.{length, getD, drop, take-append-drop}
+use borrow.Author.Tests.{not-true}
 use Rattle.octets.specs.Lists.{distinct}
 use Rattle.octets.proofs.Tests.{and-left, and-right}
 use Rattle.spot.specs.Keys.{allKeys}
@@ -26,7 +27,8 @@ use Rattle.visit.specs.declared.Span.{Span}
 use Rattle.visit.specs.declared.Path.{Path}
 use Rattle.visit.specs.Visit.{above, namedAbove, endOf, partOf}
 use Rattle.visit.proofs.Above.{above-root}
-use Rattle.query.specs.Walks.{Collected, Collectable}
+use Rattle.query.specs.declared.Sum.{Sum}
+use Rattle.query.specs.Walks.{Collected, Collectable, HeldFront, TableCounted, TableHeld}
 use Rattle.visit.proofs.Roots.{root-low, levels-few, levels-are, root-part}
 
 whole-by : (b : Bool) (w : Walk) → isBroken (cond b w broken) ≡ false → b ≡ true
@@ -108,3 +110,28 @@ module _ (t : List ℕ) (q : Query) (h : isBroken (walkTable t q) ≡ false) whe
             ∙ ap (λ (x : List ℕ). spotsBytes (spots (walkTable t q)) ++ x) (c .rest),
         c .spots ∙ gained,
       )
+
+-- ---- the buffer of a walk from the root
+
+module _ {t : List ℕ} {q : Query} {out out' : List ℕ} where
+  pub table-none : {r : Sum} → length out' ≡ length out → r .ok ≡ false → TableHeld t q out out' r
+  table-none l f = record { sized = l; front = λ h. absurd (false≢true (sym f ∙ h)) }
+
+  pub table-held : {map' : List ℕ} {root level : ℕ} {y r all : Sum} (span : Span) (path : Path) → root ≡ headOf t .root → level ≡ headOf t .levels → span .lo ≡ 0 → endOf span ≡ allKeys
+      → path .n ≡ 0 → above path ≡ [] → ((k : ℕ) → getD out' k 0 < 256) → y .tally .spots ≡ 0
+      → HeldFront out out' (gains (suc (level - 1)) (storeOf t) q (namedAbove t path) (partOf root (Root root) span) (spotsIn out (y .tally .spots))) y r
+      → r .ok ≡ true → all .tally .spots ≡ r .tally .spots + 0 → TableCounted t q map' all → TableHeld t q out out' all
+  table-held {map'} {root} {level} {y} {r} {all} span path p l lo hi n none bytes z h o e c =
+      record {
+        sized = h .sized;
+        front = λ k room.
+            let same : r .tally .spots ≡ all .tally .spots = omega (arith, e) in
+            let f = subst (λ (j : ℕ). Collected out out' j (gains (suc (level - 1)) (storeOf t) q (namedAbove t path) (partOf root (Root root) span) (spotsIn out j)) (r .tally .spots)) z
+            (h .front o (omega (arith, e))) in
+            root-collected t q (not-true _ (sym (c .ok) ∙ k)) span path p l lo hi n none out (omega (arith, c .spots k)) bytes f .1
+            ∙ ap (λ (j : ℕ). spotsBytes (spots (walkTable t q)) ++ drop (12 * j) out) same;
+      }
+
+-- a query that the code has made
+pub held-as : {t out out' : List ℕ} {p q : Query} {r : Sum} → q ≡ p → TableHeld t q out out' r → TableHeld t p out out' r
+held-as {t} {out} {out'} {p} {q} {r} e = subst (λ (x : Query). TableHeld t x out out' r) e

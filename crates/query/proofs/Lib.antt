@@ -8,4 +8,5 @@ pub mod Threads
 pub mod Counting
 pub mod Whole
 pub mod Pouring
+pub mod Holding
 pub mod Gathered

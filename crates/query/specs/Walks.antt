@@ -1,14 +1,14 @@
 -- What the functions of a walk are handed and hand back.
 -- Assumes nothing.
 use mathlib.Core.Path.{_≡_}
-use Prim.Native.Nat.{ℕ, suc, _+_, _*_, _≤_, _<_}
+use Prim.Native.Nat.{ℕ, suc, _+_, _*_, _^_, _≤_, _<_}
 use mathlib.Core.Bool.{Bool, true, not, _&&_}
-use mathlib.Core.List.{List, [], _∷_}
+use mathlib.Core.List.{List, [], _∷_, _++_}
 use lib.ListN.{length, drop}
 use lib.Dec.{leb}
 use Rattle.octets.specs.Lists.{rising}
 use Rattle.octets.specs.Bitmap.{bit, setBit, onesBelow}
-use Rattle.spot.specs.Spots.{keys, spotsIn}
+use Rattle.spot.specs.Spots.{keys, putAll, spotsBytes, spotsIn}
 use Rattle.spot.specs.declared.Spot.{Spot}
 use Rattle.spot.specs.declared.Query.{Query}
 use Rattle.block.specs.declared.Asked.{Asked}
@@ -19,7 +19,7 @@ use Rattle.tree.specs.Part.{Part}
 use Rattle.tree.specs.Walk.{finds, walkTable, isBroken, spots, blocksRead}
 use Rattle.tree.specs.Trace.{obeys, visits, tally, unseen, marked}
 use Rattle.tree.specs.ReadMap.{readMap, ones}
-use Rattle.visit.specs.Visit.{partOf, namedAbove, taken, keysFrom, ceiling, ValidPath, Ancestors}
+use Rattle.visit.specs.Visit.{partOf, namedAbove, keysFrom, ceiling, ValidPath, Ancestors}
 use Rattle.visit.specs.declared.Span.{Span}
 use Rattle.visit.specs.declared.Path.{Path}
 use Rattle.tally.specs.declared.Tally.{Tally}
@@ -59,6 +59,21 @@ pub record Collected (out out′ : List ℕ) (n : ℕ) (after : List Spot) (r : 
   pub sized : length out′ ≡ length out
   pub order : ascends 0 (keys after) ≡ true
 
+-- the first n spots of a buffer are in place order, if so many fit
+abbrev pub OrderedFront : List ℕ → ℕ → Type 0
+OrderedFront out n = 12 * n ≤ length out → ascends 0 (keys (spotsIn out n)) ≡ true
+
+-- r spots are found; if they fit, they are put among the first m of the output
+pub record GatheredFront (out out′ : List ℕ) (m : ℕ) (found : List Spot) (r : ℕ) : Type 0 where
+  pub count : r ≡ length found
+  pub sized : length out′ ≡ length out
+  pub front : 12 * (m + r) ≤ length out → Collected out out′ m (putAll found (spotsIn out m)) (m + r)
+
+-- the buffer of a walk: if the walk is whole and its spots fit, they are at the front
+pub record HeldFront (out out′ : List ℕ) (after : List Spot) (y r : Sum) : Type 0 where
+  pub sized : length out′ ≡ length out
+  pub front : r .ok ≡ true → 12 * r .tally .spots ≤ length out → Collected out out′ (y .tally .spots) after (r .tally .spots)
+
 -- what a walk is handed: a block of the table, a map of its blocks, the nodes above, and the walk so far
 pub record Walkable (t map : List ℕ) (b level : ℕ) (asked : Asked) (path : Path) (y : Sum) : Type 0 where
   pub inside : b < blocksOf (length t)
@@ -66,17 +81,16 @@ pub record Walkable (t map : List ℕ) (b level : ℕ) (asked : Asked) (path : P
   pub mapped : length map ≡ 512
   pub deep : path .n + level ≤ 6
   pub ancestors : Ancestors t path (ceiling asked)
-  pub whole : y .ok ≡ true
   pub tallied : Tallied map (y .tally)
 
--- a run of spots that rise may be merged into the first m spots of the output
+-- a run of spots that rise may be merged into the first m spots of the output, if it fits
 pub record Mergeable (t out : List ℕ) (at n : ℕ) (q : Query) (p : Path) (m : ℕ) : Type 0 where
   pub few : n ≤ 64
   pub inside : at + 12 * n ≤ length t
   pub path : ValidPath t p
   pub rises : rising (keysFrom t 12 n at) ≡ true
-  pub order : ascends 0 (keys (spotsIn out m)) ≡ true
-  pub room : 12 * (m + length (taken t at n q p)) ≤ length out
+  pub order : OrderedFront out m
+  pub small : m + n < 2 ^ 64
 
 -- a part whose walk is known to be whole, and an output with room for what it finds
 pub record Collectable (t out : List ℕ) (b level : ℕ) (span : Span) (q : Query) (path : Path) (m : ℕ) : Type 0 where
@@ -98,3 +112,8 @@ pub record TableCounted (t : List ℕ) (q : Query) (map′ : List ℕ) (r : Sum)
   pub blocks : r .ok ≡ true → r .tally .blocks ≡ ones map′
   pub few : r .tally .spots ≤ 524288
   pub marks : r .ok ≡ true → map′ ≡ readMap (blocksRead (walkTable t q))
+
+-- and if it is whole and its spots fit into the buffer, they are at the front, and the rest is as it was
+pub record TableHeld (t : List ℕ) (q : Query) (out out′ : List ℕ) (r : Sum) : Type 0 where
+  pub sized : length out′ ≡ length out
+  pub front : r .ok ≡ true → 12 * r .tally .spots ≤ length out → out′ ≡ spotsBytes (spots (walkTable t q)) ++ drop (12 * r .tally .spots) out

@@ -22,7 +22,7 @@ use Rattle.tree.specs.Walk.{walkTable, liveSpots}
 use Rattle.tree.specs.Sound.{sound}
 use Rattle.tree.proofs.Tables.{live-walk}
 use Rattle.query.specs.declared.Sum.{Sum}
-use Rattle.rebuild.specs.Build.{Rebuilt}
+use Rattle.rebuild_theory.specs.Build.{Rebuilt}
 use Rattle.build.specs.Building.{Segment}
 use Rattle.renew.specs.Amended.{Amendable, Amended}
 use Rattle.renew.specs.Layable.{layable}

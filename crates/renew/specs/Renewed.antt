@@ -11,7 +11,7 @@ use Rattle.spot.specs.Spots.{spotsIn}
 use Rattle.spot.specs.declared.Spot.{Spot}
 use Rattle.tree.specs.Walk.{walkTable, liveSpots}
 use Rattle.query.specs.declared.Sum.{Sum}
-use Rattle.rebuild.specs.Build.{Rebuilt}
+use Rattle.rebuild_theory.specs.Build.{Rebuilt}
 use Rattle.renew.specs.Layable.{layable}
 
 -- r is ok exactly where the live spots can be laid out anew, and then they stand at the front of the scratch

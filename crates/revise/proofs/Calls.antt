@@ -13,6 +13,7 @@ use borrow.Author.Tests.{eqb-true, not-true}
 use Rattle.octets.specs.Lists.{has}
 use Rattle.octets.proofs.Tests.{or-either}
 use Rattle.spot.specs.Query.{everything}
+use Rattle.spot.specs.Spots.{without}
 use Rattle.spot.specs.declared.Spot.{Spot}
 use Rattle.block.specs.Table.{capacity}
 use Rattle.block.specs.Header.{headOf}
@@ -28,8 +29,8 @@ use Rattle.lookup.specs.declared.Looked.{Looked}
 use Rattle.lookup.specs.declared.Looked.the-variants.{Live, Nothing, Broken}
 use Rattle.lookup.proofs.Laws.{Says, looked-says, looked-whole}
 use Rattle.revise.specs.Numbers.{addNumber}
-use Rattle.revise.specs.Revising.{Lent, Leaves, Within, Revised}
-use Rattle.revise.proofs.Ends.{PutWithin, OutWithin}
+use Rattle.revise.specs.Revising.{Lent, Leaves, WithinPost, Revised}
+use Rattle.revise.proofs.Ends.{withSpot}
 use Rattle.revise.proofs.Counts.{count-most, put-new, put-same, out-one, add-room, add-live, add-full}
 
 -- nothing is touched
@@ -74,7 +75,7 @@ not-four n h e = ⊎-elim (λ (z : n ≡ 0). omega arith) (λ (z : n ≡ 3). ome
 pub revised-within : {t t′ w w′ : List ℕ} {bound m : ℕ} {after : ℕ → Option ℕ} {n : ℕ} (k due : ℕ) (outcomes : List ℕ) → (lookedUp t k ≡ Broken → ⊥)
     → has 0 outcomes ≡ true → has 3 outcomes ≡ true → (sound t ≡ true → due ≡ 0) → (sound t ≡ true → m ≤ bound)
     → (sound t ≡ true → headOf t .bound ≡ liveCount t → m ≡ bound)
-    → Within t t′ w w′ bound m after n → Revised t t′ w w′ k due outcomes after n
+    → WithinPost t t′ w w′ bound m after n → Revised t t′ w w′ k due outcomes after n
 revised-within {n = n} k due outcomes found a b d f x g =
     record {
       leaves = g .leaves;
@@ -128,6 +129,9 @@ addDue t s = addNumber (length t) (liveCount t) (isLive (live t (s .key)))
 
 abbrev Added : List ℕ → List ℕ → List ℕ → List ℕ → Spot → ℕ → Type 0
 Added t t′ w w′ s n = Revised t t′ w w′ (s .key) (addDue t s) (0 ∷ 3 ∷ 4 ∷ []) (withKey (s .key) (some (s .track)) (live t)) n
+
+abbrev PutWithin : List ℕ → List ℕ → List ℕ → List ℕ → Spot → ℕ → ℕ → Type 0
+PutWithin t t′ w w′ s bound n = WithinPost t t′ w w′ bound (length (withSpot s t)) (withKey (s .key) (some (s .track)) (live t)) n
 
 live-counted : (t : List ℕ) → length (spots (walkTable t everything)) ≡ liveCount t
 unfolding liveCount liveSpots
@@ -228,7 +232,8 @@ module _ (t w : List ℕ) (k : ℕ) where
       go false j h = refl
 
   -- the bound falls
-  pub drop-live : {t′ w′ : List ℕ} {n bound a : ℕ} → bound ≡ headOf t .bound → lookedUp t k ≡ Live a → OutWithin t t′ w w′ k (bound - 1) n → Dropped t t′ w w′ k n
+  pub drop-live : {t′ w′ : List ℕ} {n bound a : ℕ} → bound ≡ headOf t .bound → lookedUp t k ≡ Live a → WithinPost t t′ w w′ (bound - 1) (length (without k (liveSpots t))) (withKey k none (live t)) n
+      → Dropped t t′ w w′ k n
   drop-live {a = a} e l g =
       let there : live t k ≡ some a = found-live t k l in
       revised-within k 0 _ (live-whole t k l) refl refl (λ h. refl) (λ h. omega (arith, out-one t h k there, count-most t h))

@@ -33,7 +33,7 @@ pub record Leaves (t t′ w w′ : List ℕ) (number : ℕ) : Type 0 where
   pub light : sound t ≡ true → roomy (rootOf t) ≡ true → (b : ℕ) → (b ≡ 0 → ⊥) → (b ≡ headOf t .root → ⊥) → block t′ b ≡ block t b
 
 -- where the header keeps the rules and the bound was found: 0, or 3 where a rule is broken. On a sound table that the spots `spots` fit into, these are live then.
-pub record Within (t t′ w w′ : List ℕ) (bound spots : ℕ) (after : ℕ → Option ℕ) (number : ℕ) : Type 0 where
+pub record WithinPost (t t′ w w′ : List ℕ) (bound spots : ℕ) (after : ℕ → Option ℕ) (number : ℕ) : Type 0 where
   pub leaves : Leaves t t′ w w′ number
   pub numbers : has number (0 ∷ 3 ∷ []) ≡ true
   pub accepted : sound t ≡ true → spots ≤ bound → number ≡ 0

@@ -14,7 +14,7 @@ ghost use Rattle.tree.specs.Lookup.{live, isLive, withKey};
 ghost use Rattle.tree.specs.Walk.{liveSpots, liveCount};
 ghost use Rattle.lookup.specs.Answers.{lookedUp};
 ghost use Rattle.lookup.specs.declared.Looked.the-variants.{Nothing};
-ghost use Rattle.revise.specs.Revising.{Lent, Within, Revised};
+ghost use Rattle.revise.specs.Revising.{Lent, WithinPost, Revised};
 ghost use Rattle.revise.specs.Steps.{stepAfter};
 
 // What follows a change to the tree: the call answers with this number, or the live spots are laid out anew.
@@ -37,7 +37,7 @@ fn step_after(o: change::Outcome) -> Step
 // The spot put in, where the live spots are then no more than the bound.
 fn put_within(table: &mut [u8], scratch: &mut [u8], s: spot::Spot, bound: u64) -> u32
     requires { ⌜ Lent (now table) (now scratch) × (headerOk (length (now table)) (headOf (now table)) ≡ true) × (bound ≤ capacity (length (now table))) ⌝ }
-    ensures { λ r. ⌜ Within (now (table .entry)) (now (table .exit)) (now (scratch .entry)) (now (scratch .exit)) bound (length (put s (without (s .key) (liveSpots (now (table .entry)))))) (withKey (s .key) (some (s .track)) (live (now (table .entry)))) r ⌝ }
+    ensures { λ r. ⌜ WithinPost (now (table .entry)) (now (table .exit)) (now (scratch .entry)) (now (scratch .exit)) bound (length (put s (without (s .key) (liveSpots (now (table .entry)))))) (withKey (s .key) (some (s .track)) (live (now (table .entry)))) r ⌝ }
 {
     let one = buffer::push(buffer::empty(), s);
     let none = buffer::empty_keys();
@@ -94,7 +94,7 @@ pub fn put_spot(table: &mut [u8], scratch: &mut [u8], s: spot::Spot) -> u32
 // The spot of a key taken out, where the live spots are then no more than the bound.
 fn take_within(table: &mut [u8], scratch: &mut [u8], k: u64, bound: u64) -> u32
     requires { ⌜ Lent (now table) (now scratch) × (headerOk (length (now table)) (headOf (now table)) ≡ true) × (bound ≤ capacity (length (now table))) ⌝ }
-    ensures { λ r. ⌜ Within (now (table .entry)) (now (table .exit)) (now (scratch .entry)) (now (scratch .exit)) bound (length (without k (liveSpots (now (table .entry))))) (withKey k none (live (now (table .entry)))) r ⌝ }
+    ensures { λ r. ⌜ WithinPost (now (table .entry)) (now (table .exit)) (now (scratch .entry)) (now (scratch .exit)) bound (length (without k (liveSpots (now (table .entry))))) (withKey k none (live (now (table .entry)))) r ⌝ }
 {
     let none = buffer::empty();
     let one = buffer::push_key(buffer::empty_keys(), k);

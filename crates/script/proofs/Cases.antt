@@ -69,21 +69,35 @@ call-last (suc (suc (suc (suc (suc (suc (suc n))))))) a b c h0 h1 h2 h3 h4 h5 h6
 
 -- ---- events
 
-module _ (s : List ℕ) (bytes : (k : ℕ) → getD s k 0 < 256) (at : ℕ) where
+-- a row of the script as it was read: its number and its arguments, the first two signed
+pub record Row (s : List ℕ) (at n : ℕ) (x y : ℤ) (k : ℕ) : Type 0 where
+  pub bytes : (i : ℕ) → getD s i 0 < 256
+  pub number : n ≡ be 4 s at
+  pub first : x ≡ toZ w32 (be 4 s (at + 4))
+  pub second : y ≡ toZ w32 (be 4 s (at + 8))
+  pub third : k ≡ be 4 s (at + 12)
+
+module _ {s : List ℕ} {at n : ℕ} {x y : ℤ} {k : ℕ} (row : Row s at n x y k) where
   fit-at : argumentsFit (callAt s at) ≡ true
   unfolding callAt
   fit-at =
-      call-fits (be 4 s at) (be 4 s (at + 4)) (be 4 s (at + 8)) (be 4 s (at + 12)) (be-lt 4 s (at + 4) bytes) (be-lt 4 s (at + 8) bytes)
-      (be-lt 4 s (at + 12) bytes)
+      call-fits (be 4 s at) (be 4 s (at + 4)) (be 4 s (at + 8)) (be 4 s (at + 12)) (be-lt 4 s (at + 4) (row .bytes)) (be-lt 4 s (at + 8) (row .bytes))
+      (be-lt 4 s (at + 12) (row .bytes))
 
-  -- the number that stands there settles the call
-  numbered : (n : ℕ) (c : Call) → be 4 s at ≡ n → callOf n (be 4 s (at + 4)) (be 4 s (at + 8)) (be 4 s (at + 12)) ≡ c → callAt s at ≡ c
+  -- the number settles the call
+  numbered : (i : ℕ) (c : Call) → n ≡ i → callOf i (be 4 s (at + 4)) (be 4 s (at + 8)) (be 4 s (at + 12)) ≡ c → callAt s at ≡ c
   unfolding callAt
-  numbered n c e f = ap (λ (k : ℕ). callOf k (be 4 s (at + 4)) (be 4 s (at + 8)) (be 4 s (at + 12))) e ∙ f
+  numbered i c e f = ap (λ (j : ℕ). callOf j (be 4 s (at + 4)) (be 4 s (at + 8)) (be 4 s (at + 12))) (sym (row .number) ∙ e) ∙ f
 
   -- a signed argument that was read is the same when it is handed on
   read-back : (i : ℕ) (a : ℤ) → a ≡ toZ w32 (be 4 s i) → toZ w32 (be 4 s i) ≡ toZ w32 (ofZ w32 a)
-  read-back i a e = sym (ap (toZ w32) (ap (ofZ w32) e ∙ ofZ-toZ w32 (be 4 s i) (record { fits = be-lt 4 s i bytes })))
+  read-back i a e = sym (ap (toZ w32) (ap (ofZ w32) e ∙ ofZ-toZ w32 (be 4 s i) (record { fits = be-lt 4 s i (row .bytes) })))
+
+  first-back : toZ w32 (be 4 s (at + 4)) ≡ toZ w32 (ofZ w32 x)
+  first-back = read-back (at + 4) x (row .first)
+
+  second-back : toZ w32 (be 4 s (at + 8)) ≡ toZ w32 (ofZ w32 y)
+  second-back = read-back (at + 8) y (row .second)
 
   -- a call that is no query leaves output and map alone
   updated : (c : Call) (t w m out : List ℕ) (r : Answer) (t′ w′ : List ℕ) → callAt s at ≡ c → (takesScratch (kind c) ≡ false → w′ ≡ w)
@@ -109,61 +123,46 @@ module _ (s : List ℕ) (bytes : (k : ℕ) → getD s k 0 < 256) (at : ℕ) wher
       })
 
   module _ (t w m out : List ℕ) (r : Answer) where
-    pub made-format : (t′ : List ℕ) → be 4 s at ≡ 0 → FormatPost t r t′ → Called t (eventOf (callAt s at) w m out r t′ w m out)
+    pub made-format : (t′ : List ℕ) → n ≡ 0 → FormatPost t r t′ → Called t (eventOf (callAt s at) w m out r t′ w m out)
     unfolding callOf
     made-format t′ e p = updated format t w m out r t′ w (numbered 0 format e refl) (λ n. refl) (λ n. absurd (true≢false n)) p
 
-    pub made-add : (x y : ℤ) (k : ℕ) (t′ w′ : List ℕ) → be 4 s at ≡ 1 → x ≡ toZ w32 (be 4 s (at + 4)) → y ≡ toZ w32 (be 4 s (at + 8))
-        → k ≡ be 4 s (at + 12)
-        → AddPost (toZ w32 (ofZ w32 x)) (toZ w32 (ofZ w32 y)) k t w r t′ w′
-        → Called t (eventOf (callAt s at) w m out r t′ w′ m out)
+    pub made-add : (t′ w′ : List ℕ) → n ≡ 1 → AddPost (toZ w32 (ofZ w32 x)) (toZ w32 (ofZ w32 y)) k t w r t′ w′ → Called t (eventOf (callAt s at) w m out r t′ w′ m out)
     unfolding callOf
-    made-add x y k t′ w′ e ex ey ek p =
+    made-add t′ w′ e p =
         let c : Call = add (toZ w32 (ofZ w32 x)) (toZ w32 (ofZ w32 y)) k in
-        updated c t w m out r t′ w′ (numbered 1 c e (rw (read-back (at + 4) x ex, read-back (at + 8) y ey, ek))) (λ n. absurd (true≢false n)) (λ n. absurd (true≢false n)) p
+        updated c t w m out r t′ w′ (numbered 1 c e (rw (first-back, second-back, row .third))) (λ n. absurd (true≢false n)) (λ n. absurd (true≢false n)) p
 
-    pub made-withdraw : (x y : ℤ) (t′ w′ : List ℕ) → be 4 s at ≡ 2 → x ≡ toZ w32 (be 4 s (at + 4)) → y ≡ toZ w32 (be 4 s (at + 8))
-        → WithdrawPost (toZ w32 (ofZ w32 x)) (toZ w32 (ofZ w32 y)) t w r t′ w′
-        → Called t (eventOf (callAt s at) w m out r t′ w′ m out)
+    pub made-withdraw : (t′ w′ : List ℕ) → n ≡ 2 → WithdrawPost (toZ w32 (ofZ w32 x)) (toZ w32 (ofZ w32 y)) t w r t′ w′ → Called t (eventOf (callAt s at) w m out r t′ w′ m out)
     unfolding callOf
-    made-withdraw x y t′ w′ e ex ey p =
+    made-withdraw t′ w′ e p =
         let c : Call = withdraw (toZ w32 (ofZ w32 x)) (toZ w32 (ofZ w32 y)) in
-        updated c t w m out r t′ w′ (numbered 2 c e (rw (read-back (at + 4) x ex, read-back (at + 8) y ey))) (λ n. absurd (true≢false n)) (λ n. absurd (true≢false n)) p
+        updated c t w m out r t′ w′ (numbered 2 c e (rw (first-back, second-back))) (λ n. absurd (true≢false n)) (λ n. absurd (true≢false n)) p
 
-    pub made-report : (x1 x2 y : ℤ) (m′ out′ : List ℕ) → be 4 s at ≡ 3 → x1 ≡ toZ w32 (be 4 s (at + 4)) → x2 ≡ toZ w32 (be 4 s (at + 8))
-        → y ≡ toZ w32 (be 4 s (at + 12))
-        → ReportPost (toZ w32 (ofZ w32 x1)) (toZ w32 (ofZ w32 x2)) (toZ w32 (ofZ w32 y)) t out m r out′ m′
-        → Called t (eventOf (callAt s at) w m out r t w m′ out′)
+    pub made-report : (z : ℤ) (m′ out′ : List ℕ) → n ≡ 3 → z ≡ toZ w32 (be 4 s (at + 12))
+        → ReportPost (toZ w32 (ofZ w32 x)) (toZ w32 (ofZ w32 y)) (toZ w32 (ofZ w32 z)) t out m r out′ m′ → Called t (eventOf (callAt s at) w m out r t w m′ out′)
     unfolding callOf
-    made-report x1 x2 y m′ out′ e e1 e2 ey p =
-        let c : Call = report (toZ w32 (ofZ w32 x1)) (toZ w32 (ofZ w32 x2)) (toZ w32 (ofZ w32 y)) in
-        asked c t w m out r m′ out′ (numbered 3 c e (rw (read-back (at + 4) x1 e1, read-back (at + 8) x2 e2, read-back (at + 12) y ey))) refl p
+    made-report z m′ out′ e ez p =
+        let c : Call = report (toZ w32 (ofZ w32 x)) (toZ w32 (ofZ w32 y)) (toZ w32 (ofZ w32 z)) in
+        asked c t w m out r m′ out′ (numbered 3 c e (rw (first-back, second-back, read-back (at + 12) z ez))) refl p
 
-    pub made-top : (x1 x2 : ℤ) (k : ℕ) (m′ out′ : List ℕ) → be 4 s at ≡ 4 → x1 ≡ toZ w32 (be 4 s (at + 4)) → x2 ≡ toZ w32 (be 4 s (at + 8))
-        → k ≡ be 4 s (at + 12)
-        → TopPost (toZ w32 (ofZ w32 x1)) (toZ w32 (ofZ w32 x2)) k t out m r out′ m′
-        → Called t (eventOf (callAt s at) w m out r t w m′ out′)
+    pub made-top : (m′ out′ : List ℕ) → n ≡ 4 → TopPost (toZ w32 (ofZ w32 x)) (toZ w32 (ofZ w32 y)) k t out m r out′ m′ → Called t (eventOf (callAt s at) w m out r t w m′ out′)
     unfolding callOf
-    made-top x1 x2 k m′ out′ e e1 e2 ek p =
-        let c : Call = top (toZ w32 (ofZ w32 x1)) (toZ w32 (ofZ w32 x2)) k in
-        asked c t w m out r m′ out′ (numbered 4 c e (rw (read-back (at + 4) x1 e1, read-back (at + 8) x2 e2, ek))) refl p
+    made-top m′ out′ e p =
+        let c : Call = top (toZ w32 (ofZ w32 x)) (toZ w32 (ofZ w32 y)) k in
+        asked c t w m out r m′ out′ (numbered 4 c e (rw (first-back, second-back, row .third))) refl p
 
-    pub made-count : be 4 s at ≡ 5 → CountPost t r → Called t (eventOf (callAt s at) w m out r t w m out)
+    pub made-count : n ≡ 5 → CountPost t r → Called t (eventOf (callAt s at) w m out r t w m out)
     unfolding callOf
     made-count e p = updated count t w m out r t w (numbered 5 count e refl) (λ n. refl) (λ n. refl) p
 
-    pub made-check : be 4 s at ≡ 6 → CheckPost t r → Called t (eventOf (callAt s at) w m out r t w m out)
+    pub made-check : n ≡ 6 → CheckPost t r → Called t (eventOf (callAt s at) w m out r t w m out)
     unfolding callOf
     made-check e p = updated check t w m out r t w (numbered 6 check e refl) (λ n. refl) (λ n. refl) p
 
-    pub made-rebuild : (t′ w′ : List ℕ) (n : ℕ) → n ≡ be 4 s at → (n ≡ 0 → ⊥) → (n ≡ 1 → ⊥) → (n ≡ 2 → ⊥) → (n ≡ 3 → ⊥) → (n ≡ 4 → ⊥)
-        → (n ≡ 5 → ⊥)
-        → (n ≡ 6 → ⊥)
-        → RebuildPost t w r t′ w′
-        → Called t (eventOf (callAt s at) w m out r t′ w′ m out)
-    made-rebuild t′ w′ n e h0 h1 h2 h3 h4 h5 h6 p =
+    pub made-rebuild : (t′ w′ : List ℕ) → (n ≡ 0 → ⊥) → (n ≡ 1 → ⊥) → (n ≡ 2 → ⊥) → (n ≡ 3 → ⊥) → (n ≡ 4 → ⊥) → (n ≡ 5 → ⊥) → (n ≡ 6 → ⊥)
+        → RebuildPost t w r t′ w′ → Called t (eventOf (callAt s at) w m out r t′ w′ m out)
+    made-rebuild t′ w′ h0 h1 h2 h3 h4 h5 h6 p =
         updated rebuild t w m out r t′ w′
-        (numbered n rebuild (sym e) (call-last n (be 4 s (at + 4)) (be 4 s (at + 8)) (be 4 s (at + 12)) h0 h1 h2 h3 h4 h5 h6))
-        (λ n. absurd (true≢false n))
-        (λ n. absurd (true≢false n))
-        p
+        (numbered n rebuild refl (call-last n (be 4 s (at + 4)) (be 4 s (at + 8)) (be 4 s (at + 12)) h0 h1 h2 h3 h4 h5 h6))
+        (λ n. absurd (true≢false n)) (λ n. absurd (true≢false n)) p

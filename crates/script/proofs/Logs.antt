@@ -11,7 +11,7 @@ use Rattle.table.specs.Calls.{Call, format, add, withdraw, report, top, count, 
 use Rattle.table.specs.Model.{PlainSpot, Plain, Reply, asBytes, outputAfter, refuse, accept, badTable, badLent, full, ownReply, reply, fourBytes}
 use Rattle.table.specs.History.{Event, History, AllAgreed, replyIn, modelAfter}
 use Rattle.script.specs.Script.{Step, lentTo, logAfter}
-use Rattle.script.specs.Run.{entry, Held, heldAfter, passed, outputOf, InTurn, AllInTurn, entries}
+use Rattle.script.specs.Run.{entry, RunState, heldAfter, passed, outputOf, InTurn, AllInTurn, entries}
 use Rattle.script.proofs.Fronts.{drop-lent}
 
 -- ---- a call that is no query hands out nothing
@@ -44,19 +44,19 @@ output-stays r out e = ap (λ (g : List PlainSpot). asBytes g ++ drop (12 * leng
 -- ---- each event of a run
 
 module _ (l : Lengths) where
-  pub history-of : (h : Held) (cs : List Step) (es : List Event) → AllInTurn l h cs es → History (h .table) es
+  pub history-of : (h : RunState) (cs : List Step) (es : List Event) → AllInTurn l h cs es → History (h .table) es
   history-of h [] [] a = tt
   history-of h [] (e ∷ es) a = absurd a
   history-of h (c ∷ cs) [] a = absurd a
   history-of h (c ∷ cs) (e ∷ es) a = (a .0 .called .fit, a .0 .called .met, history-of (passed (l .output) h e) cs es (a .1))
 
   -- the last table is sound
-  pub ends-sound : (h : Held) (ps : Plain) (es : List Event) → sound (h .table) ≡ true → AllAgreed (h .table) ps es
+  pub ends-sound : (h : RunState) (ps : Plain) (es : List Event) → sound (h .table) ≡ true → AllAgreed (h .table) ps es
       → sound (heldAfter (l .output) h es .table) ≡ true
   ends-sound h ps [] s g = s
   ends-sound h ps (e ∷ es) s g = ends-sound (passed (l .output) h e) (modelAfter (h .table) ps e) es (g .0 .staysSound) (g .3)
 
-  module _ (h : Held) (ps : Plain) (c : Step) (e : Event) (i : InTurn l h c e) where
+  module _ (h : RunState) (ps : Plain) (c : Step) (e : Event) (i : InTurn l h c e) where
     reply-is : replyIn (e .call) (h .table) ps e ≡ reply (lentTo c l) (c .call) ps
     reply-is = ap₂ (λ (k : Lengths) (x : Call). reply k x ps) (i .lent) (i .call)
 
@@ -89,7 +89,7 @@ module _ (l : Lengths) where
         (ap₂ (λ (x y : List ℕ). x ++ y) (o ∙ ap₂ (λ (r : Reply) (x : List ℕ). outputAfter r x) reply-is (i .output)) rest-is)
 
   -- a run whose events all agree with the model writes the model's log
-  pub as-model : (h : Held) (ps : Plain) (cs : List Step) (es : List Event) → AllInTurn l h cs es → AllAgreed (h .table) ps es
+  pub as-model : (h : RunState) (ps : Plain) (cs : List Step) (es : List Event) → AllInTurn l h cs es → AllAgreed (h .table) ps es
       → entries (l .output) h es ++ heldAfter (l .output) h es .log ≡ logAfter l cs ps (h .log)
   unfolding due
   as-model h ps [] [] a g = refl
@@ -97,7 +97,7 @@ module _ (l : Lengths) where
   as-model h ps (c ∷ cs) [] a g = absurd a
   as-model h ps (c ∷ cs) (e ∷ es) a g =
       let room : ℕ = 8 + l .output in
-      let rest : Held = passed (l .output) h e in
+      let rest : RunState = passed (l .output) h e in
       append-assoc (entry (outputOf (l .output) h) e) (entries (l .output) rest es) (heldAfter (l .output) rest es .log)
       ∙ ap₂ (λ (x y : List ℕ). x ++ y) (entry-due h ps c e (a .0) (g .0 .answer) (output-left h ps c e (a .0) (g .0 .output)))
       (as-model rest (modelAfter (h .table) ps e) cs es (a .1) (g .3)

@@ -19,16 +19,16 @@ use Rattle.table.specs.Model.{fourBytes}
 use Rattle.table.specs.History.{Event}
 use Rattle.table.proofs.Orders.{four-bytes}
 use Rattle.script.specs.Script.{Step, callAt, stepAt, stepsOf, lentTo}
-use Rattle.script.specs.Run.{Called, eventOf, eventIn, Lent, entry, Turned, Held, held, outputOf, passed, heldAfter, InTurn, AllInTurn, entries, Run, runLengths}
+use Rattle.script.specs.Run.{Called, eventOf, eventIn, StepCalled, entry, Turned, RunState, runState, outputOf, passed, heldAfter, InTurn, AllInTurn, entries, Run, runLengths}
 use Rattle.script.proofs.Fronts.{put-back, front-lent, front-left, rest-left}
 
 -- ---- one event more at the end
 
-one-held : (room : ℕ) (h : Held) (es : List Event) (e : Event) → heldAfter room h (es ++ (e ∷ [])) ≡ passed room (heldAfter room h es) e
+one-held : (room : ℕ) (h : RunState) (es : List Event) (e : Event) → heldAfter room h (es ++ (e ∷ [])) ≡ passed room (heldAfter room h es) e
 one-held room h [] e = refl
 one-held room h (x ∷ es) e = one-held room (passed room h x) es e
 
-one-in-turn : (l : Lengths) (h : Held) (cs : List Step) (es : List Event) (c : Step) (e : Event) → AllInTurn l h cs es
+one-in-turn : (l : Lengths) (h : RunState) (cs : List Step) (es : List Event) (c : Step) (e : Event) → AllInTurn l h cs es
     → InTurn l (heldAfter (l .output) h es) c e
     → AllInTurn l h (cs ++ (c ∷ [])) (es ++ (e ∷ []))
 one-in-turn l h [] [] c e a p = (p, tt)
@@ -36,11 +36,11 @@ one-in-turn l h [] (x ∷ es) c e a p = absurd a
 one-in-turn l h (b ∷ cs) [] c e a p = absurd a
 one-in-turn l h (b ∷ cs) (x ∷ es) c e a p = (a .0, one-in-turn l (passed (l .output) h x) cs es c e (a .1) p)
 
-one-entry : (room : ℕ) (h : Held) (es : List Event) (e : Event)
+one-entry : (room : ℕ) (h : RunState) (es : List Event) (e : Event)
     → entries room h (es ++ (e ∷ [])) ≡ entries room h es ++ entry (outputOf room (heldAfter room h es)) e
 one-entry room h [] e = append-nil (entry (outputOf room h) e)
 one-entry room h (x ∷ es) e =
-    let after : Held = heldAfter room (passed room h x) es in
+    let after : RunState = heldAfter room (passed room h x) es in
     ap (λ (l : List ℕ). entry (outputOf room h) x ++ l) (one-entry room (passed room h x) es e)
     ∙ sym (append-assoc (entry (outputOf room h) x) (entries room (passed room h x) es) (entry (outputOf room after) e))
 
@@ -98,7 +98,7 @@ pub lent : (s : List ℕ) (at : ℕ) (t w m out : List ℕ) (r : Answer) (t′ w
     → length m′ ≡ length (take j m)
     → length out′ ≡ length (take k out)
     → Called t (eventOf (callAt s at) (take i w) (take j m) (take k out) r t′ w′ m′ out′)
-    → Lent (stepAt s at) t w m out r t′ (w′ ++ drop i w) (m′ ++ drop j m) (out′ ++ drop k out)
+    → StepCalled (stepAt s at) t w m out r t′ (w′ ++ drop i w) (m′ ++ drop j m) (out′ ++ drop k out)
 unfolding stepAt
 lent s at t w m out r t′ w′ m′ out′ i j k ei ej ek nw nm nout c =
     let a : ℕ = be 4 s (at + 24) in
@@ -124,7 +124,7 @@ lent s at t w m out r t′ w′ m′ out′ i j k ei ej ek nw nm nout c =
 
 -- one turn: the step, on what lies behind the answer's place, and then the answer
 pub turned : (c : Step) (t w m p : List ℕ) (r : Answer) (t′ w′ m′ o u v : List ℕ) → 8 ≤ length p → length o ≡ length (midOf 8 (length p - 8) p)
-    → Lent c t w m (midOf 8 (length p - 8) p) r t′ w′ m′ o
+    → StepCalled c t w m (midOf 8 (length p - 8) p) r t′ w′ m′ o
     → u ≡ putBe 4 (putMid 8 (length p - 8) p o) 0 (r .number)
     → v ≡ putBe 4 u 4 (r .detail)
     → Turned c t w m p t′ w′ m′ v
@@ -132,7 +132,7 @@ turned c t w m p r t′ w′ m′ o u v h n k eu ev =
     record {
       answer = r;
       output′ = o;
-      lent = subst (λ (x : List ℕ). Lent c t w m x r t′ w′ m′ o) (behind p o h) k;
+      lent = subst (λ (x : List ℕ). StepCalled c t w m x r t′ w′ m′ o) (behind p o h) k;
       written =
           ev ∙ ap (λ (x : List ℕ). putBe 4 x 4 (r .detail)) eu
           ∙ answer-written (putMid 8 (length p - 8) p o) (r .number) (r .detail) (put-long p o h n)
@@ -142,7 +142,7 @@ turned c t w m p r t′ w′ m′ o u v h n k eu ev =
 -- ---- a run
 
 -- a run that has come to the place `at` of the log, with the lengths as they were
-pub record Going (script : List ℕ) (l : Lengths) (h : Held) (t w m log : List ℕ) (i at : ℕ) : Type 0 where
+pub record Going (script : List ℕ) (l : Lengths) (h : RunState) (t w m log : List ℕ) (i at : ℕ) : Type 0 where
   pub run : Run script i l h t w m log
   pub place : length (entries (l .output) h (run .events)) ≡ at
   pub table : length t ≡ l .table
@@ -154,7 +154,7 @@ pub part-fits : (part i n at bytes : ℕ) → i < n → at ≡ part * i → part
 part-fits part i n at bytes h e l = omega (arith, stride part h)
 
 -- before the first call
-pub start : (script t w m log : List ℕ) (part : ℕ) → Going script (runLengths t w m part) (held t w m log) t w m log 0 0
+pub start : (script t w m log : List ℕ) (part : ℕ) → Going script (runLengths t w m part) (runState t w m log) t w m log 0 0
 start script t w m log part =
     record {
       run = record { events = []; inTurn = tt; table = refl; scratch = refl; readMap = refl; log = refl };
@@ -165,7 +165,7 @@ start script t w m log part =
     }
 
 -- after the last
-pub ended : (script : List ℕ) (l : Lengths) (h : Held) (t w m log : List ℕ) (i n at : ℕ) → Going script l h t w m log i at → i ≤ n → n ≤ i
+pub ended : (script : List ℕ) (l : Lengths) (h : RunState) (t w m log : List ℕ) (i n at : ℕ) → Going script l h t w m log i at → i ≤ n → n ≤ i
     → Run script n l h t w m log
 ended script l h t w m log i n at g a b =
     let e : i ≡ n = omega arith in
@@ -175,11 +175,11 @@ same-lengths : (l : Lengths) (a b c d : ℕ) → a ≡ l .table → b ≡ l .out
     → _≡_ {A = Lengths} (record { table = a; output = b; readMap = c; scratch = d }) l
 same-lengths l a b c d ea eb ec ed = rw (ea, eb, ec, ed)
 
-module _ (script : List ℕ) (l : Lengths) (h : Held) (t w m log : List ℕ) (i at : ℕ) (g : Going script l h t w m log i at) where
+module _ (script : List ℕ) (l : Lengths) (h : RunState) (t w m log : List ℕ) (i at : ℕ) (g : Going script l h t w m log i at) where
   es : List Event
   es = g .run .events
 
-  x : Held
+  x : RunState
   x = heldAfter (l .output) h es
 
   -- what lies behind the place is as it was lent
@@ -273,11 +273,11 @@ module _ (script : List ℕ) (l : Lengths) (h : Held) (t w m log : List ℕ) (i 
                 inTurn =
                     subst (λ (cs : List Step). AllInTurn l h cs (es ++ (e ∷ []))) (one-step script i)
                     (one-in-turn l h (stepsOf script i) es c e (g .run .inTurn) in-turn);
-                table = sym (ap (λ (y : Held). y .table) (one-held (l .output) h es e));
-                scratch = scratch-is ∙ sym (ap (λ (y : Held). y .scratch) (one-held (l .output) h es e));
-                readMap = map-is ∙ sym (ap (λ (y : Held). y .readMap) (one-held (l .output) h es e));
+                table = sym (ap (λ (y : RunState). y .table) (one-held (l .output) h es e));
+                scratch = scratch-is ∙ sym (ap (λ (y : RunState). y .scratch) (one-held (l .output) h es e));
+                readMap = map-is ∙ sym (ap (λ (y : RunState). y .readMap) (one-held (l .output) h es e));
                 log =
-                    log-is ∙ ap (λ (y : Held). entries (l .output) h (es ++ (e ∷ [])) ++ y .log) (sym (one-held (l .output) h es e));
+                    log-is ∙ ap (λ (y : RunState). entries (l .output) h (es ++ (e ∷ [])) ++ y .log) (sym (one-held (l .output) h es e));
               };
           place =
               ap length (one-entry (l .output) h es e) ∙ length-append (entries (l .output) h es) (entry (outputOf (l .output) x) e)

@@ -18,17 +18,17 @@ use Rattle.table.specs.Calls.{Lengths}
 use Rattle.table.specs.Model.{begunEmpty}
 use Rattle.table.specs.History.{History}
 use Rattle.table.proofs.Demand.{demand3}
-use Rattle.script.specs.Script.{callsIn, stepsOf, partOf}
-use Rattle.script.specs.Run.{Held, held, Run, runLengths, partIn, Happened, Ran}
+use Rattle.script.specs.Script.{callsIn, stepsOf, logPart}
+use Rattle.script.specs.Run.{RunState, runState, Run, runLengths, partIn, Happened, Ran}
 use Rattle.script.proofs.Logs.{history-of, ends-sound, as-model}
 
-parts-within : (bytes n : ℕ) → partOf bytes n * n ≤ bytes
-unfolding partOf
+parts-within : (bytes n : ℕ) → logPart bytes n * n ≤ bytes
+unfolding logPart
 parts-within bytes zero = omega arith
 parts-within bytes (suc n) = rw (ne-eqb (suc n) 0 (λ e. omega arith)) (div-mul-le-self bytes (suc n))
 
 -- the parts are within the log
-pub parts-fit : (bytes n part : ℕ) → part ≡ partOf bytes n → part * n ≤ bytes
+pub parts-fit : (bytes n part : ℕ) → part ≡ logPart bytes n → part * n ≤ bytes
 parts-fit bytes n part e = rw e (parts-within bytes n)
 
 -- ---- refused: one of the two tests fails, and nothing changes
@@ -56,21 +56,21 @@ module _ (script t w m log : List ℕ) where
 module _ (script t w m log t′ w′ m′ log′ : List ℕ) (sized : tableSized (length t) ≡ true) where
   -- demand 3 of the run's history
   happens : (part : ℕ) (u : List ℕ) → part ≡ partIn script log → u ≡ formatted (length t)
-      → Run script (callsIn script) (runLengths u w m part) (held u w m log) t′ w′ m′ log′
+      → Run script (callsIn script) (runLengths u w m part) (runState u w m log) t′ w′ m′ log′
       → Happened script t w m log t′ w′ m′ log′
   happens part u ep eu r =
       let l : Lengths = runLengths t w m (partIn script log) in
-      let h : Held = held (formatted (length t)) w m log in
+      let h : RunState = runState (formatted (length t)) w m log in
       let run : Run script (callsIn script) l h t′ w′ m′ log′ =
       subst (λ (k : Lengths). Run script (callsIn script) k h t′ w′ m′ log′)
       (ap₂ (λ (bytes p : ℕ). record { table = bytes; output = p - 8; readMap = length m; scratch = length w }) (fresh-sized (length t) sized) ep)
-      (subst (λ (x : List ℕ). Run script (callsIn script) (runLengths x w m part) (held x w m log) t′ w′ m′ log′) eu r)
+      (subst (λ (x : List ℕ). Run script (callsIn script) (runLengths x w m part) (runState x w m log) t′ w′ m′ log′) eu r)
       in
       let past : History (formatted (length t)) (run .events) = history-of l h (stepsOf script (callsIn script)) (run .events) (run .inTurn) in
       record { run = run; history = past; agreed = demand3 (length t) sized (run .events) past }
 
   pub says-run : (part : ℕ) (u : List ℕ) → part ≡ partIn script log → 8 ≤ part → u ≡ cond (tableSized (length t)) (formatted (length t)) t
-      → Run script (callsIn script) (runLengths u w m part) (held u w m log) t′ w′ m′ log′
+      → Run script (callsIn script) (runLengths u w m part) (runState u w m log) t′ w′ m′ log′
       → length t′ ≡ length t
       → length w′ ≡ length w
       → length m′ ≡ length m
@@ -81,7 +81,7 @@ module _ (script t w m log t′ w′ m′ log′ : List ℕ) (sized : tableSized
       happens part u ep (eu ∙ ap (λ (b : Bool). cond b (formatted (length t)) t) sized) r
       in
       let l : Lengths = runLengths t w m (partIn script log) in
-      let h : Held = held (formatted (length t)) w m log in
+      let h : RunState = runState (formatted (length t)) w m log in
       record {
         runs = sym (and-both (tableSized (length t)) (leb 8 (partIn script log)) sized (ap (leb 8) (sym ep) ∙ le-leb 8 part p));
         refused = λ e. absurd (true≢false e);

@@ -9,7 +9,7 @@ use lib.IntN.{pos, negsuc}
 use Rattle.octets.specs.Bytes.{be}
 use Rattle.table.specs.Calls.{Call, add, report, count, Lengths}
 use Rattle.table.specs.Model.{begunEmpty, eqZ, hasIdentity, placeBefore, ofPlaces, ofReport, takenOut, broughtIn, fourBytes, complement, outputAfter, refuse, accept, badTable, badLent, full, handOut, ownReply, reply}
-use Rattle.script.specs.Script.{Step, callsIn, callOf, callAt, stepAt, stepsOf, partOf, logAfter}
+use Rattle.script.specs.Script.{Step, callsIn, callOf, callAt, stepAt, stepsOf, logPart, logAfter}
 
 -- 65,536 bytes are more than the run has of anything
 all : List ℕ
@@ -46,8 +46,8 @@ unfolding script all some find step steps be callOf callAt stepAt
 six-steps = refl
 
 -- 151 bytes are six parts of 25, and one byte more
-part : partOf 151 6 ≡ 25
-unfolding partOf
+part : logPart 151 6 ≡ 25
+unfolding logPart
 part = refl
 
 sizes : Lengths

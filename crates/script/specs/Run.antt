@@ -13,7 +13,7 @@ use Rattle.tree.specs.Sound.{sound}
 use Rattle.table.specs.Calls.{Call, kind, takesScratch, isQuery, Lengths, argumentsFit}
 use Rattle.table.specs.Model.{begunEmpty, fourBytes}
 use Rattle.table.specs.History.{Event, MetBy, History, AllAgreed, lengthsIn}
-use Rattle.script.specs.Script.{Step, callsIn, stepsOf, lentTo, partOf, logAfter}
+use Rattle.script.specs.Script.{Step, callsIn, stepsOf, lentTo, logPart, logAfter}
 
 -- an event of its call, what it was lent beside the table, its answer, and what it left
 abbrev pub eventOf : Call → List ℕ → List ℕ → List ℕ → Answer → List ℕ → List ℕ → List ℕ → List ℕ → Event
@@ -35,7 +35,7 @@ eventIn c w m out r t′ w′ m′ out′ =
     (take (c .output) out′)
 
 -- the call of a step; the bytes that it isn't lent stayed as they were
-pub record Lent (c : Step) (t w m out : List ℕ) (r : Answer) (t′ w′ m′ out′ : List ℕ) : Type 0 where
+pub record StepCalled (c : Step) (t w m out : List ℕ) (r : Answer) (t′ w′ m′ out′ : List ℕ) : Type 0 where
   pub called : Called t (eventIn c w m out r t′ w′ m′ out′)
   pub scratchRest : drop (c .scratch) w′ ≡ drop (c .scratch) w
   pub mapRest : drop (c .readMap) m′ ≡ drop (c .readMap) m
@@ -45,37 +45,37 @@ pub record Lent (c : Step) (t w m out : List ℕ) (r : Answer) (t′ w′ m′ o
 pub record Turned (c : Step) (t w m part t′ w′ m′ part′ : List ℕ) : Type 0 where
   pub answer : Answer
   pub output′ : List ℕ
-  pub lent : Lent c t w m (drop 8 part) answer t′ w′ m′ output′
+  pub lent : StepCalled c t w m (drop 8 part) answer t′ w′ m′ output′
   pub written : part′ ≡ fourBytes (answer .number) ++ fourBytes (answer .detail) ++ output′
 
 -- what a run has between two calls: table, scratch and read map as the last call left them, and the rest of the log as it was lent
-pub record Held : Type 0 where
+pub record RunState : Type 0 where
   pub table : List ℕ
   pub scratch : List ℕ
   pub readMap : List ℕ
   pub log : List ℕ
 
 -- of its four lists
-abbrev pub held : List ℕ → List ℕ → List ℕ → List ℕ → Held
-held t w m log = record { table = t; scratch = w; readMap = m; log = log }
+abbrev pub runState : List ℕ → List ℕ → List ℕ → List ℕ → RunState
+runState t w m log = record { table = t; scratch = w; readMap = m; log = log }
 
 -- the output of the next call, where the parts of the log have room for one of so many bytes
-abbrev pub outputOf : ℕ → Held → List ℕ
+abbrev pub outputOf : ℕ → RunState → List ℕ
 outputOf room h = take room (drop 8 (h .log))
 
 -- after an event; the bytes that it wasn't lent stayed as they were
-abbrev pub passed : ℕ → Held → Event → Held
+abbrev pub passed : ℕ → RunState → Event → RunState
 passed room h e =
-    held (e .table′) (e .scratch′ ++ drop (length (e .scratch)) (h .scratch)) (e .readMap′ ++ drop (length (e .readMap)) (h .readMap))
+    runState (e .table′) (e .scratch′ ++ drop (length (e .scratch)) (h .scratch)) (e .readMap′ ++ drop (length (e .readMap)) (h .readMap))
     (drop (8 + room) (h .log))
 
 -- after one event and then the next
-abbrev pub heldAfter : ℕ → Held → List Event → Held
+abbrev pub heldAfter : ℕ → RunState → List Event → RunState
 heldAfter room h [] = h
 heldAfter room h (e ∷ es) = heldAfter room (passed room h e) es
 
 -- an event of a run: it is the call of its step, lent the first bytes of what the run has and of the output in its part of the log
-pub record InTurn (l : Lengths) (h : Held) (c : Step) (e : Event) : Type 0 where
+pub record InTurn (l : Lengths) (h : RunState) (c : Step) (e : Event) : Type 0 where
   pub call : e .call ≡ c .call
   pub called : Called (h .table) e
   pub scratch : e .scratch ≡ take (c .scratch) (h .scratch)
@@ -85,7 +85,7 @@ pub record InTurn (l : Lengths) (h : Held) (c : Step) (e : Event) : Type 0 where
   pub lent : lengthsIn (h .table) e ≡ lentTo c l
 
 -- so is each, an event for each step, and gets what the last one left
-abbrev pub AllInTurn : Lengths → Held → List Step → List Event → Type 0
+abbrev pub AllInTurn : Lengths → RunState → List Step → List Event → Type 0
 AllInTurn l h [] [] = Unit {0}
 AllInTurn l h [] (e ∷ es) = ⊥
 AllInTurn l h (c ∷ cs) [] = ⊥
@@ -96,12 +96,12 @@ abbrev pub entry : List ℕ → Event → List ℕ
 entry output e = fourBytes (e .answer .number) ++ fourBytes (e .answer .detail) ++ (e .output′ ++ drop (length (e .output)) output)
 
 -- what the events of a run do
-abbrev pub entries : ℕ → Held → List Event → List ℕ
+abbrev pub entries : ℕ → RunState → List Event → List ℕ
 entries room h [] = []
 entries room h (e ∷ es) = entry (outputOf room h) e ++ entries room (passed room h e) es
 
 -- the first n steps of the script were made, and led from h to what is left
-pub record Run (script : List ℕ) (n : ℕ) (l : Lengths) (h : Held) (t′ w′ m′ log′ : List ℕ) : Type 0 where
+pub record Run (script : List ℕ) (n : ℕ) (l : Lengths) (h : RunState) (t′ w′ m′ log′ : List ℕ) : Type 0 where
   pub events : List Event
   pub inTurn : AllInTurn l h (stepsOf script n) events
   pub table : t′ ≡ heldAfter (l .output) h events .table
@@ -115,11 +115,11 @@ runLengths t w m part = record { table = length t; output = part - 8; readMap = 
 
 -- the part of each call in the log of a script
 abbrev pub partIn : List ℕ → List ℕ → ℕ
-partIn script log = partOf (length log) (callsIn script)
+partIn script log = logPart (length log) (callsIn script)
 
 -- the whole script, run on a formatted table, is a history; and of it all of demand 3 is said
 pub record Happened (script t w m log t′ w′ m′ log′ : List ℕ) : Type 0 where
-  pub run : Run script (callsIn script) (runLengths t w m (partIn script log)) (held (formatted (length t)) w m log) t′ w′ m′ log′
+  pub run : Run script (callsIn script) (runLengths t w m (partIn script log)) (runState (formatted (length t)) w m log) t′ w′ m′ log′
   pub history : History (formatted (length t)) (run .events)
   pub agreed : AllAgreed (formatted (length t)) begunEmpty (run .events)
 

@@ -53,8 +53,8 @@ lentTo c l =
 
 -- the log has an equal part for each call, in order: 8 bytes for the answer, and the output. Where there is no call the log may be of any
 -- length.
-unfoldable pub partOf : ℕ → ℕ → ℕ
-partOf bytes n = cond (eqb n 0) 8 (bytes / n)
+unfoldable pub logPart : ℕ → ℕ → ℕ
+logPart bytes n = cond (eqb n 0) 8 (bytes / n)
 
 -- the model's log of these steps, begun with ps, where the run has the lengths l: in each part the answer's number and detail, then the output as the
 -- call leaves it; the bytes of the part that it isn't lent stay as they were

@@ -2,8 +2,8 @@
 ghost use mathlib.Core.Path.{_≡_};
 ghost use Prim.Native.Nat.{_+_, _*_, _≤_, min};
 ghost use lib.ListN.{length};
-ghost use Rattle.script.specs.Script.{callAt, stepAt, partOf};
-ghost use Rattle.script.specs.Run.{Called, eventOf, Lent, Turned, Run, held, runLengths, Ran};
+ghost use Rattle.script.specs.Script.{callAt, stepAt, logPart};
+ghost use Rattle.script.specs.Run.{Called, eventOf, StepCalled, Turned, Run, runState, runLengths, Ran};
 
 // Makes the call that begins at a byte of the script, with all that is lent.
 fn call(
@@ -65,7 +65,7 @@ fn step(
     output: &mut [u8],
 ) -> block::Answer
     requires { ⌜ at + 28 ≤ length (now script) ⌝ }
-    ensures { λ r. ⌜ Lent (stepAt (now (script .entry)) at) (now (table .entry)) (now (scratch .entry)) (now («read_map» .entry)) (now (output .entry)) r (now (table .exit)) (now (scratch .exit)) (now («read_map» .exit)) (now (output .exit)) ⌝ }
+    ensures { λ r. ⌜ StepCalled (stepAt (now (script .entry)) at) (now (table .entry)) (now (scratch .entry)) (now («read_map» .entry)) (now (output .entry)) r (now (table .exit)) (now (scratch .exit)) (now («read_map» .exit)) (now (output .exit)) ⌝ }
 {
     let a = smaller(octets::read32(script, at + 16) as usize, output.len());
     let b = smaller(octets::read32(script, at + 20) as usize, read_map.len());
@@ -108,7 +108,7 @@ fn make_calls(
     part: usize,
 )
     requires { ⌜ (28 * n ≤ length (now script)) × (8 ≤ part) × (part * n ≤ length (now log)) ⌝ }
-    ensures { λ _. ⌜ Run (now (script .entry)) n (runLengths (now (table .entry)) (now (scratch .entry)) (now («read_map» .entry)) part) (held (now (table .entry)) (now (scratch .entry)) (now («read_map» .entry)) (now (log .entry))) (now (table .exit)) (now (scratch .exit)) (now («read_map» .exit)) (now (log .exit)) ⌝ }
+    ensures { λ _. ⌜ Run (now (script .entry)) n (runLengths (now (table .entry)) (now (scratch .entry)) (now («read_map» .entry)) part) (runState (now (table .entry)) (now (scratch .entry)) (now («read_map» .entry)) (now (log .entry))) (now (table .exit)) (now (scratch .exit)) (now («read_map» .exit)) (now (log .exit)) ⌝ }
 {
     let mut i = 0;
     let mut at = 0;
@@ -122,7 +122,7 @@ fn make_calls(
 
 // The bytes of the log for each of n calls.
 fn part_of(bytes: usize, n: usize) -> usize
-    ensures { λ r. ⌜ r ≡ partOf bytes n ⌝ }
+    ensures { λ r. ⌜ r ≡ logPart bytes n ⌝ }
 {
     if n == 0 {
         return 8;

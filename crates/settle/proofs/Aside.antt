@@ -12,7 +12,7 @@ use Rattle.octets.specs.Lists.{distinct}
 use Rattle.block.specs.Node.{Node, Store}
 use Rattle.tree.specs.Part.{Part}
 use Rattle.tree.proofs.Frame.{Same, reaches-same, sounds-same, lookups-same}
-use Rattle.update.specs.Change.{reaches, Changed}
+use Rattle.update_theory.specs.Change.{reaches, Changed}
 
 -- the store with n in block b
 abbrev pub instead : ℕ → Node → Store → Store

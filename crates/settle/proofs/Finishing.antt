@@ -10,7 +10,7 @@ use Rattle.block.specs.declared.Entry.{Entry}
 use Rattle.block.specs.declared.Asked.{Asked}
 use Rattle.block.specs.Node.{storeOf}
 use Rattle.tree.specs.Part.{lowOf}
-use Rattle.update.specs.Change.{part, reaches, Sound}
+use Rattle.update_theory.specs.Change.{part, reaches, Sound}
 use Rattle.node.specs.Memory.{Stored}
 use Rattle.node.specs.declared.NodeValue.{NodeValue}
 use Rattle.edit.specs.Edits.{EntryFor}
@@ -19,7 +19,7 @@ use Rattle.spare.specs.Spares.{spareOf}
 use Rattle.settle.specs.declared.Settled.{Settled}
 use Rattle.settle.specs.declared.Worked.{Worked}
 use Rattle.settle.specs.declared.Finished.{Finished}
-use Rattle.settle.specs.Settling.{Opened, RefinePost, Standing, Cuttable, PlacePost, FinishPost}
+use Rattle.settle.specs.Settling.{Opened, RefinePost, StandsFor, Cuttable, PlacePost, FinishPost}
 use Rattle.settle.proofs.Storing.{place-one}
 use Rattle.settle.proofs.Splitting.{Halves, Halved, left-whole, right-whole, place-two}
 
@@ -60,10 +60,7 @@ finish-done {t₁ = t₁} {s₁ = s₁} {map₁ = map₁} {w = w} p ok q d =
 -- ---- one node
 
 module _ {t t₁ : List ℕ} {b floor level : ℕ} {n : NodeValue} {spare : Spare} {left : ℕ} {x : Finished} (f : FinishPost t t₁ b floor level n spare left x) where
-  pub finish-whole : x .ok ≡ false → (lo hi : ℕ) (g : ℕ → Option ℕ) → Opened (storeOf t) level lo hi n spare left g → x .broken ≡ false
-  finish-whole e lo hi g o = f .whole e ∙ f .refined .work .whole lo hi g o
-
-  pub finish-one : {s map : List ℕ} {asked : Asked} → Standing t s map b level asked n spare left → floor ≡ lowOf asked → x .ok ≡ true
+  pub finish-one : {s map : List ℕ} {asked : Asked} → StandsFor t s map b level asked n spare left → floor ≡ lowOf asked → x .ok ≡ true
       → PlacePost t t₁ level b asked n spare left (record { ok = true; broken = false; two = false; first = x .entry; second = x .entry; left = x .left })
   finish-one st l ok =
       place-one st (f .refined) (f .went ok)
@@ -71,7 +68,7 @@ module _ {t t₁ : List ℕ} {b floor level : ℕ} {n : NodeValue} {spare : Spar
 
 -- ---- two halves
 
-module _ {t s map t₁ : List ℕ} {b floor level : ℕ} {asked : Asked} {n : NodeValue} {h : Halves} {spare : Spare} {left : ℕ} {x : Finished} (st : Standing t s map b level asked n spare left) (cuts : Cuttable level n)
+module _ {t s map t₁ : List ℕ} {b floor level : ℕ} {asked : Asked} {n : NodeValue} {h : Halves} {spare : Spare} {left : ℕ} {x : Finished} (st : StandsFor t s map b level asked n spare left) (cuts : Cuttable level n)
     (hv : Halved n h) (f : FinishPost t t₁ b floor level (h .left) spare (left - 1) x) where
   pub left-fails : x .ok ≡ false → (lo hi : ℕ) (g : ℕ → Option ℕ) → Opened (storeOf t) level lo hi n spare left g → x .broken ≡ false
   left-fails e lo hi g o = f .whole e ∙ left-whole st cuts hv lo hi g o (f .refined)

@@ -11,10 +11,10 @@ use Rattle.tree.specs.Part.{Part}
 use Rattle.tree.specs.Reach.{reach}
 use Rattle.tree.proofs.Frame.{Same}
 use Rattle.tree.proofs.Gather.{gather-append}
-use Rattle.update.specs.Change.{reaches, Sound, Changed}
-use Rattle.update.specs.Spare.{Taken, Within}
-use Rattle.update.proofs.Change.{among, changed-among}
-use Rattle.update.proofs.Spare.{spare-left, spare-trans}
+use Rattle.update_theory.specs.Change.{reaches, Sound, Changed}
+use Rattle.update_theory.specs.Spare.{Taken, Within}
+use Rattle.update_theory.proofs.Change.{among, changed-among}
+use Rattle.update_theory.proofs.Spare.{spare-left, spare-trans}
 
 module _ (l : ℕ) (s s₁ : List ℕ) (m y : Store) (A A′ C : List Part) (g₁ : ℕ → Option ℕ) (all : Sound l m (A ++ C)) (free : Apart s (reaches l m (A ++ C))) (less₁ : Within s₁ s)
     (c₁ : Changed l (Taken s s₁) m A y A′ g₁) where

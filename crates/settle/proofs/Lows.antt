@@ -17,8 +17,8 @@ use Rattle.block.specs.Node.{openBelow}
 use Rattle.block.specs.NodeRules.{zeroFirst, lows}
 use Rattle.block.proofs.Views.{lows-append}
 use Rattle.tree.specs.Part.{nextLow}
-use Rattle.update.proofs.Spread.{start}
-use Rattle.update.proofs.Spare.{lows-first, lows-two, lows-same}
+use Rattle.update_theory.proofs.Spread.{start}
+use Rattle.update_theory.proofs.Spare.{lows-first, lows-two}
 use Rattle.settle.specs.Settling.{LowsFit}
 
 -- the rules are of the lows alone
@@ -90,11 +90,7 @@ pub zero-put : (us vs fs : List Entry) (e f : Entry) → f .low ≡ e .low → z
 zero-put [] vs fs e f h z = rw h z
 zero-put (u ∷ us) vs fs e f h z = z
 
--- it became one
-pub lows-one : (lo hi : ℕ) (us : List Entry) (e f : Entry) (vs : List Entry) → f .low ≡ e .low → LowsFit lo hi (us ++ (e ∷ vs)) → LowsFit lo hi (us ++ ((f ∷ []) ++ vs))
-lows-one lo hi us e f vs h z = lows-as lo hi (us ++ (e ∷ vs)) (us ++ ((f ∷ []) ++ vs)) (lows-same us e f vs h) z
-
--- or two, apart at the low of the second
+-- it became two, apart at the low of the second
 pub lows-both : (lo hi : ℕ) (us : List Entry) (e f g : Entry) (vs : List Entry) → f .low ≡ e .low → start lo us (e .low) < g .low → g .low < nextLow vs hi → within lo hi (g .low) ≡ true
     → LowsFit lo hi (us ++ (e ∷ vs)) → LowsFit lo hi (us ++ ((f ∷ g ∷ []) ++ vs))
 lows-both lo hi [] e f g vs h a b w z =

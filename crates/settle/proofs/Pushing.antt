@@ -3,12 +3,11 @@
 use mathlib.Core.Path.{_≡_, refl, ap, sym, _∙_, subst, subst⁻¹}
 use mathlib.Core.Logic.{_⊎_, inl, inr, ⊎-elim}
 use mathlib.Core.Bool.{Bool, true, false, not, cond, false≢true}
-use mathlib.Core.List.{List, [], _∷_, _++_, List·Memᴰ, List·Memᴰ·head, List·Memᴰ·not-nil, List·Memᴰ·cases-cons, Memᴰ·append-right}
-use mathlib.Core.Option.{Option, none}
+use mathlib.Core.List.{List, [], _∷_, _++_, List·Memᴰ, List·Memᴰ·not-nil, List·Memᴰ·cases-cons}
+use mathlib.Core.Option.{Option}
 use Prim.Native.Nat.{ℕ, suc, _-_, _≤_, _<_}
 use native.Mathlib.Omega.{arith}
 use lib.ListN.{length, take, drop, length-append}
-use borrow.Author.Tests.{eqb-true}
 use Rattle.octets.proofs.Tests.{cond-mem, keep-mem}
 use Rattle.octets.specs.Sets.{Apart}
 use Rattle.octets.proofs.Lists.{mem-more, mem-three}
@@ -28,14 +27,15 @@ use Rattle.buffer.specs.declared.KeyBuffer.{KeyBuffer}
 use Rattle.tree.specs.Part.{Part, nextLow, parts, Steps}
 use Rattle.tree.specs.Lookup.{lookup}
 use Rattle.tree.proofs.Ranges.{part-bounds}
-use Rattle.update.specs.Held.{Held}
-use Rattle.update.specs.Change.{part, reaches, Sound, Changed}
-use Rattle.update.specs.Spare.{Taken, Within}
-use Rattle.update.specs.Open.{Open}
-use Rattle.update.specs.Going.{Going}
-use Rattle.update.proofs.Spread.{start, childAt, parts-one}
-use Rattle.update.proofs.Cut.{open-push-I, open-push-D}
-use Rattle.update.proofs.Going.{going-start, going-child, going-fresh, going-on}
+use Rattle.update_theory.specs.Held.{Held}
+use Rattle.update_theory.specs.Change.{part, reaches, Sound, Changed}
+use Rattle.update_theory.specs.Spare.{Taken, Within}
+use Rattle.update_theory.specs.Open.{Open}
+use Rattle.update_theory.specs.Going.{Going}
+use Rattle.update_theory.proofs.Spare.{lows-same}
+use Rattle.update_theory.proofs.Spread.{start, first-low, childAt, child-in}
+use Rattle.update_theory.proofs.Cut.{open-push-I, open-push-D}
+use Rattle.update_theory.proofs.Going.{going-start, going-child, going-fresh, going-on}
 use Rattle.node.specs.Memory.{entriesOf, EntryFits, EntryAt}
 use Rattle.node.specs.declared.Entries.{Entries}
 use Rattle.node.specs.declared.NodeValue.{NodeValue}
@@ -44,6 +44,7 @@ use Rattle.journal.specs.Journal.{Kept}
 use Rattle.journal.proofs.Kept.{undoable-kept}
 use Rattle.fill.specs.Filling.{Workable}
 use Rattle.fill.proofs.Works.{work-kept}
+use Rattle.fill.proofs.Turns.{deeper}
 use Rattle.spare.specs.declared.Spare.{Spare}
 use Rattle.spare.specs.Spares.{spareOf}
 use Rattle.spare.proofs.Taking.{spare-less}
@@ -52,8 +53,8 @@ use Rattle.batch.specs.Batches.{batchSays, Parted, byInserts, byDeletes, Pickin
 use Rattle.batch.proofs.Opened.{child-range}
 use Rattle.settle.specs.declared.Settled.{Settled}
 use Rattle.settle.specs.declared.Worked.{Worked}
-use Rattle.settle.specs.Settling.{LowsFit, Opened, WorkedTo, Pushable, WorkPost, SettledTo, OnSound, SettlePost}
-use Rattle.settle.proofs.Lows.{zero-put, lows-one, lows-both}
+use Rattle.settle.specs.Settling.{LowsFit, Opened, WorkedTo, Pushable, WorkPost, SettledTo, WhereSound, SettlePost}
+use Rattle.settle.proofs.Lows.{lows-as, zero-put, lows-both}
 
 -- the answer, in other words
 pub work-as : {t t′ s′ map′ : List ℕ} {level : ℕ} {n : NodeValue} {spare : Spare} {left : ℕ} {r q : Worked} → r ≡ q → WorkPost t t′ s′ map′ level n spare left q → WorkPost t t′ s′ map′ level n spare left r
@@ -100,10 +101,6 @@ push-none {t} {level = level} {n = n} {spare = spare} {left = left} w =
 
 -- ---- one entry became one or two
 
--- the second of them, where there are two
-abbrev seconds : Settled → List Entry
-seconds r = cond (r .two) (r .second ∷ []) []
-
 cond-cons : (b : Bool) (f g : Entry) → cond b (f ∷ g ∷ []) (f ∷ []) ≡ f ∷ cond b (g ∷ []) []
 cond-cons true f g = refl
 cond-cons false f g = refl
@@ -115,11 +112,6 @@ more-put us vs fs e f = omega (arith, length-append us (e ∷ vs), length-append
 member-put : (us vs fs : List Entry) (e f : Entry) {d : Entry} → List·Memᴰ d (us ++ ((f ∷ fs) ++ vs)) → (d ≡ f) ⊎ (List·Memᴰ d fs ⊎ List·Memᴰ d (us ++ (e ∷ vs)))
 member-put us vs fs e f i =
     ⊎-elim (λ j. ⊎-elim inl (λ k. inr (inl k)) (List·Memᴰ·cases-cons j)) (λ j. inr (inr (mem-more us e vs j))) (mem-three us (f ∷ fs) vs i)
-
--- the low of a child is not above its range
-first-low : (lo : ℕ) (us vs : List Entry) (e : Entry) → zeroFirst (lows (us ++ (e ∷ vs))) ≡ true → e .low ≤ start lo us (e .low)
-first-low lo [] vs e z = let q = eqb-true (e .low) 0 z in omega arith
-first-low lo (u ∷ us) vs e z = omega arith
 
 module _ (b : Bool) (lo hi : ℕ) (e f g : Entry) (order : lo ≤ hi) (apart : b ≡ true → (lo < g .low) × (g .low < hi)) where
   steps-put : Steps lo hi (f ∷ cond b (g ∷ []) [])
@@ -138,7 +130,7 @@ became-parts P false lo hi block f g e h = subst⁻¹ (λ (v : ℕ). P (part v (
 lows-put : (b : Bool) (lo hi : ℕ) (us vs : List Entry) (e f g : Entry) → f .low ≡ e .low → (b ≡ true → (start lo us (e .low) < g .low) × (g .low < nextLow vs hi))
     → (b ≡ true → within lo hi (g .low) ≡ true) → LowsFit lo hi (us ++ (e ∷ vs)) → LowsFit lo hi (us ++ ((f ∷ cond b (g ∷ []) []) ++ vs))
 lows-put true lo hi us vs e f g h a w z = lows-both lo hi us e f g vs h (a refl .0) (a refl .1) (w refl) z
-lows-put false lo hi us vs e f g h a w z = lows-one lo hi us e f vs h z
+lows-put false lo hi us vs e f g h a w z = lows-as lo hi (us ++ (e ∷ vs)) (us ++ ((f ∷ []) ++ vs)) (lows-same us e f vs h) z
 
 -- ---- the node over them
 
@@ -176,9 +168,7 @@ module _ (t : List ℕ) (l : ℕ) (n : NodeValue) (p : Picked) (e : Entry) (spar
   child = going-child (suc l) lo hi x S (us ++ (e ∷ vs)) x S (o .rank) us vs e (heldIn n) f start-going
 
   bounds : (lo ≤ c₀ .lo) × (c₀ .hi ≤ hi) × (c₀ .lo ≤ c₀ .hi)
-  bounds =
-      part-bounds lo hi (us ++ (e ∷ vs)) (node .steps)
-      (subst⁻¹ (λ (ps : List Part). List·Memᴰ c₀ ps) (parts-one (suc l) (λ z. ⊥) x x lo hi us vs e e [] (λ k. none)) (Memᴰ·append-right (parts lo (e .low) us) (List·Memᴰ·head refl)))
+  bounds = part-bounds lo hi (us ++ (e ∷ vs)) (node .steps) (child-in lo hi us vs e)
 
   -- the batch lies in the child's range
   batch-I : (k : ℕ) → List·Memᴰ k (keys (held (p .inserts))) → within (c₀ .lo) (c₀ .hi) k ≡ true
@@ -196,7 +186,7 @@ module _ (t : List ℕ) (l : ℕ) (n : NodeValue) (p : Picked) (e : Entry) (spar
       inside (byDeletes stay d h b) = node .ready .inD k (keep-mem (λ j. not (stay j)) (named (n .deletes)) (subst (λ (ks : List ℕ). List·Memᴰ k ks) d i) .0)
 
   -- it is sound, and what holds then holds of it
-  at-child : (Then : ℕ → ℕ → Type 0) → OnSound t l (e .block) (Child e) (held (p .inserts)) (named (p .deletes)) spare left Then → Then (c₀ .lo) (c₀ .hi)
+  at-child : (Then : ℕ → ℕ → Type 0) → WhereSound t l (e .block) (Child e) (held (p .inserts)) (named (p .deletes)) spare left Then → Then (c₀ .lo) (c₀ .hi)
   at-child Then h =
       h (c₀ .lo) (c₀ .hi) (bounds .2) (let v = bounds .1 in let z = o .full in omega arith) (first-low lo us vs e (lowsFit .zero)) batch-I batch-D (child .0) (child .1)
 
@@ -267,9 +257,6 @@ module _ (t : List ℕ) (l : ℕ) (n : NodeValue) (p : Picked) (e : Entry) (spar
         }
 
 -- ---- what push promises
-
-deeper : (level : ℕ) → (level ≡ 0 → ⊥) → level ≡ suc (level - 1)
-deeper level inner = omega (arith, inner)
 
 -- the child could not be settled
 pub push-stops : {t s map t₁ s₁ map₁ : List ℕ} {level : ℕ} {n : NodeValue} {p : Picked} {e : Entry} {r : Settled} {spare : Spare} {left : ℕ} → Pushable t s map n level spare left

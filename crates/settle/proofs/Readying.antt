@@ -30,7 +30,8 @@ use Rattle.fill.specs.Filling.{Inside}
 use Rattle.fill.proofs.Works.{work-kept}
 use Rattle.spare.specs.declared.Spare.{Spare}
 use Rattle.batch.specs.Batches.{TakenIn}
-use Rattle.settle.specs.Settling.{Settleable, Standing, SplitWhen, Cuttable, Pushable}
+use Rattle.settle.specs.Settling.{Settleable, StandsFor, SplitWhen, Cuttable, Pushable}
+use Rattle.settle.proofs.Ways.{spares-kept}
 use Rattle.settle.proofs.Lows.{rise-left, rise-right}
 use Rattle.settle.proofs.Splitting.{Halves, Halved, bareL, bareR, halfL, halfR, fours}
 
@@ -54,7 +55,7 @@ module _ {t s map : List ℕ} {b level ni nd : ℕ} (asked : Asked) {spare : Spa
   at-leaf : level ≡ 0 → n .level ≡ 0
   at-leaf z = facts .same-level ∙ z
 
-  pub stands : Standing t s map b level asked m spare left
+  pub stands : StandsFor t s map b level asked m spare left
   stands =
       record {
         undoable = p .undoable;
@@ -83,13 +84,13 @@ pub points-few : {n m : NodeValue} {ss : List Spot} {ks : List ℕ} {ni nd : ℕ
 points-few {n} {m} tk w e = ⊎-elim (λ (z : m .level ≡ 0). w .fits e z) (λ (z : m .level ≡ 0 → ⊥). tk .mostP (λ h. z (tk .level ∙ h))) (same-or-not (m .level) 0)
 
 -- or it can be
-pub must-cut : {t s map : List ℕ} {b level : ℕ} {asked : Asked} {n : NodeValue} {spare : Spare} {left : ℕ} {q : Bool} → Standing t s map b level asked n spare left → SplitWhen n q → q ≡ true → Cuttable level n
+pub must-cut : {t s map : List ℕ} {b level : ℕ} {asked : Asked} {n : NodeValue} {spare : Spare} {left : ℕ} {q : Bool} → StandsFor t s map b level asked n spare left → SplitWhen n q → q ≡ true → Cuttable level n
 must-cut st w e =
     ⊎-elim (λ z. let y = sym (st .level) ∙ z .0 in inl (y, st .leafE y, z .1)) (λ z. inr (λ h. z .0 (st .level ∙ h), (let y = z .1 in omega (arith, st .entries .few)))) (w .must e)
 
 -- ---- what may be worked on
 
-pub stands-push : {t s map : List ℕ} {b level : ℕ} {asked : Asked} {n : NodeValue} {spare : Spare} {left : ℕ} → Standing t s map b level asked n spare left → n .points .n ≤ 64
+pub stands-push : {t s map : List ℕ} {b level : ℕ} {asked : Asked} {n : NodeValue} {spare : Spare} {left : ℕ} → StandsFor t s map b level asked n spare left → n .points .n ≤ 64
     → Pushable t s map n level spare left
 stands-push st h =
     record {
@@ -106,7 +107,7 @@ pub push-kept : {t s map t′ s′ map′ : List ℕ} {level : ℕ} {n : NodeVal
 push-kept p k h =
     record {
       works = work-kept (p .works) k;
-      spares = record { few = p .spares .few; inside = λ b i. let z = p .spares .inside b i in (z .0, rw (k .table) (z .1)); once = p .spares .once };
+      spares = spares-kept _ _ _ (k .table) (p .spares);
       less = omega (arith, p .less);
       zero = p .zero;
       rise = p .rise;
@@ -118,7 +119,7 @@ push-kept p k h =
 abbrev Fine : List Entry → Type 0
 Fine es = (zeroFirst (lows es) ≡ true) × (rising (rest (lows es)) ≡ true) × (length es ≤ 8)
 
-module _ {t s map : List ℕ} {b level : ℕ} {asked : Asked} {n : NodeValue} {h : Halves} {spare : Spare} {left : ℕ} (st : Standing t s map b level asked n spare left) (cuts : Cuttable level n)
+module _ {t s map : List ℕ} {b level : ℕ} {asked : Asked} {n : NodeValue} {h : Halves} {spare : Spare} {left : ℕ} (st : StandsFor t s map b level asked n spare left) (cuts : Cuttable level n)
     (hv : Halved n h) where
   -- a half with some of the entries
   half-push : {x : NodeValue} {g : ℕ → Bool} {es : List Entry} → Half n x g es → x .points .n ≤ 64 → Fine (entriesOf (x .entries)) → ((d : Entry) → List·Memᴰ d es → EntryFits d) → Inside t es

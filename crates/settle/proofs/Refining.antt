@@ -13,11 +13,11 @@ use Rattle.block.specs.Node.{Store, storeOf}
 use Rattle.block.specs.NodeRules.{zeroFirst}
 use Rattle.block.proofs.Views.{length-lows}
 use Rattle.tree.specs.Part.{parts}
-use Rattle.update.specs.Held.{Held}
-use Rattle.update.specs.Spare.{Taken}
-use Rattle.update.specs.Open.{under}
-use Rattle.update.specs.Going.{Going}
-use Rattle.update.proofs.Change.{changed-trans}
+use Rattle.update_theory.specs.Held.{Held}
+use Rattle.update_theory.specs.Spare.{Taken}
+use Rattle.update_theory.specs.Open.{under}
+use Rattle.update_theory.specs.Going.{Going}
+use Rattle.update_theory.proofs.Change.{changed-trans}
 use Rattle.node.specs.Memory.{entriesOf}
 use Rattle.node.specs.declared.NodeValue.{NodeValue}
 use Rattle.edit.specs.Edits.{heldIn}

@@ -22,15 +22,15 @@ use Rattle.tree.specs.Part.{Part, parts, lowOf}
 use Rattle.tree.specs.Reach.{reach}
 use Rattle.tree.proofs.Frame.{Same, reaches-same}
 use Rattle.tree.proofs.Gather.{gather-append}
-use Rattle.update.specs.Held.{Held}
-use Rattle.update.specs.Change.{part, reaches, Sound, Changed}
-use Rattle.update.specs.Spare.{Taken, Within}
-use Rattle.update.specs.Open.{under, Open}
-use Rattle.update.proofs.Change.{changed-refl, changed-trans}
-use Rattle.update.proofs.Close.{settle-two}
-use Rattle.update.proofs.Open.{open-frame}
-use Rattle.update.proofs.Cut.{halfOf, leaf-cut, open-left, open-right, cut-changed}
-use Rattle.update.proofs.Loose.{opened, reach-step}
+use Rattle.update_theory.specs.Held.{Held}
+use Rattle.update_theory.specs.Change.{part, reaches, Sound, Changed}
+use Rattle.update_theory.specs.Spare.{Taken, Within}
+use Rattle.update_theory.specs.Open.{under, Open}
+use Rattle.update_theory.proofs.Change.{changed-refl, changed-trans}
+use Rattle.update_theory.proofs.Close.{settle-two}
+use Rattle.update_theory.proofs.Open.{open-frame}
+use Rattle.update_theory.proofs.Cut.{halfOf, leaf-cut, open-left, open-right, cut-changed}
+use Rattle.update_theory.proofs.Loose.{opened, reach-step}
 use Rattle.node.specs.Memory.{entriesOf, nodeIn, EntryAt, Stored}
 use Rattle.node.specs.declared.NodeValue.{NodeValue}
 use Rattle.node.proofs.Laws.{stored-else}
@@ -41,10 +41,11 @@ use Rattle.spare.specs.Spares.{spareOf}
 use Rattle.spare.proofs.Taking.{spare-less, last-new, spare-step}
 use Rattle.batch.specs.Batches.{CutKey, Lower, Upper}
 use Rattle.settle.specs.declared.Worked.{Worked}
-use Rattle.settle.specs.Settling.{LowsFit, Opened, WorkedTo, RefinePost, Standing, Cuttable, PlacedTo, PlacePost}
+use Rattle.settle.specs.Settling.{LowsFit, Opened, WorkedTo, RefinePost, StandsFor, Cuttable, PlacedTo, PlacePost}
 use Rattle.settle.proofs.Aside.{instead, instead-here, instead-else, changed-aside}
 use Rattle.settle.proofs.Halves.{right-same, right-free, left-same, within-both, halves}
 use Rattle.settle.proofs.Lows.{lows-left, lows-right, cut-high, cut-low}
+use Rattle.settle.proofs.Ways.{last-inside}
 use Rattle.settle.proofs.Storing.{Ground, refined-shape, block-few}
 
 -- ---- a node and its halves
@@ -150,7 +151,7 @@ cut-as {x} {level} {lo} {sep} {hi} {s} {es} {es₁} {es₂} {ds} {ds₁} {ds₂}
     (subst⁻¹ (λ (q : Held). CutIn x level lo sep hi s es es₁ es₂ b₁ q f) h₂ c))))
 
 -- the halves that were made
-module _ {t s map : List ℕ} {b level : ℕ} {asked : Asked} {n : NodeValue} {h : Halves} {spare : Spare} {left : ℕ} (st : Standing t s map b level asked n spare left)
+module _ {t s map : List ℕ} {b level : ℕ} {asked : Asked} {n : NodeValue} {h : Halves} {spare : Spare} {left : ℕ} (st : StandsFor t s map b level asked n spare left)
     (hv : Halved n h) where
   -- a leaf
   module _ (none : n .entries .n ≡ 0) where
@@ -226,7 +227,7 @@ module _ {t s map : List ℕ} {b level : ℕ} {asked : Asked} {n : NodeValue} {h
 
 -- ---- both halves worked on, the left first
 module _ {t s map : List ℕ} {b level : ℕ} {asked : Asked} {n : NodeValue} {h : Halves} {spare : Spare} {left : ℕ}
-    (st : Standing t s map b level asked n spare left) (cuts : Cuttable level n) (hv : Halved n h)
+    (st : StandsFor t s map b level asked n spare left) (cuts : Cuttable level n) (hv : Halved n h)
     (lo hi : ℕ) (f : ℕ → Option ℕ) (o : Opened (storeOf t) level lo hi n spare left f) where
   abbrev sep : ℕ
   sep = h .sep
@@ -412,12 +413,12 @@ module _ {t s map : List ℕ} {b level : ℕ} {asked : Asked} {n : NodeValue} {h
           }
 
 pub place-two : {t s map t₁ s₁ map₁ t₂ t₃ s₃ map₃ t₄ : List ℕ} {b level : ℕ} {asked : Asked} {n : NodeValue} {h : Halves} {spare : Spare} {left c : ℕ} {d e : Entry} {w₁ w₂ : Worked}
-    → Standing t s map b level asked n spare left → Cuttable level n → Halved n h
+    → StandsFor t s map b level asked n spare left → Cuttable level n → Halved n h
     → RefinePost t t₁ s₁ map₁ level (h .left) spare (left - 1) w₁ → w₁ .ok ≡ true → Stored t₁ t₂ b (w₁ .node) → 0 < left → spareOf spare left ≡ spareOf spare (left - 1) ++ (c ∷ [])
     → RefinePost t₂ t₃ s₃ map₃ level (h .right) spare (w₁ .left) w₂ → w₂ .ok ≡ true → Stored t₃ t₄ c (w₂ .node) → EntryFor b (lowOf asked) (w₁ .node) d → EntryFor c (h .sep) (w₂ .node) e
     → PlacePost t t₄ level b asked n spare left (record { ok = true; broken = false; two = true; first = d; second = e; left = w₂ .left })
-place-two {spare = spare} {left = left} {c = c} st cuts hv p₁ ok₁ q₁ some last p₂ ok₂ q₂ d₁ d₂ =
-    let i = st .spares .inside c (spare-less spare left (spare .n) (st .less) c (last-new spare left c some (st .less) (st .spares .once) last .0)) in
+place-two st cuts hv p₁ ok₁ q₁ some last p₂ ok₂ q₂ d₁ d₂ =
+    let i = last-inside (st .spares) (st .less) last in
     record {
       fewer = omega (arith, p₁ .work .fewer, p₂ .work .fewer);
       block = λ v. d₁ .block;

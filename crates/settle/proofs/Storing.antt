@@ -27,14 +27,14 @@ use Rattle.tree.specs.Lookup.{lookup}
 use Rattle.tree.specs.Sound.{inRange}
 use Rattle.tree.proofs.Below.{sizes-filled, sizes-lowest}
 use Rattle.tree.proofs.Empty.{none-length}
-use Rattle.update.specs.Change.{part, reaches, Sound, Changed}
-use Rattle.update.specs.Spare.{Taken}
-use Rattle.update.specs.Open.{Open}
-use Rattle.update.specs.Going.{Going}
-use Rattle.update.specs.Rounds.{Full}
-use Rattle.update.proofs.Close.{Shape}
-use Rattle.update.proofs.Going.{going-done}
-use Rattle.update.proofs.Loose.{opened, reach-step}
+use Rattle.update_theory.specs.Change.{part, reaches, Sound, Changed}
+use Rattle.update_theory.specs.Spare.{Taken}
+use Rattle.update_theory.specs.Open.{Open}
+use Rattle.update_theory.specs.Going.{Going}
+use Rattle.update_theory.specs.Rounds.{FilledUp}
+use Rattle.update_theory.proofs.Close.{Shape}
+use Rattle.update_theory.proofs.Going.{going-done}
+use Rattle.update_theory.proofs.Loose.{opened, reach-step}
 use Rattle.node.specs.Memory.{entriesOf, nodeIn}
 use Rattle.node.specs.declared.NodeValue.{NodeValue}
 use Rattle.node.proofs.Laws.{stored-else}
@@ -46,7 +46,7 @@ use Rattle.batch.specs.Batches.{batchSays}
 use Rattle.settle.specs.declared.Settled.{Settled}
 use Rattle.settle.specs.declared.Worked.{Worked}
 use Rattle.settle.proofs.Stores.{StoredOne}
-use Rattle.settle.specs.Settling.{again, became, LowsFit, Opened, WorkedTo, RefinePost, Standing, PlacedTo, OnOpen, PlacePost, SettlePost}
+use Rattle.settle.specs.Settling.{again, became, LowsFit, Opened, WorkedTo, RefinePost, StandsFor, PlacedTo, OnOpen, PlacePost, SettlePost}
 
 -- ---- the shape of a node that was worked on
 
@@ -87,7 +87,7 @@ module _ {t t′ s′ map′ : List ℕ} {level : ℕ} {n : NodeValue} {spare : 
           all-cons _ _ (none-length (heldIn m .inserts) (omega (arith, p .work .mostI, g .leafI z))) (all-cons _ _ (none-length (heldIn m .deletes) (omega (arith, p .work .mostD, g .leafD z))) all-nil)
       go false e = refl
 
-  sizes : Full (entriesOf (m .entries)) (heldIn m) → (filled (nodeIn room m) || lowest (nodeIn room m)) ≡ true
+  sizes : FilledUp (entriesOf (m .entries)) (heldIn m) → (filled (nodeIn room m) || lowest (nodeIn room m)) ≡ true
   sizes (inl h) =
       let a = length-take (m .points .n) (m .points .spots) in
       let b = length-take (m .inserts .n) (m .inserts .spots) in
@@ -95,7 +95,7 @@ module _ {t t′ s′ map′ : List ℕ} {level : ℕ} {n : NodeValue} {spare : 
       sizes-filled (nodeIn room m) h (omega (arith, p .work .works .points)) (omega (arith, p .fewI ok)) (omega (arith, p .fewD ok))
   sizes (inr h) = sizes-lowest (nodeIn room m) (h .0) (h .1) (h .2) (h .3)
 
-  pub refined-shape : (b lo hi : ℕ) → standsIn a ≡ b → hi ≤ allKeys → LowsFit lo hi (entriesOf (w .node .entries)) → Full (entriesOf (w .node .entries)) (heldIn (w .node)) → lowOf a ≤ lo
+  pub refined-shape : (b lo hi : ℕ) → standsIn a ≡ b → hi ≤ allKeys → LowsFit lo hi (entriesOf (w .node .entries)) → FilledUp (entriesOf (w .node .entries)) (heldIn (w .node)) → lowOf a ≤ lo
       → agrees a (nodeIn (blocksOf (length t′)) (w .node)) ≡ true → Shape level b a lo hi (nodeIn (blocksOf (length t′)) (w .node))
   unfolding lowsRise childBlocksOk blockOk
   refined-shape b lo hi own most l full low agree =
@@ -157,7 +157,7 @@ place-fails e h said whole =
 
 -- the node n that stands for block b became w .node, and was stored there
 module _ {t s map t₁ s₁ map₁ t₂ : List ℕ} {level b : ℕ} {asked : Asked} {n : NodeValue} {spare : Spare} {left : ℕ} {w : Worked} {r : Settled}
-    (st : Standing t s map b level asked n spare left) (p : RefinePost t t₁ s₁ map₁ level n spare left w) (ok : w .ok ≡ true) (q : StoredOne t₁ t₂ b (lowOf asked) (w .node) (w .left) r) where
+    (st : StandsFor t s map b level asked n spare left) (p : RefinePost t t₁ s₁ map₁ level n spare left w) (ok : w .ok ≡ true) (q : StoredOne t₁ t₂ b (lowOf asked) (w .node) (w .left) r) where
   ground : Ground level (again asked (r .first)) n
   ground =
       record {
@@ -227,7 +227,7 @@ Received t level b asked ss ks n =
     → (rank : ℕ) × Open level (storeOf t) lo hi rank (entriesOf (n .entries)) (heldIn n) (λ k. batchSays ss ks k (lookup (suc level) (storeOf t) k (part b asked lo hi)))
 
 -- it stands open over the table's store
-standing-open : {t s map : List ℕ} {b level : ℕ} {asked : Asked} {n : NodeValue} {spare : Spare} {left : ℕ} (st : Standing t s map b level asked n spare left) (lo hi rank : ℕ) (f : ℕ → Option ℕ)
+standing-open : {t s map : List ℕ} {b level : ℕ} {asked : Asked} {n : NodeValue} {spare : Spare} {left : ℕ} (st : StandsFor t s map b level asked n spare left) (lo hi rank : ℕ) (f : ℕ → Option ℕ)
     → lo ≤ hi → hi ≤ allKeys → Sound (suc level) (storeOf t) (part b asked lo hi ∷ []) → Apart (spareOf spare left) (reaches (suc level) (storeOf t) (part b asked lo hi ∷ []))
     → Open level (storeOf t) lo hi rank (entriesOf (n .entries)) (heldIn n) f → Opened (storeOf t) level lo hi n spare left f
 unfolding inRange
@@ -243,7 +243,7 @@ standing-open {t} {b = b} {level = level} {asked = asked} {spare = spare} {left 
     }
 
 -- the node was stored
-pub settle-placed : {t s map t′ : List ℕ} {b level : ℕ} {asked : Asked} {ss : List Spot} {ks : List ℕ} {n : NodeValue} {spare : Spare} {left : ℕ} {r : Settled} → Standing t s map b level asked n spare left
+pub settle-placed : {t s map t′ : List ℕ} {b level : ℕ} {asked : Asked} {ss : List Spot} {ks : List ℕ} {n : NodeValue} {spare : Spare} {left : ℕ} {r : Settled} → StandsFor t s map b level asked n spare left
     → Received t level b asked ss ks n → PlacePost t t′ level b asked n spare left r → SettlePost t t′ level b asked ss ks spare left r
 settle-placed {t} {b = b} {level = level} {asked = asked} {ss = ss} {ks = ks} {n = n} {spare = spare} {left = left} st rec p =
     record {

@@ -1,9 +1,9 @@
 -- What the tests of push, refine and split leave known, and what they ask of the functions that they call.
 -- Assumes nothing.
-use mathlib.Core.Path.{_≡_, sym, _∙_}
+use mathlib.Core.Path.{_≡_, refl, sym, subst⁻¹, _∙_}
 use mathlib.Core.Logic.{_⊎_, inl, inr}
 use mathlib.Core.Bool.{Bool, true, false, _&&_, _||_, true≢false}
-use mathlib.Core.List.{List, [], _∷_, _++_}
+use mathlib.Core.List.{List, [], _∷_, _++_, List·Memᴰ, List·Memᴰ·head, Memᴰ·append-right}
 use Prim.Native.Nat.{ℕ, _-_, _≤_, _<_}
 use native.Mathlib.Omega.{arith}
 use lib.ListN.{length}
@@ -17,12 +17,13 @@ use Rattle.block.specs.Node.{storeOf}
 use Rattle.node.specs.Memory.{Loaded, Storable}
 use Rattle.node.specs.declared.NodeValue.{NodeValue}
 use Rattle.spare.specs.declared.Spare.{Spare}
-use Rattle.spare.specs.Spares.{spareOf}
-use Rattle.spare.proofs.Taking.{spare-less, last-new}
+use Rattle.spare.specs.Spares.{spareOf, SpareFits}
+use Rattle.spare.proofs.Taking.{spare-less}
+use Rattle.fill.proofs.Works.{work-stores}
 use Rattle.batch.specs.Batches.{TakenIn}
 use Rattle.batch.proofs.Opened.{taken-open}
 use Rattle.settle.specs.declared.Worked.{Worked}
-use Rattle.settle.specs.Settling.{Standing, Cuttable, RefinePost}
+use Rattle.settle.specs.Settling.{Cuttable, RefinePost}
 use Rattle.settle.proofs.Storing.{Received}
 
 -- a node that has a child, and room for one more
@@ -50,21 +51,17 @@ cut-halves n (inr c) = inr (c .1)
 
 -- what was refined may be stored
 pub refined-stores : {t t′ s′ map′ : List ℕ} {level : ℕ} {n : NodeValue} {spare : Spare} {left : ℕ} {w : Worked} → RefinePost t t′ s′ map′ level n spare left w → w .ok ≡ true → Storable (w .node)
-refined-stores p ok =
-    record {
-      level = let z = p .work .works .level in omega (arith, p .work .works .deep);
-      entries = p .work .works .entries;
-      first = p .work .zero ok;
-      points = p .work .works .points;
-      inserts = p .fewI ok;
-      deletes = p .fewD ok;
-    }
+refined-stores p ok = work-stores (p .work .works) (p .work .zero ok) (p .fewI ok) (p .fewD ok)
+
+-- spare blocks of a table are spare in another of its length
+pub spares-kept : (t u : List ℕ) (s : Spare) → length u ≡ length t → SpareFits t s → SpareFits u s
+spares-kept t u s e f =
+    record { few = f .few; inside = λ b i. let z = f .inside b i in (z .0, subst⁻¹ (λ (n : ℕ). b < blocksOf n) e (z .1)); once = f .once }
 
 -- the last spare block is of the table
-pub last-inside : {t s map : List ℕ} {b level : ℕ} {asked : Asked} {n : NodeValue} {spare : Spare} {left c : ℕ} → Standing t s map b level asked n spare left → 0 < left
-    → spareOf spare left ≡ spareOf spare (left - 1) ++ (c ∷ []) → c < blocksOf (length t)
-last-inside {spare = spare} {left = left} {c = c} st some last =
-    st .spares .inside c (spare-less spare left (spare .n) (st .less) c (last-new spare left c some (st .less) (st .spares .once) last .0)) .1
+pub last-inside : {t : List ℕ} {spare : Spare} {left c : ℕ} → SpareFits t spare → left ≤ spare .n → spareOf spare left ≡ spareOf spare (left - 1) ++ (c ∷ []) → (1 ≤ c) × (c < blocksOf (length t))
+last-inside {spare = spare} {left = left} {c = c} fits less last =
+    fits .inside c (spare-less spare left (spare .n) less c (subst⁻¹ (λ (bs : List ℕ). List·Memᴰ c bs) last (Memᴰ·append-right (spareOf spare (left - 1)) (List·Memᴰ·head refl))))
 
 -- what is found through a node that took in a batch
 pub received : {t : List ℕ} {b : ℕ} {n m : NodeValue} {ss : List Spot} {ks : List ℕ} {ni nd : ℕ} (level : ℕ) (asked : Asked) → Loaded t b n → TakenIn n ss ks ni nd m → Received t level b asked ss ks m

@@ -22,11 +22,11 @@ use Rattle.block.specs.Node.{Store, storeOf}
 use Rattle.block.specs.NodeRules.{zeroFirst, lows, fewest, ValidBlock}
 use Rattle.tree.specs.Part.{Part, parts, lowOf}
 use Rattle.tree.specs.Lookup.{lookup}
-use Rattle.update.specs.Change.{part, reaches, Sound, Changed}
-use Rattle.update.specs.Spare.{Taken}
-use Rattle.update.specs.Open.{Open}
-use Rattle.update.specs.Going.{Going}
-use Rattle.update.specs.Rounds.{Full}
+use Rattle.update_theory.specs.Change.{part, reaches, Sound, Changed}
+use Rattle.update_theory.specs.Spare.{Taken}
+use Rattle.update_theory.specs.Open.{Open}
+use Rattle.update_theory.specs.Going.{Going}
+use Rattle.update_theory.specs.Rounds.{FilledUp}
 use Rattle.node.specs.Memory.{entriesOf, EntriesFit, EntryFits, Loaded, Stored}
 use Rattle.node.specs.declared.NodeValue.{NodeValue}
 use Rattle.edit.specs.Edits.{heldIn, Tidy, EntryFor}
@@ -69,8 +69,8 @@ pub record Settleable (t s map : List ℕ) (b level : ℕ) (ni nd : ℕ) (spare 
   pub less : left ≤ spare .n
 
 -- what holds where the part is sound, the batch lies in its range, and it reaches no spare block
-abbrev pub OnSound : List ℕ → ℕ → ℕ → Asked → List Spot → List ℕ → Spare → ℕ → (ℕ → ℕ → Type 0) → Type 0
-OnSound t level b asked ss ks spare left Then =
+abbrev pub WhereSound : List ℕ → ℕ → ℕ → Asked → List Spot → List ℕ → Spare → ℕ → (ℕ → ℕ → Type 0) → Type 0
+WhereSound t level b asked ss ks spare left Then =
     (lo hi : ℕ) → lo ≤ hi → hi ≤ allKeys → lowOf asked ≤ lo
     → ((k : ℕ) → List·Memᴰ k (keys ss) → within lo hi k ≡ true) → ((k : ℕ) → List·Memᴰ k ks → within lo hi k ≡ true)
     → Sound (suc level) (storeOf t) (part b asked lo hi ∷ []) → Apart (spareOf spare left) (reaches (suc level) (storeOf t) (part b asked lo hi ∷ []))
@@ -82,8 +82,8 @@ pub record SettlePost (t t′ : List ℕ) (level b : ℕ) (asked : Asked) (ss : 
   pub low : r .ok ≡ true → r .first .low ≡ lowOf asked
   pub fits : r .ok ≡ true → EntryFits (r .first)
   pub second : r .ok ≡ true → r .two ≡ true → (1 ≤ r .second .block) × (r .second .block < blocksOf (length t)) × EntryFits (r .second)
-  pub done : r .ok ≡ true → OnSound t level b asked ss ks spare left (λ lo hi. SettledTo (storeOf t) (storeOf t′) level b asked lo hi ss ks spare left r)
-  pub whole : OnSound t level b asked ss ks spare left (λ lo hi. r .broken ≡ false)
+  pub done : r .ok ≡ true → WhereSound t level b asked ss ks spare left (λ lo hi. SettledTo (storeOf t) (storeOf t′) level b asked lo hi ss ks spare left r)
+  pub whole : WhereSound t level b asked ss ks spare left (λ lo hi. r .broken ≡ false)
 
 -- the lows of a node's entries: the first's is 0, the others rise within the range
 pub record LowsFit (lo hi : ℕ) (es : List Entry) : Type 0 where
@@ -132,7 +132,7 @@ pub record RefinePost (t t′ s′ map′ : List ℕ) (level : ℕ) (n : NodeVal
   pub work : WorkPost t t′ s′ map′ level n spare left r
   pub fewI : r .ok ≡ true → r .node .inserts .n ≤ 64
   pub fewD : r .ok ≡ true → r .node .deletes .n ≤ 16
-  pub full : r .ok ≡ true → (lo hi : ℕ) (f : ℕ → Option ℕ) → Opened (storeOf t) level lo hi n spare left f → Full (entriesOf (r .node .entries)) (heldIn (r .node))
+  pub full : r .ok ≡ true → (lo hi : ℕ) (f : ℕ → Option ℕ) → Opened (storeOf t) level lo hi n spare left f → FilledUp (entriesOf (r .node .entries)) (heldIn (r .node))
 
 -- "A leaf has no children": a leaf is cut in two where it has over 64 points, an inner node where it has eight children
 pub record SplitWhen (n : NodeValue) (r : Bool) : Type 0 where
@@ -140,7 +140,7 @@ pub record SplitWhen (n : NodeValue) (r : Bool) : Type 0 where
   pub fits : r ≡ false → n .level ≡ 0 → n .points .n ≤ 64
 
 -- a node in memory stands for the part at block b: it was read there, and took in a batch
-pub record Standing (t s map : List ℕ) (b depth : ℕ) (asked : Asked) (n : NodeValue) (spare : Spare) (left : ℕ) : Type 0 where
+pub record StandsFor (t s map : List ℕ) (b depth : ℕ) (asked : Asked) (n : NodeValue) (spare : Spare) (left : ℕ) : Type 0 where
   pub undoable : Undoable t s map
   pub inside : b < blocksOf (length t)
   pub tidy : Tidy n

@@ -7,7 +7,7 @@ ghost use Rattle.block.specs.Table.{blocksOf};
 ghost use Rattle.tree.specs.Part.{lowOf};
 ghost use Rattle.buffer.specs.Buffer.{held, named};
 ghost use Rattle.journal.specs.Journal.{Kept};
-ghost use Rattle.settle.specs.Settling.{Settleable, SettlePost, Pushable, WorkPost, SplitWhen, Standing, Cuttable, PlacePost, FinishPost, Arriving, Arrived};
+ghost use Rattle.settle.specs.Settling.{Settleable, SettlePost, Pushable, WorkPost, SplitWhen, StandsFor, Cuttable, PlacePost, FinishPost, Arriving, Arrived};
 
 // A part after settling: one entry, or two, and how many spare blocks are left. Where it is not ok, `broken` says that a block that was read breaks a rule;
 // else there was no room. So it is below.
@@ -186,7 +186,7 @@ fn split(
     spare: spare::Spare,
     left: usize,
 ) -> Settled
-    requires { ⌜ Standing (now t) (now s) (now map) b level asked n spare left × Cuttable level n ⌝ }
+    requires { ⌜ StandsFor (now t) (now s) (now map) b level asked n spare left × Cuttable level n ⌝ }
     ensures kept { λ r. ⌜ Kept (now (t .entry)) (now (s .entry)) (now (map .entry)) (now (t .exit)) (now (s .exit)) (now (map .exit)) ⌝ }
     ensures placed { λ r. ⌜ PlacePost (now (t .entry)) (now (t .exit)) level b asked n spare left r ⌝ }
 {

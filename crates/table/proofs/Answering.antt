@@ -6,7 +6,7 @@ use mathlib.Core.List.{List, _++_}
 use Prim.Native.Nat.{ℕ, zero, suc, _*_, _/_, _≤_, _<_}
 use native.Mathlib.Omega.{arith}
 use lib.ListN.{length, take, drop}
-use lib.Seq.{take-all}
+use lib.Seq.{take-all, take-at}
 use lib.IntN.{ℤ}
 use borrow.Author.Tests.{eq-eqb, lt-ltb, le-ltb, not-true, not-false}
 use Rattle.octets.proofs.Lists.{over-all}
@@ -14,6 +14,7 @@ use Rattle.spot.specs.Spots.{spotsBytes}
 use Rattle.spot.specs.Query.{query, everything}
 use Rattle.spot.specs.declared.Spot.{Spot}
 use Rattle.spot.specs.declared.Query.{Query}
+use Rattle.spot.proofs.Stored.{length-spotsBytes}
 use Rattle.block.specs.declared.Answer.{Answer}
 use Rattle.block.specs.Answers.{answer}
 use Rattle.block.specs.Table.{tableSized}
@@ -186,6 +187,15 @@ output-is ss out out′ n e h = h ∙ ap (λ (i : ℕ). spotsBytes ss ++ drop (1
 pub map-is : (from to to′ due : List ℕ) → length from ≡ 512 → length to ≡ 512 → from ≡ due → to′ ≡ take 512 from ++ drop 512 to → to′ ≡ due
 map-is from to to′ due f t e h =
     h ∙ over-all (take 512 from) to 512 (omega arith) ∙ take-all 512 from (omega arith) ∙ e
+
+-- spots that were gathered in a small buffer, copied
+pub few-are : (ss : List Spot) (base few out out′ : List ℕ) (n : ℕ) → n ≡ length ss → few ≡ spotsBytes ss ++ drop (12 * n) base → out′ ≡ take (12 * n) few ++ drop (12 * n) out
+    → out′ ≡ outputLeft 0 ss out
+unfolding outputLeft
+few-are ss base few out out′ n c f h =
+    output-is ss out out′ n c
+    (h ∙ ap (λ (x : List ℕ). x ++ drop (12 * n) out)
+    (ap (take (12 * n)) f ∙ take-at (spotsBytes ss) (drop (12 * n) base) (12 * n) (length-spotsBytes ss ∙ ap (λ (i : ℕ). 12 * i) (sym c))))
 
 -- the second half of a Report, by the name that its promise has for the query
 pub reportable-as : {t out : List ℕ} {p q : Query} → q ≡ p → Reportable p t out → Reportable q t out

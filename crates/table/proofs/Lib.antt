@@ -9,7 +9,8 @@ pub mod Answering
 pub mod Rebuilding
 pub mod Changes
 pub mod Topping
-pub mod Fewer
+pub mod Ranked
+pub mod Writing
 pub mod Sizing
 pub mod Alive
 pub mod Demand2

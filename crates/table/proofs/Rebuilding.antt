@@ -16,7 +16,7 @@ use Rattle.block.specs.Table.{tableSized}
 use Rattle.tree.specs.Lookup.{live}
 use Rattle.tree.specs.Walk.{walkTable, liveSpots}
 use Rattle.tree.specs.Sound.{sound}
-use Rattle.rebuild.proofs.Rebuilt.{rebuilt-sound, rebuilt-spots, rebuilt-settled, rebuild-live}
+use Rattle.rebuild_theory.proofs.Rebuilt.{rebuilt-sound, rebuilt-spots, rebuilt-settled, rebuild-live}
 use Rattle.table.specs.Calls.{rebuild, updates}
 use Rattle.table.specs.Answers.{withScratch, lent, earlyNumber, outcomes}
 use Rattle.table.specs.Updates.{scratchLeft, UpdatePost, RebuildPost}

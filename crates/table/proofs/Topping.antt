@@ -2,7 +2,7 @@
 -- Assumes nothing.
 use mathlib.Core.Path.{_≡_, refl, ap, ap₂, sym, subst, _∙_}
 use mathlib.Core.Logic.{⊎-elim}
-use mathlib.Core.Bool.{Bool, true, false, cond, true≢false}
+use mathlib.Core.Bool.{Bool, true, false, cond}
 use mathlib.Core.List.{List, [], _∷_, _++_, List·Memᴰ, List·Memᴰ·not-nil}
 use Prim.Native.Nat.{ℕ, zero, suc, _+_, _*_, _/_, _≤_, _<_}
 use native.Mathlib.Omega.{arith}
@@ -32,8 +32,7 @@ use Rattle.tree.proofs.Marks.{map-bit, read-mem, zero-marked}
 use Rattle.tree.proofs.Sources.{read-in-table}
 use Rattle.tree.proofs.BestFirstSums.{sum}
 use Rattle.tree.proofs.BestFirstTop.{Done, broken-head}
-use Rattle.top.specs.Runs.{Ended, Based, TopFront}
-use Rattle.top.specs.declared.TopTally.{TopTally}
+use Rattle.top.specs.Runs.{Ended, Based}
 use Rattle.table.specs.Calls.{top}
 use Rattle.table.specs.Answers.{lengths, earlyNumber, outputLeft}
 use Rattle.table.specs.Queries.{QueryPost, TopPost}
@@ -199,14 +198,6 @@ module _ (x1 x2 : ℤ) (k : ℕ) (t out map : List ℕ) where
         ∙ ap (λ (bs : List ℕ). spotsBytes g ++ bs) (subst (λ (j : ℕ). drop (12 * j) (v .base) ≡ drop (12 * j) out) i (v .behind)))
         (w ∙ u .map)
 
-    -- the run into the output ends well
-    pub still-whole : {i : ℕ} → Gives t x1 x2 k i → {q : Query} {n : ℕ} {seen out′ : List ℕ} {z : TopTally} → q ≡ topQuery x1 x2 0 → TopFront t q k n out seen out′ z → z .ok ≡ true
-    still-whole d {z = z} a v = go (z .ok) refl
-      where
-        go : (b : Bool) → z .ok ≡ b → z .ok ≡ true
-        go true y = y
-        go false y = absurd (true≢false (sym (ap isBroken (v .fails x1 x2 a y)) ∙ d .intact))
-
 -- ---- none is asked for
 
 module _ (x1 x2 : ℤ) (t : List ℕ) (ok : headerOk (length t) (headOf t) ≡ true) where
@@ -239,8 +230,8 @@ top-zero x1 x2 k t out map r map′ z e f =
     (top-given x1 x2 0 t out map e f r 0 out map′ (done-none x1 x2 t (g .0)) (λ b i. absurd (List·Memᴰ·not-nil i)) refl (omega arith) (g .1) refl (g .2)))
 
 -- a query made of numbers as the machine holds them
-pub top-asks : (x1 x2 a b : ℤ) (q : Query) → a ≡ x1 → b ≡ x2 → q ≡ topQuery a b 0 → q ≡ topQuery x1 x2 0
-top-asks x1 x2 a b q e f h = rw (e, f) at h
+pub top-asks : (x1 x2 a b : ℤ) (y : ℕ) (q : Query) → a ≡ x1 → b ≡ x2 → q ≡ topQuery a b y → q ≡ topQuery x1 x2 y
+top-asks x1 x2 a b y q e f h = rw (e, f) at h
 
 -- the map of a Top that reads block 0 alone
 pub map-none : setBit (replicate 512 0) 0 ≡ readMap []

@@ -5,12 +5,12 @@ ghost use lib.ListN.{length, replicate};
 ghost use Rattle.spot.specs.Query.{query};
 ghost use Rattle.block.specs.Answers.{answer};
 ghost use Rattle.block.specs.Table.{tableSized};
-ghost use Rattle.query.specs.Walks.{TableCounted};
+ghost use Rattle.query.specs.Walks.{TableCounted, TableHeld};
 ghost use Rattle.table.specs.Reports.{Reportable, Reported};
 ghost use Rattle.table.specs.Queries.{ReportPost, TopPost, CountPost, CheckPost};
 ghost use Rattle.table.specs.Updates.{FormatPost, AddPost, WithdrawPost, RebuildPost};
 ghost use Rattle.table.specs.NoneGiven.{NoneGiven};
-ghost use Rattle.table.specs.TopSizes.{TopCounted, TopTold, TopSized};
+ghost use Rattle.table.specs.TopSizes.{AllCounted, TopCounted, TopSized, Writable, AllWritten, Written};
 ghost use Rattle.top.specs.Runs.{Runnable};
 
 // An answer whose detail is 0.
@@ -62,12 +62,20 @@ pub fn check(table: &[u8]) -> block::Answer
     }
 }
 
-// A Report counted: whether its walk is whole, the blocks read and the spots found; `seen` becomes the map of the blocks read.
-fn report_size(table: &[u8], x1: i32, x2: i32, y: i32, seen: &mut [u8]) -> query::Sum
+// A Report counted: whether its walk is whole, the blocks read and the spots found; `seen` becomes the map of the blocks read. If the spots fit, they are at the front
+// of `few`.
+fn report_size(
+    table: &[u8],
+    x1: i32,
+    x2: i32,
+    y: i32,
+    seen: &mut [u8],
+    few: &mut [u8],
+) -> query::Sum
     requires { ⌜ (tableSized (length (now table)) ≡ true) × (now seen ≡ replicate 512 0) ⌝ }
-    ensures { λ r. ⌜ TableCounted (now (table .entry)) (query x1 x2 y) (now (seen .exit)) r ⌝ }
+    ensures { λ r. ⌜ TableCounted (now (table .entry)) (query x1 x2 y) (now (seen .exit)) r × TableHeld (now (table .entry)) (query x1 x2 y) (now (few .entry)) (now (few .exit)) r ⌝ }
 {
-    query::count_table(table, seen, spot::make_query(x1, x2, y))
+    query::gather_table(table, seen, spot::make_query(x1, x2, y), few)
 }
 
 // A Report written that was counted, is whole and has room: its spots at the front of the output, which may be a part of a caller's.
@@ -96,7 +104,9 @@ pub fn report(
         return plain_answer(2);
     }
     let mut seen = [0u8; 512];
-    let all = report_size(table, x1, x2, y, &mut seen);
+    // Nothing may be written before the answer is known: so few spots are gathered in a buffer, and more are found again.
+    let mut few = [0u8; 1536];
+    let all = report_size(table, x1, x2, y, &mut seen, &mut few);
     if !all.ok {
         return plain_answer(3);
     }
@@ -106,7 +116,11 @@ pub fn report(
             detail: all.tally.spots as u32,
         };
     }
-    report_into(table, x1, x2, y, output);
+    if all.tally.spots <= 128 {
+        octets::copy(&few, output, 12 * all.tally.spots);
+    } else {
+        report_into(table, x1, x2, y, output);
+    }
     octets::copy(&seen, read_map, 512);
     block::Answer {
         number: 0,
@@ -128,86 +142,116 @@ fn top_none(table: &[u8], read_map: &mut [u8]) -> block::Answer
     plain_answer(0)
 }
 
-// How many spots Top gives, if a count can say. A count that breaks says nothing: Top may end before it comes to the broken block. `read` is then cleared for the
-// search.
-fn top_count(table: &[u8], read: &mut [u8], q: spot::Query, k: usize) -> top::TopTally
-    requires { ⌜ (tableSized (length (now table)) ≡ true) × (now read ≡ replicate 512 0) ⌝ }
-    ensures { λ r. ⌜ TopCounted (now (table .entry)) q k (now (read .exit)) r ⌝ }
-{
-    let all = query::count_table(table, read, q);
-    if !all.ok {
-        octets::zero(read, 512);
-        return top::TopTally {
-            ok: false,
-            spots: 0,
-        };
-    }
-    if all.tally.spots < k {
-        return top::TopTally {
-            ok: true,
-            spots: all.tally.spots,
-        };
-    }
-    top::TopTally { ok: true, spots: k }
-}
-
-// Whether the walk of Top is whole, how many spots it gives, and whether they are in the small buffer, with the map made.
+// Whether the walk of Top is whole, how many spots it gives, and whether they are in the small buffer or are all that is in range, with the map made.
 struct Size {
     ok: bool,
     held: bool,
+    all: bool,
     spots: usize,
 }
 
-// What Top gives, if it is known without a search for k. For k of an eighth of the table and more a count takes less time than that search; the figure in
-// block 0 only chooses. Before it a search for 513, one more than the small buffer holds, finds all that are in range where they are few; if it breaks or finds 513, it says
-// nothing.
-fn top_told(table: &[u8], read: &mut [u8], q: spot::Query, k: usize, few: &mut [u8]) -> Size
-    requires { ⌜ Runnable (now table) q (now read) (now few) k 512 ⌝ }
-    ensures { λ r. ⌜ TopTold (now (table .entry)) q k (now (few .entry)) (now (read .exit)) (now (few .exit)) r ⌝ }
+// How many spots Top gives, if a count can say. A count that breaks says nothing: Top may end before it comes to the broken block. `read` is then cleared for the
+// search.
+fn top_count(table: &[u8], read: &mut [u8], q: spot::Query, k: usize) -> Size
+    requires { ⌜ (tableSized (length (now table)) ≡ true) × (now read ≡ replicate 512 0) ⌝ }
+    ensures { λ r. ⌜ TopCounted (now (table .entry)) q k (now (read .exit)) r ⌝ }
 {
-    let unknown = Size {
-        ok: false,
-        held: false,
-        spots: 0,
-    };
-    if k <= 512 {
-        return unknown;
-    }
-    if (k as u64) < block::bound_of(table) / 8 {
-        return unknown;
-    }
-    let some = top::top_run(table, read, q, 513, few, 512);
-    if some.ok & (some.spots < 513) {
+    let found = query::count_table(table, read, q);
+    let n = found.tally.spots;
+    if !found.ok {
+        octets::zero(read, 512);
         return Size {
-            ok: true,
-            held: true,
-            spots: some.spots,
+            ok: false,
+            held: false,
+            all: false,
+            spots: 0,
         };
     }
-    octets::zero(read, 512);
-    let counted = top_count(table, read, q, k);
-    Size {
-        ok: counted.ok,
-        held: false,
-        spots: counted.spots,
+    if n <= k {
+        return Size {
+            ok: true,
+            held: false,
+            all: true,
+            spots: n,
+        };
     }
+    Size {
+        ok: true,
+        held: false,
+        all: false,
+        spots: k,
+    }
+}
+
+// What Top gives, if it is known without a search. For k of an eighth of the table and more a count takes less time than a search; the figure in block 0 only chooses.
+fn top_told(table: &[u8], read: &mut [u8], q: spot::Query, k: usize) -> Size
+    requires { ⌜ (tableSized (length (now table)) ≡ true) × (now read ≡ replicate 512 0) ⌝ }
+    ensures { λ r. ⌜ TopCounted (now (table .entry)) q k (now (read .exit)) r ⌝ }
+{
+    if (k <= 512) | ((k as u64) < block::bound_of(table) / 8) {
+        return Size {
+            ok: false,
+            held: false,
+            all: false,
+            spots: 0,
+        };
+    }
+    top_count(table, read, q, k)
 }
 
 // Nothing may be written before the answer is known: it is told, or searched for with room for 512 spots.
 fn top_size(table: &[u8], read: &mut [u8], q: spot::Query, k: usize, few: &mut [u8]) -> Size
-    requires { ⌜ Runnable (now table) q (now read) (now few) k 512 × (length (now few) ≡ 6144) ⌝ }
+    requires { ⌜ Runnable (now table) q (now read) (now few) k 512 ⌝ }
     ensures { λ r. ⌜ TopSized (now (table .entry)) q k (now (few .entry)) (now (read .exit)) (now (few .exit)) r ⌝ }
 {
-    let told = top_told(table, read, q, k, few);
+    let told = top_told(table, read, q, k);
     if told.ok {
         return told;
     }
-    let all = top::top_run(table, read, q, k, few, 512);
+    let found = top::top_run(table, read, q, k, few, 512);
     Size {
-        ok: all.ok,
-        held: all.spots <= 512,
-        spots: all.spots,
+        ok: found.ok,
+        held: found.spots <= 512,
+        all: false,
+        spots: found.spots,
     }
+}
+
+// Writes all that is in range, and sorts it. Where that is k spots, Top reads from the rank of the last one on: the blocks of that walk are marked.
+fn top_all(table: &[u8], read: &mut [u8], q: spot::Query, k: usize, output: &mut [u8], n: usize)
+    requires { ⌜ Writable (now table) q k (now read) (now output) n × AllCounted (now table) q k (now read) n ⌝ }
+    ensures { λ _. ⌜ AllWritten (now (table .entry)) q k n (now (output .entry)) (now (read .exit)) (now (output .exit)) ⌝ }
+{
+    query::collect_table(table, output, q);
+    sort::by_top(output, n);
+    if n < k {
+        return;
+    }
+    let last = spot::read_key(output, 12 * (n - 1));
+    octets::zero(read, 512);
+    query::count_table(table, read, spot::top_query(q.x1, q.x2, last % 4294967296));
+}
+
+// Writes what Top gives, where it isn't held: all that is in range, or what the search finds.
+fn top_write(
+    table: &[u8],
+    read: &mut [u8],
+    q: spot::Query,
+    k: usize,
+    output: &mut [u8],
+    n: usize,
+    all: bool,
+)
+    requires { ⌜ Writable (now table) q k (now read) (now output) n × (all ≡ true → AllCounted (now table) q k (now read) n) ⌝ }
+    ensures { λ _. ⌜ Written (now (table .entry)) q k n (now (output .entry)) (now (read .exit)) (now (output .exit)) ⌝ }
+{
+    if all {
+        top_all(table, read, q, k, output, n);
+        return;
+    }
+    octets::zero(read, 512);
+    // Also by `top_run`: the wide search has one way in, so that there is one large frame.
+    top::top_run(table, read, q, k, output, n);
 }
 
 // Of the live spots with x1 ≤ place ≤ x2, the k of the highest ranks, the highest first and of equal ranks the lower place first; the read map marks the blocks
@@ -253,10 +297,8 @@ pub fn top(
             detail: n as u32,
         };
     }
-    let mut again = [0u8; 512];
-    // Also by `top_run`: the wide search has one way in, so that there is one large frame.
-    top::top_run(table, &mut again, q, k as usize, output, n);
-    octets::copy(&again, read_map, 512);
+    top_write(table, &mut read, q, k as usize, output, n, all.all);
+    octets::copy(&read, read_map, 512);
     block::Answer {
         number: 0,
         detail: n as u32,

@@ -24,9 +24,9 @@ use Rattle.frontier.specs.Frontier.{blockBy, slotBy, Chain}
 use Rattle.frontier.specs.Picks.{spotCount, spotBy, foundIn, Under, Laddered, nextOf, PickedUnder}
 use Rattle.frontier.proofs.Chains.{stands-valid}
 use Rattle.frontier.proofs.Spots.{spots-most}
-use Rattle.top.specs.Reading.{shownOf, Going}
+use Rattle.top.specs.Reading.{shownOf, Underway}
 use Rattle.top.specs.Rows.{pickRow, firstKey, leadAt, leadSlot, leadMore, headBy, Heads}
-use Rattle.top.specs.Runs.{Leads, Movable, Moved, Sofar, Passes, Givable}
+use Rattle.top.specs.Runs.{LeadRow, Movable, MovedOn, Sofar, Passes, Givable}
 use Rattle.top.proofs.Heaps.{put, put-same, put-other, put-all, First, first-row, first-most}
 use Rattle.top.proofs.Ups.{shown-is}
 use Rattle.top.proofs.Steps.{spot-given}
@@ -71,7 +71,7 @@ module _ {t : List ℕ} {q : Query} {k room : ℕ} {rows heads : List (List ℕ)
     lead-key : firstKey heads ≡ topKey (headBy t rows pick i .spot .key)
     lead-key = lead-row .key-is ∙ s .headed .key i (lead-row .inside) (lead-row .there)
 
-    pub leads : Leads t rows heads
+    pub leads : LeadRow t rows heads
     leads =
         let r = s .headed .held .room in
         let c = chain .room in
@@ -101,7 +101,7 @@ module _ {t : List ℕ} {q : Query} {k room : ℕ} {rows heads : List (List ℕ)
 
     -- ---- it is given
 
-    module _ {heads' : List (List ℕ)} {m' : ℕ} (v : Moved t q rows heads heads' m m') where
+    module _ {heads' : List (List ℕ)} {m' : ℕ} (v : MovedOn t q rows heads heads' m m') where
       abbrev next : ℕ → Pick
       next = put pick i (v .next)
 
@@ -124,7 +124,7 @@ module _ {t : List ℕ} {q : Query} {k room : ℕ} {rows heads : List (List ℕ)
           }
 
       module _ (floor : ℕ) (low : (c : ℕ) → c < 8 * n → cell c ≤ floor) (over : floor ≤ firstKey heads / 4294967296) (less : count < k) where
-        given-going : (x1 x2 : ℤ) → q ≡ topQuery x1 x2 0 → Going t x1 x2 k (slotBy t rows) (headBy t rows next) cell n (s .given ++ (headBy t rows pick i .spot ∷ [])) blocks
+        given-going : (x1 x2 : ℤ) → q ≡ topQuery x1 x2 0 → Underway t x1 x2 k (slotBy t rows) (headBy t rows next) cell n (s .given ++ (headBy t rows pick i .spot ∷ [])) blocks
         given-going x1 x2 asks =
             let e = lead-key in
             let o = top-rank (headBy t rows pick i .spot .key) in
@@ -174,7 +174,7 @@ give-none = record { on = λ n cell base blocks few chain low s. s }
 
 pub give-step : {t : List ℕ} {q : Query} {k room : ℕ} {rows first heads heads' : List (List ℕ)} {m₀ m m' floor : ℕ} {out₀ out out' : List ℕ} {count₀ count : ℕ} {x : Spot}
     → Passes t q k room rows first heads m₀ m floor out₀ out count₀ count → 0 < m → count < k → floor ≤ firstKey heads / 4294967296
-    → x ≡ spotBy t (blockBy rows (leadSlot heads)) (leadAt heads) → out' ≡ cond (ltb count room) (putSpot out (12 * count) x) out → Moved t q rows heads heads' m m'
+    → x ≡ spotBy t (blockBy rows (leadSlot heads)) (leadAt heads) → out' ≡ cond (ltb count room) (putSpot out (12 * count) x) out → MovedOn t q rows heads heads' m m'
     → Passes t q k room rows first heads' m₀ m' floor out₀ out' count₀ (count + 1)
 give-step {floor = floor} p some less over is o v =
     record { on = λ n cell base blocks few chain low s. given-sofar few chain (p .on n cell base blocks few chain low s) some v floor low over less is o }

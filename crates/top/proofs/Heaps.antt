@@ -11,7 +11,7 @@ use lib.Dec.{eqb}
 use borrow.Author.Tests.{eq-eqb, ne-eqb}
 use Rattle.octets.proofs.Order.{same-or-not}
 use Rattle.heap.specs.Heaps.{Became}
-use Rattle.heap.specs.Held.{Held}
+use Rattle.heap.specs.Held.{RowsHeld}
 use Rattle.heap.proofs.Held.{held-top, held-some, held-most, held-skip, held-push, held-replace, held-pop}
 use Rattle.top.specs.Rows.{firstKey, firstValue, Hung, Lowered}
 
@@ -86,7 +86,7 @@ pub record First (h : List (List ℕ)) (b : ℕ → Bool) (key value : ℕ → �
   pub value-is : firstValue h ≡ value at
   pub row-is : cond (b at) (key at ∷ value at ∷ []) [] ≡ getD h 0 []
 
-module _ {h : List (List ℕ)} {m : ℕ} (b : ℕ → Bool) (key value : ℕ → ℕ) {n : ℕ} (d : Held h m (λ s. cond (b s) (key s ∷ value s ∷ []) []) n) where
+module _ {h : List (List ℕ)} {m : ℕ} (b : ℕ → Bool) (key value : ℕ → ℕ) {n : ℕ} (d : RowsHeld h m (λ s. cond (b s) (key s ∷ value s ∷ []) []) n) where
   abbrev row : ℕ → List ℕ
   row s = cond (b s) (key s ∷ value s ∷ []) []
 

@@ -34,12 +34,12 @@ use Rattle.visit.proofs.Roots.{root-low, levels-are, root-part}
 use Rattle.heap.proofs.Held.{held-none, held-few}
 use Rattle.frontier.specs.declared.Pick.{Pick}
 use Rattle.frontier.specs.declared.KidPick.{KidPick}
-use Rattle.frontier.specs.Frontier.{Slot, kidCount, kidEntry, kidPart, kidCell, kidKey, rootSlot, childSlot, placeOf, slotBy, Standing, Chain}
+use Rattle.frontier.specs.Frontier.{Slot, kidCount, kidEntry, kidPart, kidCell, kidKey, rootSlot, childSlot, slotPlace, slotBy, Standing, Chain}
 use Rattle.frontier.specs.Picks.{spotCount, spotBy, foundIn, Under, Laddered, nextOf}
 use Rattle.frontier.proofs.Chains.{slot-first, child-above, stands-valid, root-stands, child-stands, child-inside, chain-first, chain-more, chain-new, chain-old}
 use Rattle.top.specs.declared.Sizes.{Sizes}
 use Rattle.top.specs.declared.Joined.{Joined}
-use Rattle.top.specs.Reading.{pendOf, childOf, shownOf, Going}
+use Rattle.top.specs.Reading.{pendOf, childOf, shownOf, Underway}
 use Rattle.top.specs.Rows.{pickRow, kidRow, headBy, cellOf, cellBy, Heads, Kids}
 use Rattle.top.specs.Runs.{written, Added, Readable, NodeRead, Sofar, Seen, Swept}
 use Rattle.top.proofs.Heaps.{put, put-same, put-old, put-all}
@@ -170,7 +170,7 @@ module _ {t : List ℕ} {q : Query} {k room : ℕ} {base seen out : List ℕ} {r
       e
 
   module _ {up : ℕ} (e : Enters t rows (z .slots) s a up) where
-    pub ready-readable : z .slots < length rows → length rows ≤ 4096 → length kids ≡ length rows → length heads ≡ length rows → Readable t seen rows kids heads z (placeOf s) a up
+    pub ready-readable : z .slots < length rows → length rows ≤ 4096 → length kids ≡ length rows → length heads ≡ length rows → Readable t seen rows kids heads z (slotPlace s) a up
     ready-readable room few kr hr =
         record {
           inside = e .inside;
@@ -191,11 +191,11 @@ module _ {t : List ℕ} {q : Query} {k room : ℕ} {base seen out : List ℕ} {r
               };
         }
 
-    module _ {seen' : List ℕ} {rows' kids' heads' : List (List ℕ)} {r : Joined} (v : NodeRead t q seen seen' rows rows' kids kids' heads heads' z (placeOf s) a up r) (ok : r .ok ≡ true) where
+    module _ {seen' : List ℕ} {rows' kids' heads' : List (List ℕ)} {r : Joined} (v : NodeRead t q seen seen' rows rows' kids kids' heads heads' z (slotPlace s) a up r) (ok : r .ok ≡ true) where
       abbrev n : ℕ
       n = z .slots
 
-      abbrev d : Added t q rows rows' kids kids' heads heads' z (r .sizes) (placeOf s) up
+      abbrev d : Added t q rows rows' kids kids' heads heads' z (r .sizes) (slotPlace s) up
       d = v .added ok
 
       abbrev kid : ℕ → KidPick
@@ -257,7 +257,7 @@ module _ {t : List ℕ} {q : Query} {k room : ℕ} {base seen out : List ℕ} {r
                 subst (λ (w : Slot). Laddered t (w .block) q (y .pick j .key) (y .pick j .more)) (sym (old j i)) (y .headed .more j i h));
           }
 
-      going : (x1 x2 : ℤ) → q ≡ topQuery x1 x2 0 → Going t x1 x2 k (slotBy t rows') (headBy t rows' pick) (cellBy t q rows' kid) (n + 1) (y .given) (s .block ∷ y .blocks)
+      going : (x1 x2 : ℤ) → q ≡ topQuery x1 x2 0 → Underway t x1 x2 k (slotBy t rows') (headBy t rows' pick) (cellBy t q rows' kid) (n + 1) (y .given) (s .block ∷ y .blocks)
       going x1 x2 asks =
           node-read t x1 x2 k (slotBy t rows) (headBy t rows (y .pick)) (cellBy t q rows (y .kid)) n (y .given) (y .blocks) s a (y .poised x1 x2 asks) valid
           (sym (y .seenIs .bits (s .block)) ∙ v .new ok) stands (slotBy t rows') (headBy t rows' pick) (cellBy t q rows' kid)

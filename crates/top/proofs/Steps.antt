@@ -35,7 +35,7 @@ use Rattle.tree.proofs.BestFirst.{Progress, start, read-part, broken-node, brok
 use Rattle.frontier.specs.Picks.{Next, Under}
 use Rattle.frontier.specs.Frontier.{Slot, kidCell, Standing}
 use Rattle.frontier.proofs.Kids.{cell-says}
-use Rattle.top.specs.Reading.{flat, pendOf, childOf, seat, seats, unreadOf, shownOf, leftOf, lefts, foundOf, Awaits, Known, Going}
+use Rattle.top.specs.Reading.{flat, pendOf, childOf, seat, seats, unreadOf, shownOf, leftOf, lefts, foundOf, Awaits, Known, Underway}
 use Rattle.top.proofs.Flats.{flat-same, flat-mem, flat-none, flat-add, flat-out}
 use Rattle.top.proofs.Lefts.{left-mem, left-gone, left-all, left-give}
 use Rattle.top.proofs.Ups.{shown-small, shown-once, kids-known}
@@ -96,7 +96,7 @@ root-poised t x1 x2 (suc k) slot head cell l h =
     }
 
 -- the child whose cell is the highest, where no next spot has as high a rank
-module _ (t : List ℕ) (x1 x2 : ℤ) (k : ℕ) (slot : ℕ → Slot) (head : ℕ → Next) (cell : ℕ → ℕ) (n : ℕ) (given : List Spot) (blocks : List ℕ) (g : Going t x1 x2 k slot head cell n given blocks)
+module _ (t : List ℕ) (x1 x2 : ℤ) (k : ℕ) (slot : ℕ → Slot) (head : ℕ → Next) (cell : ℕ → ℕ) (n : ℕ) (given : List Spot) (blocks : List ℕ) (g : Underway t x1 x2 k slot head cell n given blocks)
     (c : ℕ) (inside : c < 8 * n) (some : 0 < cell c) (highest : (j : ℕ) → j < 8 * n → cell j ≤ cell c)
     (quiet : (s : ℕ) → s < n → head s .there ≡ true → rankOf (head s .spot .key) < cell c) (room : length given < k) where
   pub child-awaits : Awaits t (topQuery x1 x2 0) (slot (c / 8)) (c % 8) (cell c)
@@ -244,7 +244,7 @@ module _ (t : List ℕ) (x1 x2 : ℤ) (k : ℕ) (slot : ℕ → Slot) (head : �
               (less-or-not (8 * n) c);
         }
 
-    pub node-read : Going t x1 x2 k slot' head' cell' (n + 1) given (s .block ∷ blocks)
+    pub node-read : Underway t x1 x2 k slot' head' cell' (n + 1) given (s .block ∷ blocks)
     node-read =
         let us = unreadOf t slot cell n in
         let fs = foundOf t q slot head n in
@@ -262,7 +262,7 @@ module _ (t : List ℕ) (x1 x2 : ℤ) (k : ℕ) (slot : ℕ → Slot) (head : �
 
 -- ---- a spot is given
 
-module _ (t : List ℕ) (x1 x2 : ℤ) (k : ℕ) (slot : ℕ → Slot) (head : ℕ → Next) (cell : ℕ → ℕ) (n : ℕ) (given : List Spot) (blocks : List ℕ) (g : Going t x1 x2 k slot head cell n given blocks) where
+module _ (t : List ℕ) (x1 x2 : ℤ) (k : ℕ) (slot : ℕ → Slot) (head : ℕ → Next) (cell : ℕ → ℕ) (n : ℕ) (given : List Spot) (blocks : List ℕ) (g : Underway t x1 x2 k slot head cell n given blocks) where
   -- the next of slot j is the highest, and every unread part promises less
   module _ (j : ℕ) (inside : j < n) (there : head j .there ≡ true) (first : (s : ℕ) → s < n → head s .there ≡ true → tk (head s .spot) ≤ tk (head j .spot))
       (floor : ℕ) (highest : (c : ℕ) → c < 8 * n → cell c ≤ floor) (over : floor ≤ rankOf (head j .spot .key)) (room : length given < k)
@@ -284,7 +284,7 @@ module _ (t : List ℕ) (x1 x2 : ℤ) (k : ℕ) (slot : ℕ → Slot) (head : �
         flat-out (lefts t (topQuery x1 x2 0) slot head) (lefts t (topQuery x1 x2 0) slot head') n j (head j .spot) inside (λ s l d. ap (leftOf (shownOf t (topQuery x1 x2 0) (slot s))) (sym (others s d)))
         (left-give (shownOf t (topQuery x1 x2 0) (slot j)) (head j) (head' j) (shown-once t (topQuery x1 x2 0) (slot j) (g .known .stands j inside)) there (g .known .held j inside there) next)
 
-    pub spot-given : Going t x1 x2 k slot head' cell n (given ++ (head j .spot ∷ [])) blocks
+    pub spot-given : Underway t x1 x2 k slot head' cell n (given ++ (head j .spot ∷ [])) blocks
     spot-given =
         let fs = foundOf t (topQuery x1 x2 0) slot head' n in
         let s = head j .spot in

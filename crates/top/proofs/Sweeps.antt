@@ -32,7 +32,7 @@ use Rattle.tree.proofs.BestFirstTop.{Done}
 use Rattle.tree.proofs.Marks.{map-bit}
 use Rattle.tree.proofs.MapBits.{bits-same, setBit-bytes, bit-setBit, read-length, read-bytes}
 use Rattle.frontier.specs.declared.Place.{Place}
-use Rattle.frontier.specs.Frontier.{rootSlot, placeOf, slotBy, Standing}
+use Rattle.frontier.specs.Frontier.{rootSlot, slotPlace, slotBy, Standing}
 use Rattle.frontier.proofs.Chains.{child-inside}
 use Rattle.top.specs.declared.Sizes.{Sizes}
 use Rattle.top.specs.declared.Joined.{Joined}
@@ -42,7 +42,7 @@ use Rattle.top.specs.declared.Search.{Search}
 use Rattle.top.specs.declared.TopTally.{TopTally}
 use Rattle.top.specs.Reading.{unreadOf, foundOf}
 use Rattle.top.specs.Rows.{firstKey, firstValue, headBy, cellBy}
-use Rattle.top.specs.Runs.{topParent, topSlot, topEntry, withKids, withHeads, Taken, Readable, NodeRead, NextKid, KidRead, Givable, Gave, Seen, Swept, Ended, Searchable, Searched, Runnable, TopRun, TopFront}
+use Rattle.top.specs.Runs.{topParent, topSlot, topEntry, withKids, withHeads, KidTaken, Readable, NodeRead, NextKid, KidRead, Givable, Gave, Seen, Swept, Ended, Searchable, Searched, Runnable, TopRun, TopFront}
 use Rattle.top.proofs.Heaps.{put}
 use Rattle.top.proofs.Steps.{Poised, child-poised, ends-full, ends-empty, slots-few}
 use Rattle.top.proofs.Outs.{written-behind}
@@ -176,7 +176,7 @@ module _ {t : List ℕ} {q : Query} {k room : ℕ} {base seen out : List ℕ} {r
           q
           (kid-admitted (s .kid) (s .known) (s .chain) kids-some)
 
-      ready : {kids' : List (List ℕ)} {f : Fresh} → Taken t q rows kids kids' (z .kids) f
+      ready : {kids' : List (List ℕ)} {f : Fresh} → KidTaken t q rows kids kids' (z .kids) f
           → Ready t q k room base seen out rows kids' heads (withKids z (f .kids)) count (topSlot t rows kids) (Child (topEntry t rows kids))
       ready v =
           let o = s .sofar in
@@ -215,17 +215,17 @@ module _ {t : List ℕ} {q : Query} {k room : ℕ} {base seen out : List ℕ} {r
             takes = takable (s .kid) (s .known) (s .chain) kids-some few;
             reads = λ kids' f v e.
                 subst (λ (p : Place). Readable t seen rows kids' heads (withKids z (f .kids)) p (Child (f .entry)) (f .up)) (sym (v .place))
-                (subst (λ (x : Entry). Readable t seen rows kids' heads (withKids z (f .kids)) (placeOf (topSlot t rows kids)) (Child x) (f .up)) (sym (v .entry))
-                (subst (Readable t seen rows kids' heads (withKids z (f .kids)) (placeOf (topSlot t rows kids)) (Child (topEntry t rows kids))) (sym (v .up))
+                (subst (λ (x : Entry). Readable t seen rows kids' heads (withKids z (f .kids)) (slotPlace (topSlot t rows kids)) (Child x) (f .up)) (sym (v .entry))
+                (subst (Readable t seen rows kids' heads (withKids z (f .kids)) (slotPlace (topSlot t rows kids)) (Child (topEntry t rows kids))) (sym (v .up))
                 (ready-readable (ready v) (enters l) l most (e ∙ kr) hr)));
           }
 
       module _ {seen' : List ℕ} {rows' kids' heads' : List (List ℕ)} {r : Joined} (v : KidRead t q seen seen' rows rows' kids kids' heads heads' z r) where
-        read : NodeRead t q seen seen' rows rows' (v .via) kids' heads heads' (withKids z (v .fresh .kids)) (placeOf (topSlot t rows kids)) (Child (topEntry t rows kids)) (firstValue kids) r
+        read : NodeRead t q seen seen' rows rows' (v .via) kids' heads heads' (withKids z (v .fresh .kids)) (slotPlace (topSlot t rows kids)) (Child (topEntry t rows kids)) (firstValue kids) r
         read =
             let y = withKids z (v .fresh .kids) in
-            subst (λ (u : ℕ). NodeRead t q seen seen' rows rows' (v .via) kids' heads heads' y (placeOf (topSlot t rows kids)) (Child (topEntry t rows kids)) u r) (v .taken .up)
-            (subst (λ (x : Entry). NodeRead t q seen seen' rows rows' (v .via) kids' heads heads' y (placeOf (topSlot t rows kids)) (Child x) (v .fresh .up) r) (v .taken .entry)
+            subst (λ (u : ℕ). NodeRead t q seen seen' rows rows' (v .via) kids' heads heads' y (slotPlace (topSlot t rows kids)) (Child (topEntry t rows kids)) u r) (v .taken .up)
+            (subst (λ (x : Entry). NodeRead t q seen seen' rows rows' (v .via) kids' heads heads' y (slotPlace (topSlot t rows kids)) (Child x) (v .fresh .up) r) (v .taken .entry)
             (subst (λ (p : Place). NodeRead t q seen seen' rows rows' (v .via) kids' heads heads' y p (Child (v .fresh .entry)) (v .fresh .up) r) (v .taken .place) (v .read)))
 
         pub kid-breaks : r .ok ≡ false → (x1 x2 : ℤ) → q ≡ topQuery x1 x2 0 → topWalk t x1 x2 k ≡ broken
@@ -237,7 +237,7 @@ module _ {t : List ℕ} {q : Query} {k room : ℕ} {base seen out : List ℕ} {r
 -- ---- from the root
 
 module _ {t : List ℕ} {q : Query} {k room : ℕ} {seen out : List ℕ} {rows kids heads : List (List ℕ)} (p : Searchable t q seen out rows kids heads k room)
-    (ok : headerOk (length t) (headOf t) ≡ true) {root : Place} (is : root ≡ placeOf (rootSlot t)) where
+    (ok : headerOk (length t) (headOf t) ≡ true) {root : Place} (is : root ≡ slotPlace (rootSlot t)) where
   abbrev none : Sizes
   none = record { slots = 0; kids = 0; heads = 0 }
 
@@ -254,7 +254,7 @@ module _ {t : List ℕ} {q : Query} {k room : ℕ} {seen out : List ℕ} {rows k
 
   module _ {seen' : List ℕ} {rows' kids' heads' : List (List ℕ)} {r : Joined}
       (v : NodeRead t q seen seen' rows rows' kids kids' heads heads' (record { slots = 0; kids = 0; heads = 0 }) root (Root (root .block)) 0 r) where
-    root-read : NodeRead t q seen seen' rows rows' kids kids' heads heads' none (placeOf (rootSlot t)) (Root (rootSlot t .block)) 0 r
+    root-read : NodeRead t q seen seen' rows rows' kids kids' heads heads' none (slotPlace (rootSlot t)) (Root (rootSlot t .block)) 0 r
     root-read = subst (λ (x : Place). NodeRead t q seen seen' rows rows' kids kids' heads heads' none x (Root (x .block)) 0 r) is v
 
     pub root-breaks : r .ok ≡ false → (x1 x2 : ℤ) → q ≡ topQuery x1 x2 0 → topWalk t x1 x2 k ≡ broken

@@ -86,7 +86,7 @@ pub record Known (t : List ℕ) (q : Query) (slot : ℕ → Slot) (head : ℕ �
   pub awaits : (c : ℕ) → c < 8 * n → (cell c ≡ 0) ⊎ Awaits t q (slot (c / 8)) (c % 8) (cell c)
 
 -- Top on its way
-pub record Going (t : List ℕ) (x1 x2 : ℤ) (k : ℕ) (slot : ℕ → Slot) (head : ℕ → Next) (cell : ℕ → ℕ) (n : ℕ) (given : List Spot) (blocks : List ℕ) : Type 0 where
+pub record Underway (t : List ℕ) (x1 x2 : ℤ) (k : ℕ) (slot : ℕ → Slot) (head : ℕ → Next) (cell : ℕ → ℕ) (n : ℕ) (given : List Spot) (blocks : List ℕ) : Type 0 where
   pub known : Known t (topQuery x1 x2 0) slot head cell n
   pub progress : Progress t x1 x2 k (unreadOf t slot cell n) (foundOf t (topQuery x1 x2 0) slot head n) given blocks
   pub count : length blocks ≡ n

@@ -9,7 +9,7 @@ use lib.Dec.{leb, ltb}
 use Rattle.spot.specs.Keys.{topKey}
 use Rattle.spot.specs.declared.Query.{Query}
 use Rattle.heap.specs.Heaps.{Heap}
-use Rattle.heap.specs.Held.{Held}
+use Rattle.heap.specs.Held.{RowsHeld}
 use Rattle.frontier.specs.declared.Pick.{Pick}
 use Rattle.frontier.specs.declared.KidPick.{KidPick}
 use Rattle.frontier.specs.Frontier.{Slot, kidCell, kidKey, slotBy}
@@ -52,13 +52,13 @@ pub record Seated (s : ℕ) (p : Pick) : Type 0 where
 
 -- one slot more, whose row is x
 pub record Hung (h : List (List ℕ)) (m : ℕ) (x : List ℕ) (h' : List (List ℕ)) (r : ℕ) : Type 0 where
-  pub held : (row row' : ℕ → List ℕ) (n : ℕ) → Held h m row n → ((j : ℕ) → j < n → row' j ≡ row j) → row' n ≡ x → Held h' r row' (n + 1)
+  pub held : (row row' : ℕ → List ℕ) (n : ℕ) → RowsHeld h m row n → ((j : ℕ) → j < n → row' j ≡ row j) → row' n ≡ x → RowsHeld h' r row' (n + 1)
 
 -- the slot of the first row takes the row x
 pub record Lowered (h : List (List ℕ)) (m : ℕ) (x : List ℕ) (h' : List (List ℕ)) (r : ℕ) : Type 0 where
   pub heap : Heap r h'
   pub few : r ≤ m
-  pub held : (row row' : ℕ → List ℕ) (n s : ℕ) → Held h m row n → s < n → row s ≡ getD h 0 [] → row' s ≡ x → ((j : ℕ) → (j ≡ s → ⊥) → row' j ≡ row j) → Held h' r row' n
+  pub held : (row row' : ℕ → List ℕ) (n s : ℕ) → RowsHeld h m row n → s < n → row s ≡ getD h 0 [] → row' s ≡ x → ((j : ℕ) → (j ≡ s → ⊥) → row' j ≡ row j) → RowsHeld h' r row' n
 
 -- ---- spots
 
@@ -68,7 +68,7 @@ headBy t rows pick s = nextOf t (slotBy t rows s .block) (pick s)
 
 -- m rows have the best spots of n slots, with the next ones wanted
 pub record Heads (t : List ℕ) (q : Query) (rows heads : List (List ℕ)) (m n : ℕ) (pick : ℕ → Pick) : Type 0 where
-  pub held : Held heads m (λ s. pickRow s (pick s)) n
+  pub held : RowsHeld heads m (λ s. pickRow s (pick s)) n
   pub index : (s : ℕ) → s < n → pick s .there ≡ true → pick s .at < spotCount t (slotBy t rows s .block)
   pub key : (s : ℕ) → s < n → pick s .there ≡ true → pick s .key ≡ topKey (headBy t rows pick s .spot .key)
   pub more : (s : ℕ) → s < n → pick s .there ≡ true → Laddered t (slotBy t rows s .block) q (pick s .key) (pick s .more)
@@ -84,6 +84,6 @@ cellBy t q rows kid c = cellOf t q (slotBy t rows (c / 8)) (kid (c / 8) .key) (c
 
 -- m rows have the best unread children of n slots
 pub record Kids (t : List ℕ) (q : Query) (rows kids : List (List ℕ)) (m n : ℕ) (kid : ℕ → KidPick) : Type 0 where
-  pub held : Held kids m (λ s. kidRow s (kid s)) n
+  pub held : RowsHeld kids m (λ s. kidRow s (kid s)) n
   pub index : (s : ℕ) → s < n → kid s .at < 8
   pub key : (s : ℕ) → s < n → 0 < kid s .key → kid s .key ≡ kidKey t (slotBy t rows s .block) (slotBy t rows s .span) q (kid s .at)

@@ -28,7 +28,7 @@ use Rattle.heap.specs.Heaps.{Heap}
 use Rattle.frontier.specs.declared.Pick.{Pick}
 use Rattle.frontier.specs.declared.KidPick.{KidPick}
 use Rattle.frontier.specs.declared.Place.{Place}
-use Rattle.frontier.specs.Frontier.{Slot, kidCount, kidEntry, placeOf, childSlot, blockBy, slotBy, Chain, Hangs}
+use Rattle.frontier.specs.Frontier.{Slot, kidCount, kidEntry, slotPlace, childSlot, blockBy, slotBy, Chain, Hangs}
 use Rattle.frontier.specs.Picks.{spotCount, foundIn, Laddered, PickedUnder, KidBest}
 use Rattle.top.specs.declared.Sizes.{Sizes}
 use Rattle.top.specs.declared.Joined.{Joined}
@@ -36,7 +36,7 @@ use Rattle.top.specs.declared.Fresh.{Fresh}
 use Rattle.top.specs.declared.Given.{Given}
 use Rattle.top.specs.declared.Search.{Search}
 use Rattle.top.specs.declared.TopTally.{TopTally}
-use Rattle.top.specs.Reading.{Going}
+use Rattle.top.specs.Reading.{Underway}
 use Rattle.top.specs.Rows.{pickRow, kidRow, firstKey, firstValue, leadAt, leadSlot, leadMore, headBy, cellBy, Hung, Lowered, Heads, Kids}
 
 -- ---- a node is read
@@ -104,8 +104,8 @@ pub record Takable (t : List ℕ) (rows kids : List (List ℕ)) (m : ℕ) : Type
   pub level : 1 ≤ topParent t rows kids .level
 
 -- it is taken, and the next of its parent's comes in
-pub record Taken (t : List ℕ) (q : Query) (rows kids kids' : List (List ℕ)) (m : ℕ) (r : Fresh) : Type 0 where
-  pub place : r .place ≡ placeOf (topSlot t rows kids)
+pub record KidTaken (t : List ℕ) (q : Query) (rows kids kids' : List (List ℕ)) (m : ℕ) (r : Fresh) : Type 0 where
+  pub place : r .place ≡ slotPlace (topSlot t rows kids)
   pub entry : r .entry ≡ topEntry t rows kids
   pub up : r .up ≡ firstValue kids
   pub next : KidPick
@@ -122,7 +122,7 @@ withHeads z m = record { slots = z .slots; kids = z .kids; heads = m }
 -- the child of the first row can be read
 pub record NextKid (t : List ℕ) (q : Query) (seen : List ℕ) (rows kids heads : List (List ℕ)) (z : Sizes) : Type 0 where
   pub takes : Takable t rows kids (z .kids)
-  pub reads : (kids' : List (List ℕ)) (f : Fresh) → Taken t q rows kids kids' (z .kids) f → length kids' ≡ length kids
+  pub reads : (kids' : List (List ℕ)) (f : Fresh) → KidTaken t q rows kids kids' (z .kids) f → length kids' ≡ length kids
       → Readable t seen rows kids' heads (withKids z (f .kids)) (f .place) (Child (f .entry)) (f .up)
 
 -- it is read
@@ -130,7 +130,7 @@ pub record KidRead (t : List ℕ) (q : Query) (seen seen' : List ℕ) (rows rows
   pub fresh : Fresh
   pub via : List (List ℕ)
   pub long : length via ≡ length kids
-  pub taken : Taken t q rows kids via (z .kids) fresh
+  pub taken : KidTaken t q rows kids via (z .kids) fresh
   pub read : NodeRead t q seen seen' rows rows' via kids' heads heads' (withKids z (fresh .kids)) (fresh .place) (Child (fresh .entry)) (fresh .up) r
 
 -- ---- spots are given
@@ -140,7 +140,7 @@ abbrev pub written : ℕ → List Spot → List ℕ → List ℕ
 written room given base = spotsBytes (take room given) ++ drop (12 * length (take room given)) base
 
 -- the first row is that of a slot's spot
-pub record Leads (t : List ℕ) (rows heads : List (List ℕ)) : Type 0 where
+pub record LeadRow (t : List ℕ) (rows heads : List (List ℕ)) : Type 0 where
   pub some : 0 < length heads
   pub slot : leadSlot heads < length rows
   pub valid : ValidBlock t (blockBy rows (leadSlot heads))
@@ -154,7 +154,7 @@ pub record Movable (t : List ℕ) (q : Query) (rows heads : List (List ℕ)) (m 
   pub more : Laddered t (slotBy t rows (leadSlot heads) .block) q (firstKey heads) (leadMore heads)
 
 -- the next spot of its slot, the best under its top key, takes its place
-pub record Moved (t : List ℕ) (q : Query) (rows heads heads' : List (List ℕ)) (m r : ℕ) : Type 0 where
+pub record MovedOn (t : List ℕ) (q : Query) (rows heads heads' : List (List ℕ)) (m r : ℕ) : Type 0 where
   pub next : Pick
   pub under : PickedUnder t (slotBy t rows (leadSlot heads) .block) q (firstKey heads) (foundIn t q (slotBy t rows (leadSlot heads))) next
   pub lowered : Lowered heads m (pickRow (leadSlot heads) next) heads' r
@@ -164,7 +164,7 @@ pub record Sofar (t : List ℕ) (q : Query) (k room : ℕ) (rows heads : List (L
   pub pick : ℕ → Pick
   pub headed : Heads t q rows heads m n pick
   pub given : List Spot
-  pub going : (x1 x2 : ℤ) → q ≡ topQuery x1 x2 0 → Going t x1 x2 k (slotBy t rows) (headBy t rows pick) cell n given blocks
+  pub going : (x1 x2 : ℤ) → q ≡ topQuery x1 x2 0 → Underway t x1 x2 k (slotBy t rows) (headBy t rows pick) cell n given blocks
   pub counted : count ≡ length given
   pub output : out ≡ written room given base
   pub fits : 12 * room ≤ length base

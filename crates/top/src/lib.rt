@@ -10,7 +10,7 @@ ghost use Rattle.heap.specs.Heaps.{Heap};
 ghost use Rattle.frontier.specs.Frontier.{blockBy};
 ghost use Rattle.frontier.specs.Picks.{spotBy};
 ghost use Rattle.top.specs.Rows.{pickRow, firstKey, leadAt, leadSlot, Seated, Hung, Lowered};
-ghost use Rattle.top.specs.Runs.{Joinable, Added, Readable, NodeRead, Takable, Taken, NextKid, KidRead, Leads, Movable, Moved, Givable, Gave, Sweepable, Searchable, Searched, Runnable, TopRun, TopFront};
+ghost use Rattle.top.specs.Runs.{Joinable, Added, Readable, NodeRead, Takable, KidTaken, NextKid, KidRead, LeadRow, Movable, MovedOn, Givable, Gave, Sweepable, Searchable, Searched, Runnable, TopRun, TopFront};
 
 // How many slots there are, and how many rows in the heaps of children and of spots.
 pub struct Sizes {
@@ -153,7 +153,7 @@ fn read_node(
 // The child with the highest key goes out of the heap, and the next of the same parent comes in, if there is one.
 fn take_kid(t: &[u8], rows: &[[u16; 2]], kids: &mut [[u64; 2]], m: usize, q: spot::Query) -> Fresh
     requires { ⌜ Takable (now t) (now rows) (now kids) m ⌝ }
-    ensures { λ r. ⌜ Taken (now (t .entry)) q (now (rows .entry)) (now (kids .entry)) (now (kids .exit)) m r ⌝ }
+    ensures { λ r. ⌜ KidTaken (now (t .entry)) q (now (rows .entry)) (now (kids .entry)) (now (kids .exit)) m r ⌝ }
 {
     let row = kids[0];
     let up = row[1] as usize;
@@ -215,7 +215,7 @@ fn read_kid(
 
 // The spot at the head of the heap of spots.
 fn lead(t: &[u8], rows: &[[u16; 2]], heads: &[[u64; 2]]) -> spot::Spot
-    requires { ⌜ Leads (now t) (now rows) (now heads) ⌝ }
+    requires { ⌜ LeadRow (now t) (now rows) (now heads) ⌝ }
     ensures { λ r. ⌜ r ≡ spotBy (now (t .entry)) (blockBy (now (rows .entry)) (leadSlot (now (heads .entry)))) (leadAt (now (heads .entry))) ⌝ }
 {
     let row = heads[0];
@@ -234,7 +234,7 @@ fn move_on(
     left: usize,
 ) -> usize
     requires { ⌜ Movable (now t) q (now rows) (now heads) m ⌝ }
-    ensures { λ r. ⌜ Moved (now (t .entry)) q (now (rows .entry)) (now (heads .entry)) (now (heads .exit)) m r ⌝ }
+    ensures { λ r. ⌜ MovedOn (now (t .entry)) q (now (rows .entry)) (now (heads .entry)) (now (heads .exit)) m r ⌝ }
 {
     let row = heads[0];
     let v = row[1];

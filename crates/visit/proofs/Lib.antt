@@ -5,5 +5,6 @@ pub mod Paths
 pub mod Counts
 pub mod Above
 pub mod Marking
+pub mod Gathering
 pub mod Children
 pub mod Roots

@@ -28,12 +28,12 @@ use Rattle.block.specs.Node.{storeOf}
 use Rattle.block.proofs.Shut.{all2}
 use Rattle.tree.specs.Walk.{takes, takesKey}
 use Rattle.visit.specs.declared.Path.{Path}
-use Rattle.visit.specs.Visit.{above, waiting, waitingBy, waitingAbove, keysFrom, belowIn, taken, chosen, marksIn, AllWanted, FirstMarks, Wanted, Blank, Struck, Marks}
+use Rattle.visit.specs.Visit.{above, waiting, waitingBy, waitingAbove, keysFrom, belowIn, taken, chosen, marksIn, AllWanted, RangeMarks, Through, Wanted, Blank, Struck, Marks, WaitsGathered}
 use Rattle.visit.proofs.Counts.{spot-key}
 use Rattle.visit.proofs.Paths.{waiting-append, path-length}
-use Rattle.visit.proofs.Search.{below-rises, run-down, run-at, run-rises}
+use Rattle.visit.proofs.Search.{below-rises, run-up, run-down, run-at, run-rises}
 
-takes-is : (q : Query) (named : List ℕ) (k : ℕ) → takesKey q named k ≡ wantsKey q k && not (has k named)
+pub takes-is : (q : Query) (named : List ℕ) (k : ℕ) → takesKey q named k ≡ wantsKey q k && not (has k named)
 unfolding takesKey
 takes-is q named k = all2 (wantsKey q k) (not (has k named))
 
@@ -64,30 +64,43 @@ module _ (t : List ℕ) (at : ℕ) (q : Query) where
         rest = λ j h. getD-set-other m i j b false (λ s. omega arith) ∙ v .rest j (omega arith);
       }
 
--- ---- all of them
+-- ---- those of a range
 
-pub first-none : FirstMarks 0 (replicate 64 false)
-first-none =
+pub range-none : (a : ℕ) → RangeMarks a a (replicate 64 false)
+range-none a =
     let none = wanted-none [] 0 everything in
     record {
       sized = none .sized;
-      first = λ i h. absurd (let z : ⊥ = omega arith in z);
-      rest = none .rest;
+      inside = λ i h l. absurd (let z : ⊥ = omega arith in z);
+      before = λ i h. none .rest i (omega arith);
+      behind = λ i h. none .rest i (omega arith);
     }
 
-pub first-more : {m : List Bool} (i : ℕ) → FirstMarks i m → i < 64 → FirstMarks (i + 1) (set m i true)
-first-more {m} i v l =
+pub range-more : {m : List Bool} (a i : ℕ) → RangeMarks a i m → a ≤ i → i < 64 → RangeMarks a (i + 1) (set m i true)
+range-more {m} a i v f l =
     record {
       sized = length-set m i true ∙ v .sized;
-      first = λ j h.
+      inside = λ j g h.
           ⊎-elim (λ (s : j ≡ i). ap (λ (y : ℕ). getD (set m i true) y false) s ∙ getD-set-same m i true false (omega (arith, v .sized)))
-          (λ (d : j ≡ i → ⊥). getD-set-other m i j true false d ∙ v .first j (omega arith))
+          (λ (d : j ≡ i → ⊥). getD-set-other m i j true false d ∙ v .inside j g (omega arith))
           (same-or-not j i);
-      rest = λ j h. getD-set-other m i j true false (λ s. omega arith) ∙ v .rest j (omega arith);
+      before = λ j h. getD-set-other m i j true false (λ s. omega arith) ∙ v .before j h;
+      behind = λ j h. getD-set-other m i j true false (λ s. omega arith) ∙ v .behind j (omega arith);
     }
 
-pub first-wanted : {t : List ℕ} {at n : ℕ} {q : Query} {m : List Bool} → FirstMarks n m → AllWanted t at n q → Wanted t at n q m
-first-wanted v w = record { sized = v .sized; takes = λ i h. v .first i h ∙ sym (w i h); rest = v .rest }
+-- a range that ends before it begins has none
+pub range-end : {m : List Bool} (a e i : ℕ) → RangeMarks a i m → e ≤ i → (i ≤ e) ⊎ (i ≡ a) → RangeMarks a e m
+range-end {m} a e i v h (inl l) = let s : i ≡ e = omega arith in subst (λ (j : ℕ). RangeMarks a j m) s v
+range-end {m} a e i v h (inr s) =
+    record {
+      sized = v .sized;
+      inside = λ j g l. absurd (let z : ⊥ = omega arith in z);
+      before = v .before;
+      behind = λ j l. ⊎-elim (λ (g : a ≤ j). v .behind j (omega arith)) (λ (g : j < a). v .before j g) (less-or-not a j);
+    }
+
+pub first-wanted : {t : List ℕ} {at n : ℕ} {q : Query} {m : List Bool} → RangeMarks 0 n m → AllWanted t at n q → Wanted t at n q m
+first-wanted v w = record { sized = v .sized; takes = λ i h. v .inside i (omega arith) h ∙ sym (w i h); rest = v .behind }
 
 -- keys that rise from one of the query's places to another
 pub all-wanted : (t : List ℕ) (at n : ℕ) (q : Query) {lo hi least from last : ℕ} → 0 < n → rising (keysFrom t 12 n at) ≡ true → lo ≡ keyAt t at
@@ -134,6 +147,49 @@ module _ (t : List ℕ) (at n : ℕ) (q : Query) (some : 0 < n) (p : rising (key
       → Wanted t at n q m → Blank t at n lo hi m
   wanted-blank c d e g a b v i l o =
       v .takes i l ∙ unwanted q (keyAt t (at + 12 * i)) (⊎-elim (λ h. inl (before-lo i l c e a h)) (λ h. inr (behind-hi i l d g b h)) o)
+
+-- ---- those of the query's places, where it asks for no rank
+
+pub placed-wanted : (t : List ℕ) (at n : ℕ) (q : Query) {a e from last : ℕ} {m : List Bool} → rising (keysFrom t 12 n at) ≡ true → leastOf q ≡ 0 → from ≡ fromOf q → last ≡ lastOf q
+    → a ≡ belowIn from (keysFrom t 12 n at) → Through t at n last e → RangeMarks a e m → Wanted t at n q m
+placed-wanted t at n q {a} {e} {from} {last} {m} p z f l below through v =
+    record {
+      sized = v .sized;
+      takes = each;
+      rest = λ i h. v .behind i (omega (arith, through .few));
+    }
+  where
+    each : (i : ℕ) → i < n → getD m i false ≡ wantsKey q (keyAt t (at + 12 * i))
+    each i h =
+        let k : ℕ = keyAt t (at + 12 * i) in
+        ⊎-elim
+        (λ (o : from ≤ k). ⊎-elim
+        (λ (u : k ≤ last). v .inside i (omega (arith, run-down t 12 n at p from i h o)) (through .under i h u) ∙ sym (wants-yes q k (placed-yes q k (omega arith) (omega arith)) (omega arith)))
+        (λ (u : last < k). v .behind i (through .over i h u) ∙ sym (unwanted q k (inr (omega arith))))
+        (less-or-not k last))
+        (λ (o : k < from). v .before i (omega (arith, run-up t 12 n at p from i h o)) ∙ sym (unwanted q k (inl (omega arith))))
+        (less-or-not from k)
+
+-- how many have a key up to k
+module _ (t : List ℕ) (at n k : ℕ) (p : rising (keysFrom t 12 n at) ≡ true) where
+  pub through-none : n ≡ 0 → Through t at n k 0
+  through-none e = record { few = omega arith; under = λ i h l. absurd (let z : ⊥ = omega arith in z); over = λ i h l. omega arith }
+
+  pub through-all : {x : ℕ} → 0 < n → x ≡ keyAt t (at + 12 * (n - 1)) → x ≤ k → Through t at n k n
+  through-all some e l =
+      record {
+        few = omega arith;
+        under = λ i h g. h;
+        over = λ i h g. absurd (let z : ⊥ = omega (arith, run-rises t 12 n at p i (n - 1) (omega arith) (omega arith)) in z);
+      }
+
+  pub through-some : {r : ℕ} → r ≡ belowIn (k + 1) (keysFrom t 12 n at) → r ≤ n → Through t at n k r
+  through-some e l =
+      record {
+        few = l;
+        under = λ i h g. omega (arith, run-up t 12 n at p (k + 1) i h (omega arith));
+        over = λ i h g. omega (arith, run-down t 12 n at p (k + 1) i h (omega arith));
+      }
 
 -- ---- those struck
 
@@ -191,6 +247,17 @@ module _ {t : List ℕ} {at n : ℕ} where
         rest = λ i l. s .rest i l ∙ r .rest i l;
       }
 
+-- by the first keys of a list, and by one more
+pub struck-first : (t : List ℕ) (at n : ℕ) (ws : List ℕ) (m : List Bool) → Struck t at n (take 0 ws) m m
+struck-first t at n ws m = struck-none m (λ i h. refl)
+
+pub struck-more : (t : List ℕ) (at n : ℕ) (ws : List ℕ) {k : ℕ} {m m′ m″ : List Bool} (j : ℕ) → j < length ws → k ≡ getD ws j 0 → Struck t at n (take j ws) m m′ → Struck t at n (k ∷ []) m′ m″
+    → Struck t at n (take (j + 1) ws) m m″
+struck-more t at n ws {k} {m} {m′} {m″} j h e s v =
+    subst (λ (l : List ℕ). Struck t at n l m m″)
+    (ap (λ (x : ℕ). take j ws ++ (x ∷ [])) e ∙ sym (ap (λ (i : ℕ). take i ws) (add-one j) ∙ take-suc ws j 0 h))
+    (struck-then s v)
+
 -- ---- one key
 
 module _ (t : List ℕ) (at n : ℕ) (p : rising (keysFrom t 12 n at) ≡ true) (k : ℕ) {i : ℕ} (e : i ≡ belowIn k (keysFrom t 12 n at)) where
@@ -232,13 +299,40 @@ has-none f w (suc n) at k h =
 first-least : (x : ℕ) (xs : List ℕ) {k : ℕ} → rising (x ∷ xs) ≡ true → List·Memᴰ k (x ∷ xs) → x ≤ k
 first-least x xs p i = rising-least x (x ∷ xs) (rising-make x x xs (omega arith) (rising-rest 0 x xs p)) i
 
+-- of a run that rises, the keys before the first not below lo, and those from one above hi on, are none between lo and hi
+module _ (t : List ℕ) (a w c : ℕ) (r : rising (keysFrom t w c a) ≡ true) where
+  pub run-skips : {j : ℕ} (lo x : ℕ) → j ≡ belowIn lo (keysFrom t w c a) → j ≤ c → lo ≤ x → has x (keysFrom t w j a) ≡ false
+  run-skips {j} lo x g l o = has-none (keyAt t) w j a x (λ y z q. omega (arith, run-down t w c a r lo y (omega arith) (omega arith)))
+
+  pub run-stops : (j hi x : ℕ) → j < c → hi < keyAt t (a + w * j) → x ≤ hi → has x (keysFrom t w j a) ≡ has x (keysFrom t w c a)
+  run-stops j hi x h l z =
+      sym (
+      ap (has x) whole ∙ has-append x (keysFrom t w j a) (left (keyAt t) w c a j)
+      ∙ ap (λ (b : Bool). has x (keysFrom t w j a) || b) above-last ∙ or-false (has x (keysFrom t w j a)))
+    where
+      whole : keysFrom t w c a ≡ keysFrom t w j a ++ left (keyAt t) w c a j
+      whole =
+          let y : c ≡ j + (c - j) = omega arith in
+          ap (λ (x : ℕ). keysFrom t w x a) y ∙ records-append (keyAt t) w j (c - j) a
+
+      rest : left (keyAt t) w c a j ≡ keyAt t (a + w * j) ∷ left (keyAt t) w c a (j + 1)
+      rest = left-cons (keyAt t) w c a j h
+
+      above-last : has x (left (keyAt t) w c a j) ≡ false
+      above-last =
+          has-not x (left (keyAt t) w c a j)
+          (λ o.
+          let up : rising (keyAt t (a + w * j) ∷ left (keyAt t) w c a (j + 1)) ≡ true = sym (ap rising rest) ∙ rising-right 0 (keysFrom t w j a) (left (keyAt t) w c a j) (sym (ap rising whole) ∙ r) in
+          let f : keyAt t (a + w * j) ≤ x = first-least (keyAt t (a + w * j)) (left (keyAt t) w c a (j + 1)) up (subst (λ (y : List ℕ). List·Memᴰ x y) rest o) in
+          omega arith)
+
 module _ (t : List ℕ) (at n a w c lo hi : ℕ) (r : rising (keysFrom t w c a) ≡ true) where
   -- keys below lo strike none
   pub strike-start : {j : ℕ} (m : List Bool) → Blank t at n lo hi m → j ≡ belowIn lo (keysFrom t w c a) → j ≤ c → Struck t at n (keysFrom t w j a) m m
   strike-start {j} m blank g l =
       struck-idle m
       (λ i h.
-      ⊎-elim (λ (o : lo ≤ keyAt t (at + 12 * i)). inl (has-none (keyAt t) w j a (keyAt t (at + 12 * i)) (λ y z q. omega (arith, run-down t w c a r lo y (omega arith) (omega arith)))))
+      ⊎-elim (λ (o : lo ≤ keyAt t (at + 12 * i)). inl (run-skips t a w c r lo (keyAt t (at + 12 * i)) g l o))
       (λ (o : keyAt t (at + 12 * i) < lo). inr (blank i h (inl o)))
       (less-or-not lo (keyAt t (at + 12 * i))))
 
@@ -260,31 +354,11 @@ module _ (t : List ℕ) (at n a w c lo hi : ℕ) (r : rising (keysFrom t w c a) 
       → Struck t at n (keysFrom t w j a) m m′ → Struck t at n (keysFrom t w c a) m m′
   strike-stop {k} j blank h g l s =
       struck-either
-      (λ i z. ⊎-elim (λ (o : keyAt t (at + 12 * i) ≤ hi). inl (same i o)) (λ (o : hi < keyAt t (at + 12 * i)). inr (blank i z (inr o))) (less-or-not (keyAt t (at + 12 * i)) hi))
+      (λ i z.
+      ⊎-elim (λ (o : keyAt t (at + 12 * i) ≤ hi). inl (run-stops t a w c r j hi (keyAt t (at + 12 * i)) h (omega arith) o))
+      (λ (o : hi < keyAt t (at + 12 * i)). inr (blank i z (inr o)))
+      (less-or-not (keyAt t (at + 12 * i)) hi))
       s
-    where
-      whole : keysFrom t w c a ≡ keysFrom t w j a ++ left (keyAt t) w c a j
-      whole =
-          let y : c ≡ j + (c - j) = omega arith in
-          ap (λ (x : ℕ). keysFrom t w x a) y ∙ records-append (keyAt t) w j (c - j) a
-
-      rest : left (keyAt t) w c a j ≡ keyAt t (a + w * j) ∷ left (keyAt t) w c a (j + 1)
-      rest = left-cons (keyAt t) w c a j h
-
-      above-last : (i : ℕ) → keyAt t (at + 12 * i) ≤ hi → has (keyAt t (at + 12 * i)) (left (keyAt t) w c a j) ≡ false
-      above-last i z =
-          has-not (keyAt t (at + 12 * i)) (left (keyAt t) w c a j)
-          (λ o.
-          let up : rising (keyAt t (a + w * j) ∷ left (keyAt t) w c a (j + 1)) ≡ true = sym (ap rising rest) ∙ rising-right 0 (keysFrom t w j a) (left (keyAt t) w c a j) (sym (ap rising whole) ∙ r) in
-          let f : keyAt t (a + w * j) ≤ keyAt t (at + 12 * i) = first-least (keyAt t (a + w * j)) (left (keyAt t) w c a (j + 1)) up (subst (λ (y : List ℕ). List·Memᴰ (keyAt t (at + 12 * i)) y) rest o) in
-          omega arith)
-
-      same : (i : ℕ) → keyAt t (at + 12 * i) ≤ hi → has (keyAt t (at + 12 * i)) (keysFrom t w j a) ≡ has (keyAt t (at + 12 * i)) (keysFrom t w c a)
-      same i z =
-          let x : ℕ = keyAt t (at + 12 * i) in
-          sym (
-          ap (has x) whole ∙ has-append x (keysFrom t w j a) (left (keyAt t) w c a j)
-          ∙ ap (λ (b : Bool). has x (keysFrom t w j a) || b) (above-last i z) ∙ or-false (has x (keysFrom t w j a)))
 
   pub strike-end : {m m′ : List Bool} (j : ℕ) → j ≡ c → Struck t at n (keysFrom t w j a) m m′ → Struck t at n (keysFrom t w c a) m m′
   strike-end {m} {m′} j e s = subst (λ (x : ℕ). Struck t at n (keysFrom t w x a) m m′) e s
@@ -293,7 +367,7 @@ module _ (t : List ℕ) (at n a w c lo hi : ℕ) (r : rising (keysFrom t w c a) 
 abbrev pub StruckBy : List ℕ → ℕ → ℕ → Path → ℕ → List Bool → List Bool → Type 0
 StruckBy t at n p i m m′ = Struck t at n (waitingBy (storeOf t) (take i (above p))) m m′
 
-module _ (t : List ℕ) (at n : ℕ) (q : Query) (p : Path) (long : length (p .blocks) ≡ 8) (few : p .n ≤ 7) where
+module _ (t : List ℕ) (at n : ℕ) (p : Path) (long : length (p .blocks) ≡ 8) (few : p .n ≤ 7) where
   pub path-start : (m : List Bool) → StruckBy t at n p 0 m m
   path-start m = struck-none m (λ i h. refl)
 
@@ -317,17 +391,32 @@ module _ (t : List ℕ) (at n : ℕ) (q : Query) (p : Path) (long : length (p .b
           ∙ ap (λ (x : Bool). has k before || x) (sym (has-append k (waiting (storeOf t b)) [] ∙ or-false (has k (waiting (storeOf t b)))))
           ∙ sym (ap (λ (xs : List ℕ). has k (waitingBy (storeOf t) xs)) one ∙ waiting-append (storeOf t) k (take i (above p)) (b ∷ []))
 
-  pub marks-all : {m m′ : List Bool} (i : ℕ) → p .n ≤ i → Wanted t at n q m → StruckBy t at n p i m m′ → Marks t at n q p m′
-  marks-all {m} {m′} i h v s =
-      let e : take i (above p) ≡ above p = take-all i (above p) (omega (arith, path-length p long few)) in
-      record {
-        sized = s .sized ∙ v .sized;
-        takes = λ j l.
-            let k : ℕ = keyAt t (at + 12 * j) in
-            s .takes j l ∙ ap₂ (λ (a : Bool) (xs : List ℕ). a && not (has k (waitingBy (storeOf t) xs))) (v .takes j l) e
-            ∙ sym (takes-is q (waitingAbove t p) k);
-        rest = λ j l. s .rest j l ∙ v .rest j l;
-      }
+  pub path-all : {m m′ : List Bool} (i : ℕ) → p .n ≤ i → StruckBy t at n p i m m′ → Struck t at n (waitingAbove t p) m m′
+  path-all {m} {m′} i h s =
+      subst (λ (bs : List ℕ). Struck t at n (waitingBy (storeOf t) bs) m m′) (take-all i (above p) (omega (arith, path-length p long few))) s
+
+-- what is gathered strikes as the nodes above do, where the marks lie in its range
+pub struck-near : (t : List ℕ) (at n : ℕ) (p : Path) (ws : List ℕ) {lo hi : ℕ} {m m′ : List Bool} → WaitsGathered t p ws → Blank t at n lo hi m → p .lo ≤ lo → hi ≤ p .last
+    → Struck t at n (take (p .waits) ws) m m′ → Struck t at n (waitingAbove t p) m m′
+struck-near t at n p ws {lo} {hi} v blank f l s =
+    struck-either
+    (λ i z.
+    let k : ℕ = keyAt t (at + 12 * i) in
+    ⊎-elim
+    (λ (o : lo ≤ k). ⊎-elim (λ (u : k ≤ hi). inl (v .same k (omega arith) (omega arith))) (λ (u : hi < k). inr (blank i z (inr u))) (less-or-not k hi))
+    (λ (o : k < lo). inr (blank i z (inl o)))
+    (less-or-not lo k))
+    s
+
+pub marks-struck : {t : List ℕ} {at n : ℕ} {q : Query} {m m′ : List Bool} (p : Path) → Wanted t at n q m → Struck t at n (waitingAbove t p) m m′ → Marks t at n q p m′
+marks-struck {t} {at} {n} {q} p v s =
+    record {
+      sized = s .sized ∙ v .sized;
+      takes = λ j l.
+          let k : ℕ = keyAt t (at + 12 * j) in
+          s .takes j l ∙ ap (λ (a : Bool). a && not (has k (waitingAbove t p))) (v .takes j l) ∙ sym (takes-is q (waitingAbove t p) k);
+      rest = λ j l. s .rest j l ∙ v .rest j l;
+    }
 
 pub marks-none : {t : List ℕ} {at n : ℕ} {q : Query} {m : List Bool} (p : Path) → n ≡ 0 → Wanted t at n q m → Marks t at n q p m
 marks-none p e v =

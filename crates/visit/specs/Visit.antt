@@ -3,7 +3,7 @@
 use mathlib.Core.Path.{_≡_}
 use mathlib.Core.Logic.{_⊎_}
 use Prim.Native.Nat.{ℕ, suc, _+_, _*_, _≤_, _<_}
-use mathlib.Core.Bool.{Bool, true, false, cond, not, _&&_}
+use mathlib.Core.Bool.{Bool, true, false, cond, not, _&&_, _||_}
 use mathlib.Core.List.{List, [], _∷_, _++_, List·Memᴰ}
 use lib.ListN.{length, take, drop, getD}
 use lib.Dec.{ltb}
@@ -64,6 +64,16 @@ pub record ValidPath (t : List ℕ) (p : Path) : Type 0 where
   pub few : p .n ≤ 7
   pub valid : (b : ℕ) → List·Memᴰ b (above p) → ValidBlock t b
 
+-- the first p .waits keys of a list are those that wait in the nodes above, as far as they lie from p .lo to p .last
+pub record WaitsGathered (t : List ℕ) (p : Path) (list : List ℕ) : Type 0 where
+  pub few : p .waits ≤ length list
+  pub same : (k : ℕ) → p .lo ≤ k → k ≤ p .last → has k (take (p .waits) list) ≡ has k (waitingAbove t p)
+
+-- behind the first c keys of a list those of ks from lo to last are kept: there are r then, or too many for the list
+pub record KeysKept (ks : List ℕ) (lo last c : ℕ) (list list′ : List ℕ) (r : ℕ) : Type 0 where
+  pub sized : length list′ ≡ length list
+  pub same : r ≤ 64 → (k : ℕ) → lo ≤ k → k ≤ last → has k (take r list′) ≡ has k (take c list) || has k ks
+
 -- and their P lies above this rank key, so that what they name under it is what waits in them
 pub record Ancestors (t : List ℕ) (p : Path) (top : ℕ) : Type 0 where
   pub path : ValidPath t p
@@ -96,11 +106,18 @@ marksIn m = length (keep (λ b. b) m)
 abbrev pub AllWanted : List ℕ → ℕ → ℕ → Query → Type 0
 AllWanted t at n q = (i : ℕ) → i < n → wantsKey q (keyAt t (at + 12 * i)) ≡ true
 
--- the first n have a mark
-pub record FirstMarks (n : ℕ) (m : List Bool) : Type 0 where
+-- those from a on, before e, have a mark
+pub record RangeMarks (a e : ℕ) (m : List Bool) : Type 0 where
   pub sized : length m ≡ 64
-  pub first : (i : ℕ) → i < n → getD m i false ≡ true
-  pub rest : (i : ℕ) → n ≤ i → getD m i false ≡ false
+  pub inside : (i : ℕ) → a ≤ i → i < e → getD m i false ≡ true
+  pub before : (i : ℕ) → i < a → getD m i false ≡ false
+  pub behind : (i : ℕ) → e ≤ i → getD m i false ≡ false
+
+-- of the n spots from at on the first r have a key up to k
+pub record Through (t : List ℕ) (at n k r : ℕ) : Type 0 where
+  pub few : r ≤ n
+  pub under : (i : ℕ) → i < n → keyAt t (at + 12 * i) ≤ k → i < r
+  pub over : (i : ℕ) → i < n → k < keyAt t (at + 12 * i) → r ≤ i
 
 -- of the n spots from at on those have a mark that a query wants
 pub record Wanted (t : List ℕ) (at n : ℕ) (q : Query) (m : List Bool) : Type 0 where

@@ -7,12 +7,12 @@ ghost use Prim.Native.Nat.{_+_, _*_, _≤_, _<_};
 ghost use lib.ListN.{length, take};
 ghost use Rattle.octets.specs.Lists.{has, rising};
 ghost use Rattle.octets.specs.Bytes.{be};
-ghost use Rattle.spot.specs.Query.{meets};
+ghost use Rattle.spot.specs.Query.{meets, leastOf};
 ghost use Rattle.block.specs.Node.{storeOf};
 ghost use Rattle.block.specs.NodeRules.{ValidBlock};
 ghost use Rattle.block.specs.declared.Asked.the-variants.{Child};
-ghost use Rattle.tree.specs.Walk.{admits, finds};
-ghost use Rattle.visit.specs.Visit.{endOf, partOf, above, waiting, waitingAbove, ValidPath, keysFrom, Ready, AllWanted, FirstMarks, Wanted, Blank, Struck, Marks, marksIn, belowIn, taken, childSpan, entriesIn};
+ghost use Rattle.tree.specs.Walk.{admits};
+ghost use Rattle.visit.specs.Visit.{endOf, partOf, above, waiting, waitingAbove, ValidPath, WaitsGathered, KeysKept, keysFrom, Ready, AllWanted, RangeMarks, Through, Wanted, Blank, Struck, Marks, marksIn, belowIn, taken, childSpan, entriesIn};
 
 // A range of keys, from lo up to, and without, hi, or to the end.
 pub struct Span {
@@ -21,10 +21,14 @@ pub struct Span {
     pub endless: bool,
 }
 
-// The blocks of the nodes above a node, from the root on.
+// The blocks of the nodes above a node, from the root on. Of the changes that wait in them the `waits` with a key from lo to last are gathered in a list that
+// goes with the path: those near the node are few, and they are looked for once.
 pub struct Path {
     pub n: usize,
     pub blocks: [usize; 8],
+    pub lo: u64,
+    pub last: u64,
+    pub waits: usize,
 }
 
 // The range holds a key of the query's places.
@@ -41,18 +45,6 @@ pub fn admits_child(q: spot::Query, e: block::Entry, s: Span) -> bool
     ensures { λ r. ⌜ r ≡ admits q (partOf (e .block) (Child e) s) ⌝ }
 {
     (e.size != 0) & (spot::least_of(q) <= spot::rank_key(e.top) / 4294967296) & meets_span(q, s)
-}
-
-// The nodes above a child of the node at b.
-pub fn step(p: Path, b: usize) -> Path
-    requires { ⌜ p .n ≤ 6 ⌝ }
-    ensures { λ r. ⌜ (r .n ≡ p .n + 1) × (above r ≡ above p ++ (b ∷ [])) ⌝ }
-{
-    let n = p.n;
-    let mut next = p;
-    next.blocks[n] = b;
-    next.n = n + 1;
-    next
 }
 
 // How many eights of the n keys, w bytes apart from at on, are below k; they rise. No branch depends on a key, here and in `near`: a branch that none can
@@ -122,14 +114,14 @@ fn wants_all(t: &[u8], at: usize, n: usize, q: spot::Query) -> bool
     (spot::least_of(q) == 0) & (spot::from_key(q) <= first) & (last <= spot::last_key(q))
 }
 
-// Marks at the first n.
-fn first_marks(n: usize) -> [bool; 64]
-    requires { ⌜ n ≤ 64 ⌝ }
-    ensures { λ r. ⌜ FirstMarks n r ⌝ }
+// Marks from a on, before e.
+fn range_marks(a: usize, e: usize) -> [bool; 64]
+    requires { ⌜ e ≤ 64 ⌝ }
+    ensures { λ r. ⌜ RangeMarks a e r ⌝ }
 {
     let mut m = [false; 64];
-    let mut i = 0;
-    while i < n {
+    let mut i = a;
+    while i < e {
         m[i] = true;
         i += 1;
     }
@@ -152,13 +144,40 @@ fn wanted_each(t: &[u8], at: usize, n: usize, q: spot::Query) -> [bool; 64]
     m
 }
 
+// How many of the n spots from at on, which rise, have a key up to k.
+fn through(t: &[u8], at: usize, n: usize, k: u64) -> usize
+    requires { ⌜ Ready (now t) at 12 n ⌝ }
+    ensures { λ r. ⌜ Through (now (t .entry)) at n k r ⌝ }
+{
+    if n == 0 {
+        return 0;
+    }
+    if spot::read_key(t, at + 12 * (n - 1)) <= k {
+        return n;
+    }
+    below(t, at, 12, n, k + 1)
+}
+
+// Marks those of the n spots from at on, which rise, that are of the query's places; it asks for no rank.
+fn placed_marks(t: &[u8], at: usize, n: usize, q: spot::Query) -> [bool; 64]
+    requires { ⌜ Ready (now t) at 12 n × (leastOf q ≡ 0) ⌝ }
+    ensures { λ r. ⌜ Wanted (now (t .entry)) at n q r ⌝ }
+{
+    let a = below(t, at, 12, n, spot::from_key(q));
+    let e = through(t, at, n, spot::last_key(q));
+    range_marks(a, e)
+}
+
 // Marks those of the n spots from at on, which rise, that the query wants.
 fn wanted(t: &[u8], at: usize, n: usize, q: spot::Query) -> [bool; 64]
     requires { ⌜ Ready (now t) at 12 n ⌝ }
     ensures { λ r. ⌜ Wanted (now (t .entry)) at n q r ⌝ }
 {
     if wants_all(t, at, n, q) {
-        return first_marks(n);
+        return range_marks(0, n);
+    }
+    if spot::least_of(q) == 0 {
+        return placed_marks(t, at, n, q);
     }
     wanted_each(t, at, n, q)
 }
@@ -237,7 +256,7 @@ fn strike_node(t: &[u8], at: usize, n: usize, m: &mut [bool], b: usize, lo: u64,
 
 // The larger of two keys, and the smaller.
 fn later(a: u64, b: u64) -> u64
-    ensures { λ r. ⌜ (r ≡ a) ⊎ (r ≡ b) ⌝ }
+    ensures { λ r. ⌜ ((r ≡ a) ⊎ (r ≡ b)) × (a ≤ r) ⌝ }
 {
     if a < b {
         return b;
@@ -246,7 +265,7 @@ fn later(a: u64, b: u64) -> u64
 }
 
 fn earlier(a: u64, b: u64) -> u64
-    ensures { λ r. ⌜ (r ≡ a) ⊎ (r ≡ b) ⌝ }
+    ensures { λ r. ⌜ ((r ≡ a) ⊎ (r ≡ b)) × (r ≤ a) ⌝ }
 {
     if a < b {
         return a;
@@ -254,9 +273,51 @@ fn earlier(a: u64, b: u64) -> u64
     b
 }
 
-// Marks those of the n spots from at on that the query takes: the wanted ones, but for those of which a change waits above.
-pub fn marks(t: &[u8], at: usize, n: usize, q: spot::Query, p: Path) -> [bool; 64]
-    requires { ⌜ (n ≤ 64) × (at + 12 * n ≤ length (now t)) × ValidPath (now t) p × (rising (keysFrom (now t) 12 n at) ≡ true) ⌝ }
+// The same with the keys of the changes that wait in all nodes above.
+fn strike_path(t: &[u8], at: usize, n: usize, m: &mut [bool], p: Path, lo: u64, hi: u64)
+    requires { ⌜ Ready (now t) at 12 n × ValidPath (now t) p × (n ≤ length (now m)) × Blank (now t) at n lo hi (now m) ⌝ }
+    ensures { λ _. ⌜ Struck (now (t .entry)) at n (waitingAbove (now (t .entry)) p) (now (m .entry)) (now (m .exit)) ⌝ }
+{
+    let c = p.n;
+    let mut i = 0;
+    while i < c {
+        let b = p.blocks[i];
+        strike_node(t, at, n, m, b, lo, hi);
+        i += 1;
+    }
+}
+
+// Where to go on looking for k, after another key with i spots below it.
+fn restart(i: usize, prev: u64, k: u64) -> usize
+    ensures { λ r. ⌜ (r ≡ 0) ⊎ ((r ≡ i) × (prev ≤ k)) ⌝ }
+{
+    if k < prev {
+        return 0;
+    }
+    i
+}
+
+// Takes the marks from those with one of the first c keys of a list, which rises in parts.
+fn strike_keys(t: &[u8], at: usize, n: usize, m: &mut [bool], ws: &[u64], c: usize)
+    requires { ⌜ Ready (now t) at 12 n × (n ≤ length (now m)) × (c ≤ length (now ws)) ⌝ }
+    ensures { λ _. ⌜ Struck (now (t .entry)) at n (take c (now (ws .entry))) (now (m .entry)) (now (m .exit)) ⌝ }
+{
+    let mut prev = 0;
+    let mut i = 0;
+    let mut j = 0;
+    while j < c {
+        let k = ws[j];
+        let a = restart(i, prev, k);
+        i = strike_key(t, at, n, m, k, a);
+        prev = k;
+        j += 1;
+    }
+}
+
+// Marks those of the n spots from at on that the query takes: the wanted ones, but for those of which a change waits above. Where the spots leave the range
+// that is gathered, the nodes above are asked.
+pub fn marks(t: &[u8], at: usize, n: usize, q: spot::Query, p: Path, ws: &[u64]) -> [bool; 64]
+    requires { ⌜ (n ≤ 64) × (at + 12 * n ≤ length (now t)) × ValidPath (now t) p × (rising (keysFrom (now t) 12 n at) ≡ true) × WaitsGathered (now t) p (now ws) ⌝ }
     ensures { λ r. ⌜ Marks (now (t .entry)) at n q p r ⌝ }
 {
     let mut m = wanted(t, at, n, q);
@@ -265,13 +326,11 @@ pub fn marks(t: &[u8], at: usize, n: usize, q: spot::Query, p: Path) -> [bool; 6
     }
     let lo = later(spot::from_key(q), spot::read_key(t, at));
     let hi = earlier(spot::last_key(q), spot::read_key(t, at + 12 * (n - 1)));
-    let c = p.n;
-    let mut i = 0;
-    while i < c {
-        let b = p.blocks[i];
-        strike_node(t, at, n, &mut m, b, lo, hi);
-        i += 1;
+    if (p.lo <= lo) & (hi <= p.last) {
+        strike_keys(t, at, n, &mut m, ws, p.waits);
+        return m;
     }
+    strike_path(t, at, n, &mut m, p, lo, hi);
     m
 }
 
@@ -291,26 +350,32 @@ pub fn count_marks(m: [bool; 64], n: usize) -> usize
     sum
 }
 
-// How many of the n spots from at on, which rise, the query takes.
-pub fn count_run(t: &[u8], at: usize, n: usize, q: spot::Query, p: Path) -> usize
-    requires { ⌜ (n ≤ 64) × (at + 12 * n ≤ length (now t)) × ValidPath (now t) p × (rising (keysFrom (now t) 12 n at) ≡ true) ⌝ }
-    ensures { λ r. ⌜ (r ≡ length (taken (now (t .entry)) at n q p)) × (r ≤ n) ⌝ }
+// The query takes each of the n spots from at on, which rise: it wants them all, and near them nothing waits.
+fn takes_all(t: &[u8], at: usize, n: usize, q: spot::Query, p: Path, ws: &[u64]) -> bool
+    requires { ⌜ Ready (now t) at 12 n × WaitsGathered (now t) p (now ws) ⌝ }
+    ensures { λ r. ⌜ (r ≡ true → length (taken (now (t .entry)) at n q p) ≡ n) ⌝ }
 {
-    let m = marks(t, at, n, q, p);
-    count_marks(m, n)
+    if n == 0 {
+        return false;
+    }
+    let first = spot::read_key(t, at);
+    let last = spot::read_key(t, at + 12 * (n - 1));
+    (p.waits == 0) & (p.lo <= first) & (last <= p.last) & wants_all(t, at, n, q)
 }
 
-// How many spots the query finds in the node at b.
-pub fn count_own(t: &[u8], b: usize, q: spot::Query, p: Path) -> usize
-    requires { ⌜ ValidBlock (now t) b × ValidPath (now t) p ⌝ }
-    ensures { λ r. ⌜ (r ≡ length (finds q (waitingAbove (now (t .entry)) p) (storeOf (now (t .entry)) b))) × (r ≤ 128) ⌝ }
+// How many of the n spots from at on, which rise, the query takes.
+pub fn count_run(t: &[u8], at: usize, n: usize, q: spot::Query, p: Path, ws: &[u64]) -> usize
+    requires { ⌜ (n ≤ 64) × (at + 12 * n ≤ length (now t)) × ValidPath (now t) p × (rising (keysFrom (now t) 12 n at) ≡ true) × WaitsGathered (now t) p (now ws) ⌝ }
+    ensures { λ r. ⌜ (r ≡ length (taken (now (t .entry)) at n q p)) × (r ≤ n) ⌝ }
 {
-    let from = b * 2048;
-    let to = from + 2048;
-    let h = block::front_of(&t[from..to]);
-    let ap = from + block::points_from(h);
-    let ai = from + block::inserts_from(h);
-    count_run(t, ap, h.p, q, p) + count_run(t, ai, h.i, q, p)
+    if n == 0 {
+        return 0;
+    }
+    if takes_all(t, at, n, q, p, ws) {
+        return n;
+    }
+    let m = marks(t, at, n, q, p, ws);
+    count_marks(m, n)
 }
 
 // The span of the i-th of the c children of the node in s, which begins at lo.
@@ -319,7 +384,7 @@ pub fn child_span(s: &[u8], i: usize, c: usize, lo: u64, span: Span) -> Span
     ensures { λ r. ⌜ r ≡ childSpan (entriesIn (now (s .entry))) i lo span ⌝ }
 {
     if i + 1 < c {
-        let hi = spot::read_key(s, 8 + 28 * (i + 1) + 4);
+        let hi = spot::read_key(s, block::FRONT_BYTES + block::ENTRY_BYTES * (i + 1) + 4);
         return Span {
             lo,
             hi,
@@ -344,12 +409,150 @@ pub fn root_span() -> Span
     }
 }
 
-// No nodes above: the root.
-pub fn no_path() -> Path
-    ensures { λ r. ⌜ (r .n ≡ 0) × (above r ≡ []) ⌝ }
+// No nodes above: the root. Only the keys of the query's places matter.
+pub fn no_path(q: spot::Query) -> Path
+    ensures { λ r. ⌜ (r .n ≡ 0) × (above r ≡ []) × (r .waits ≡ 0) ⌝ }
 {
     Path {
         n: 0,
         blocks: [0; 8],
+        lo: spot::from_key(q),
+        last: spot::last_key(q),
+        waits: 0,
     }
+}
+
+// The nodes above a child of the node at b; what is gathered stays.
+fn with_block(p: Path, b: usize) -> Path
+    requires { ⌜ p .n ≤ 6 ⌝ }
+    ensures { λ r. ⌜ (r .n ≡ p .n + 1) × (above r ≡ above p ++ (b ∷ [])) × (r .lo ≡ p .lo) × (r .last ≡ p .last) × (r .waits ≡ p .waits) ⌝ }
+{
+    let n = p.n;
+    let mut next = p;
+    next.blocks[n] = b;
+    next.n = n + 1;
+    next
+}
+
+// Puts k behind the first c keys of the list, if it lies from lo to last, and says how many there are then. No branch depends on it.
+fn keep_key(list: &mut [u64], c: usize, k: u64, lo: u64, last: u64) -> usize
+    requires { ⌜ c < length (now list) ⌝ }
+    ensures { λ r. ⌜ KeysKept (k ∷ []) lo last c (now (list .entry)) (now (list .exit)) r × (r ≤ c + 1) ⌝ }
+{
+    list[c] = k;
+    c + ((lo <= k) & (k <= last)) as usize
+}
+
+// The same with n keys that rise, w bytes apart from at on; 65 where there is no room.
+fn keep_run(
+    t: &[u8],
+    at: usize,
+    w: usize,
+    n: usize,
+    list: &mut [u64],
+    c: usize,
+    lo: u64,
+    last: u64,
+) -> usize
+    requires { ⌜ Ready (now t) at w n × (length (now list) ≡ 64) × (c ≤ 64) ⌝ }
+    ensures { λ r. ⌜ KeysKept (keysFrom (now (t .entry)) w n at) lo last c (now (list .entry)) (now (list .exit)) r ⌝ }
+{
+    let mut l = c;
+    let mut j = below(t, at, w, n, lo);
+    while j < n {
+        let k = spot::read_key(t, at + w * j);
+        if last < k {
+            return l;
+        }
+        if 64 <= l {
+            return 65;
+        }
+        l = keep_key(list, l, k, lo, last);
+        j += 1;
+    }
+    l
+}
+
+// The same with the first n keys of another list.
+fn keep_keys(ws: &[u64], n: usize, list: &mut [u64], c: usize, lo: u64, last: u64) -> usize
+    requires { ⌜ (n ≤ length (now ws)) × (length (now list) ≡ 64) × (c ≤ 64) ⌝ }
+    ensures { λ r. ⌜ KeysKept (take n (now (ws .entry))) lo last c (now (list .entry)) (now (list .exit)) r ⌝ }
+{
+    let mut l = c;
+    let mut j = 0;
+    while j < n {
+        if 64 <= l {
+            return 65;
+        }
+        l = keep_key(list, l, ws[j], lo, last);
+        j += 1;
+    }
+    l
+}
+
+// The same with the changes that wait in the node at b, and after them the first n keys of another list; from the front.
+fn gather(t: &[u8], b: usize, ws: &[u64], n: usize, list: &mut [u64], lo: u64, last: u64) -> usize
+    requires { ⌜ ValidBlock (now t) b × (n ≤ length (now ws)) × (length (now list) ≡ 64) ⌝ }
+    ensures { λ r. ⌜ KeysKept (waiting (storeOf (now (t .entry)) b) ++ take n (now (ws .entry))) lo last 0 (now (list .entry)) (now (list .exit)) r ⌝ }
+{
+    let from = b * 2048;
+    let to = from + 2048;
+    let h = block::front_of(&t[from..to]);
+    let ai = from + block::inserts_from(h);
+    let ad = from + block::deletes_from(h);
+    let i = keep_run(t, ai, 12, h.i, list, 0, lo, last);
+    if 64 < i {
+        return 65;
+    }
+    let d = keep_run(t, ad, 8, h.d, list, i, lo, last);
+    if 64 < d {
+        return 65;
+    }
+    keep_keys(ws, n, list, d, lo, last)
+}
+
+// No change waits in the node at b.
+fn settled(t: &[u8], b: usize) -> bool
+    requires { ⌜ ValidBlock (now t) b ⌝ }
+    ensures { λ r. ⌜ (r ≡ true → waiting (storeOf (now (t .entry)) b) ≡ []) ⌝ }
+{
+    let from = b * 2048;
+    let to = from + 2048;
+    let h = block::front_of(&t[from..to]);
+    (h.i == 0) & (h.d == 0)
+}
+
+// The last key of a range that a span has too, or the one behind the span.
+fn last_in(last: u64, s: Span) -> u64
+    ensures { λ r. ⌜ r ≤ last ⌝ }
+{
+    if s.endless {
+        return last;
+    }
+    earlier(last, s.hi)
+}
+
+// The nodes above a child of the node at b: what waits in them in the child's span is gathered, from what was gathered in the node's and from the node. Where
+// that is too much for the list, nothing is.
+pub fn step(t: &[u8], p: Path, b: usize, part: Span, ws: &[u64], list: &mut [u64]) -> Path
+    requires { ⌜ (p .n ≤ 6) × ValidBlock (now t) b × WaitsGathered (now t) p (now ws) × (length (now list) ≡ 64) ⌝ }
+    ensures { λ r. ⌜ (r .n ≡ p .n + 1) × (above r ≡ above p ++ (b ∷ [])) × WaitsGathered (now (t .entry)) r (now (list .exit)) × (length (now (list .exit)) ≡ 64) ⌝ }
+{
+    let mut next = with_block(p, b);
+    if (p.waits == 0) & settled(t, b) {
+        return next;
+    }
+    let lo = later(p.lo, part.lo);
+    let last = last_in(p.last, part);
+    let c = gather(t, b, ws, p.waits, list, lo, last);
+    if 64 < c {
+        next.lo = 1;
+        next.last = 0;
+        next.waits = 0;
+        return next;
+    }
+    next.lo = lo;
+    next.last = last;
+    next.waits = c;
+    next
 }

@@ -23,9 +23,6 @@ left-half-requires c κs =
 returns : tie.Need-returns
 returns c = let low = not-true _ (c .before .if1 .taken) in record { below = λ e. c .left-half .ensures; above = λ e. absurd (true≢false (sym e ∙ low)) }
 
-upper-leaf-requires : tie.Need-upper-leaf-requires
-upper-leaf-requires c κs = (c .before .before .pre .0, c .if2 .taken)
-
 returns-2 : tie.Need-returns-2
 returns-2 c =
     let a = c .before .before .before .args in
@@ -47,4 +44,5 @@ returns-3 : tie.Need-returns-3
 returns-3 c = let high = not-false _ (c .before .before .if1 .left) in record { below = λ e. absurd (true≢false (sym high ∙ e)); above = λ e. c .right-half .ensures }
 
 pub half-spec : {M : Type 1} → statement M
-half-spec = tie.close (tie.spec left-half-requires returns upper-leaf-requires returns-2 right-half-requires returns-3)
+half-spec = tie.close (tie.spec
+    left-half-requires returns (λ c κs. (c .before .before .pre .0, c .if2 .taken)) returns-2 right-half-requires returns-3)

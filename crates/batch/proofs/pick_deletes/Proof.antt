@@ -9,19 +9,10 @@ use lib.Seq.{length-take-le}
 use Rattle.buffer.specs.Buffer.{named}
 use Rattle.buffer.proofs.Lists.{length-image}
 use Rattle.buffer.proofs.Laws.{named-length}
-use Rattle.buffer.proofs.keys_between.Reads as keys-between-reads
-use Rattle.buffer.proofs.empty.Reads as empty-reads
-use Rattle.buffer.proofs.keys_outside.Reads as keys-outside-reads
 use Rattle.node.specs.Memory.{entriesOf}
-use Rattle.choose.proofs.keys_end_of.Reads as keys-end-of-reads
-use Rattle.choose.proofs.fullest_keys.Reads as fullest-keys-reads
-use Rattle.choose.proofs.keys_start_of.Reads as keys-start-of-reads
 use Rattle.batch.proofs.Picks.{Share, share-of, picked-deletes}
 use Rattle.batch.proofs.pick_deletes.Statement.{statement}
 use Rattle.batch.proofs.pick_deletes.Tie as tie
-use Rattle.batch.proofs.pick_deletes.Reads as reads
-use Rattle.batch.proofs.pick_deletes.Lts as lts
-use Rattle.batch.proofs.part_end.Reads as part-end-reads
 
 entry-count : (c : tie.Start) → length (entriesOf (c .args .n .entries)) ≡ c .args .n .entries .n
 entry-count c =
@@ -40,10 +31,9 @@ keys-start-of-requires c κs =
 add-keys-end-of : tie.Need-add-keys-end-of
 add-keys-end-of c = omega (arith, c .before .fullest-keys .ensures .there, entry-count (c .before .before .before .before .before .before), c .before .before .before .before .before .before .pre .2)
 
-abbrev Ended : Type 0
-Ended = lts.After-keys-end-of (fullest-keys-reads.Asked, fullest-keys-reads.Learnt, keys-start-of-reads.Asked, keys-start-of-reads.Learnt, keys-end-of-reads.Asked, keys-end-of-reads.Learnt, part-end-reads.Asked, part-end-reads.Learnt, keys-between-reads.Asked, keys-between-reads.Learnt, keys-outside-reads.Asked, keys-outside-reads.Learnt, empty-reads.Asked, empty-reads.Learnt) reads.Pre reads.Post
-
-share : (c : Ended) → Share (c .before .before .before .before .before .before .before .args .n) (named (c .before .before .before .before .before .before .before .args .n .deletes)) (c .before .before .before .before .before .before .before .args .n .deletes .n) (c .before .before .fullest-keys .result) (c .before .keys-start-of .result) (c .keys-end-of .result)
+share : (c : tie.After-keys-end-of)
+    → let n = c .before .before .before .before .before .before .before .args .n in
+    Share n (named (n .deletes)) (n .deletes .n) (c .before .before .fullest-keys .result) (c .before .keys-start-of .result) (c .keys-end-of .result)
 share c =
     let s = c .before .before .before .before .before .before .before in
     let n = s .args .n in
@@ -78,16 +68,6 @@ returns c =
     (few s) (c .before .before .before .part-end .ensures) (d .result) (o .result) (z .result) (long s) (share e) refl (s .pre .4) (d .ensures .0) (d .ensures .1) (o .ensures .0) (o .ensures .1) (o .ensures .2) (z .ensures .0) (z .ensures .1)
 
 pub pick-deletes-spec : {M : Type 1} → statement M
-pick-deletes-spec =
-    tie.close
-    (tie.spec
-    (λ c κs. search needs)
-    keys-start-of-requires
-    add-keys-end-of
-    (λ c κs. search needs)
-    (λ c. search needs)
-    part-end-requires
-    keys-between-requires
-    keys-outside-requires
-    (λ c κs. search needs)
-    returns)
+pick-deletes-spec = tie.close (tie.spec
+    (λ c κs. search needs) keys-start-of-requires add-keys-end-of (λ c κs. search needs) (λ c. search needs) part-end-requires keys-between-requires
+    keys-outside-requires (λ c κs. search needs) returns)

@@ -11,19 +11,10 @@ use Rattle.spot.proofs.Buffers.{keys-length}
 use Rattle.buffer.specs.Buffer.{held}
 use Rattle.buffer.proofs.Lists.{length-image}
 use Rattle.buffer.proofs.Laws.{held-length}
-use Rattle.buffer.proofs.between.Reads as between-reads
-use Rattle.buffer.proofs.empty_keys.Reads as empty-keys-reads
-use Rattle.buffer.proofs.outside.Reads as outside-reads
 use Rattle.node.specs.Memory.{entriesOf}
-use Rattle.choose.proofs.end_of.Reads as end-of-reads
-use Rattle.choose.proofs.fullest.Reads as fullest-reads
-use Rattle.choose.proofs.start_of.Reads as start-of-reads
 use Rattle.batch.proofs.Picks.{Share, share-of, picked-inserts}
 use Rattle.batch.proofs.pick_inserts.Statement.{statement}
 use Rattle.batch.proofs.pick_inserts.Tie as tie
-use Rattle.batch.proofs.pick_inserts.Reads as reads
-use Rattle.batch.proofs.pick_inserts.Lts as lts
-use Rattle.batch.proofs.part_end.Reads as part-end-reads
 
 entry-count : (c : tie.Start) → length (entriesOf (c .args .n .entries)) ≡ c .args .n .entries .n
 entry-count c =
@@ -42,10 +33,9 @@ start-of-requires c κs =
 add-end-of : tie.Need-add-end-of
 add-end-of c = omega (arith, c .before .fullest .ensures .there, entry-count (c .before .before .before .before .before .before), c .before .before .before .before .before .before .pre .2)
 
-abbrev Ended : Type 0
-Ended = lts.After-end-of (fullest-reads.Asked, fullest-reads.Learnt, start-of-reads.Asked, start-of-reads.Learnt, end-of-reads.Asked, end-of-reads.Learnt, part-end-reads.Asked, part-end-reads.Learnt, between-reads.Asked, between-reads.Learnt, outside-reads.Asked, outside-reads.Learnt, empty-keys-reads.Asked, empty-keys-reads.Learnt) reads.Pre reads.Post
-
-share : (c : Ended) → Share (c .before .before .before .before .before .before .before .args .n) (keys (held (c .before .before .before .before .before .before .before .args .n .inserts))) (c .before .before .before .before .before .before .before .args .n .inserts .n) (c .before .before .fullest .result) (c .before .start-of .result) (c .end-of .result)
+share : (c : tie.After-end-of)
+    → let n = c .before .before .before .before .before .before .before .args .n in
+    Share n (keys (held (n .inserts))) (n .inserts .n) (c .before .before .fullest .result) (c .before .start-of .result) (c .end-of .result)
 share c =
     let s = c .before .before .before .before .before .before .before in
     let n = s .args .n in
@@ -80,16 +70,6 @@ returns c =
     (few s) (c .before .before .before .part-end .ensures) (d .result) (o .result) (z .result) (long s) (share e) refl (s .pre .4) (d .ensures .0) (d .ensures .1) (o .ensures .0) (o .ensures .1) (o .ensures .2) (z .ensures .0) (z .ensures .1)
 
 pub pick-inserts-spec : {M : Type 1} → statement M
-pick-inserts-spec =
-    tie.close
-    (tie.spec
-    (λ c κs. search needs)
-    start-of-requires
-    add-end-of
-    (λ c κs. search needs)
-    (λ c. search needs)
-    part-end-requires
-    between-requires
-    outside-requires
-    (λ c κs. search needs)
-    returns)
+pick-inserts-spec = tie.close (tie.spec
+    (λ c κs. search needs) start-of-requires add-end-of (λ c κs. search needs) (λ c. search needs) part-end-requires between-requires outside-requires
+    (λ c κs. search needs) returns)

@@ -7,15 +7,9 @@ use lib.ListN.{length}
 use Rattle.buffer.specs.Buffer.{held, named}
 use Rattle.buffer.proofs.Lists.{length-image}
 use Rattle.buffer.proofs.Laws.{held-length, named-length}
-use Rattle.edit.proofs.delete_all.Reads as delete-all-reads
-use Rattle.edit.proofs.insert_all.Reads as insert-all-reads
-use Rattle.edit.proofs.threshold.Reads as threshold-reads
 use Rattle.batch.proofs.Taking.{Counted, Changed, less-sized, less-few, taken-in}
 use Rattle.batch.proofs.take_in.Statement.{statement}
 use Rattle.batch.proofs.take_in.Tie as tie
-use Rattle.batch.proofs.take_in.Reads as reads
-use Rattle.batch.proofs.take_in.Lts as lts
-use Rattle.batch.proofs.spill_inner.Reads as spill-inner-reads
 
 -- the buffers that were lent, and those of the node before
 long-inserts : (c : tie.Start) → length (held (c .args .inserts)) ≡ c .args .inserts .n
@@ -34,11 +28,8 @@ counted c =
       deletes = named-length (n .deletes) (search (needs, length-image)) (t .deletes .fits);
     }
 
-abbrev Deleted : Type 0
-Deleted = lts.After-delete-all (threshold-reads.Asked, threshold-reads.Learnt, insert-all-reads.Asked, insert-all-reads.Learnt, delete-all-reads.Asked, delete-all-reads.Learnt, spill-inner-reads.Asked, spill-inner-reads.Learnt) reads.Pre reads.Post
-
 -- and after
-counted-less : (c : Deleted) → Counted (c .delete-all .result)
+counted-less : (c : tie.After-delete-all) → Counted (c .delete-all .result)
 counted-less c =
     let n = c .delete-all .result in
     let t = c .delete-all .ensures .tidy in
@@ -48,7 +39,7 @@ counted-less c =
       deletes = named-length (n .deletes) (search (needs, length-image, c .delete-all .ok .1 .1 .1 .1 .1 .1 .0)) (t .deletes .fits);
     }
 
-changed : (c : Deleted)
+changed : (c : tie.After-delete-all)
     → Changed (c .before .before .before .args .n) (c .before .insert-all .result) (c .delete-all .result) (held (c .before .before .before .args .inserts))
     (named (c .before .before .before .args .deletes)) (c .before .before .before .args .inserts .n) (c .before .before .before .args .deletes .n) (c .before .before .threshold .result)
 changed c =

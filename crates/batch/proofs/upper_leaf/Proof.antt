@@ -25,5 +25,4 @@ returns c =
     }
 
 pub upper-leaf-spec : {M : Type 1} → statement M
-upper-leaf-spec =
-    tie.close (tie.spec (λ c κs. search needs) (λ c κs. search needs) (λ c κs. search needs) returns)
+upper-leaf-spec = tie.close (tie.spec (λ c κs. search needs) (λ c κs. search needs) (λ c κs. search needs) returns)

@@ -7,21 +7,21 @@ use borrow.Author.Tests.{le-leb}
 use borrow.Author.Needs.{needs}
 use Rattle.octets.proofs.Tests.{and-both}
 use Rattle.block.specs.NodeRules.{fewest}
-use Rattle.block.specs.Checks.{keyed}
+use Rattle.block.specs.Checks.{entryKeyed}
 use Rattle.block.proofs.fewest_of.Statement.{statement}
 use Rattle.block.proofs.fewest_of.Tie as tie
 
 returns : tie.Need-returns
-unfolding fewest keyed
+unfolding fewest entryKeyed
 returns c = search needs
 
 returns-2 : tie.Need-returns-2
-unfolding fewest keyed
+unfolding fewest entryKeyed
 returns-2 c =
     let e = c .before .a .given .0 .0 in
     let t : e .top ≤ 18446744073709551615 = omega (arith, c .known-told .given) in
     let b : e .bottom ≤ 18446744073709551615 = omega (arith, c .known-told .given) in
-    (search needs, ap keyed (c .before .a .given .1) ∙ and-both _ _ (le-leb (e .top) 18446744073709551615 t) (le-leb (e .bottom) 18446744073709551615 b))
+    (search needs, ap entryKeyed (c .before .a .given .1) ∙ and-both _ _ (le-leb (e .top) 18446744073709551615 t) (le-leb (e .bottom) 18446744073709551615 b))
 
 pub fewest-of-spec : {M : Type 1} → statement M
 fewest-of-spec = tie.close (tie.spec (λ c. search needs) (λ c. search needs) returns returns-2)

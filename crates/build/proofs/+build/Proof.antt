@@ -8,7 +8,7 @@ use borrow.Fn.Kinds.{In}
 use borrow.Fn.PlainCycle.{Measures, is, falls, and}
 use lib.ListN.{length}
 use Rattle.block.specs.Table.{blocksOf}
-use Rattle.rebuild.specs.Build.{shapeOf}
+use Rattle.rebuild_theory.specs.Build.{shapeOf}
 use Rattle.build.proofs.Segments.{Under}
 use Rattle.build.proofs.Children.{Children, children-none, share-small, child-room, child-ready, child-added}
 use Rattle.build.proofs.Grown.{leaf-ready, leaf-post, ready, inner-ready, inner-post}
@@ -44,57 +44,27 @@ abbrev μ : lts.MeasureT-loop
 μ t₀ list from n limit b es₀ height fan cut under below width left₀ j₀ t es left j = fan - j
 
 -- what is known of the children of a node that is no leaf
-parts :
-    (t : ℕ) (c : lts.Else1 (cs t) (at t) build.Post Inv μ) →
-    Under (c .before .before .before .before .args .fans .fan) (shapeOf (c .before .before .before .before .args .fans .next) 6 (c .before .before .before .before .args .fans .height - 1)) (c .before .before .before .before .args .n) (c .before .before .before .before .args .b) (blocksOf (length (c .before .before .before .before .args .t .now)))
-parts t c =
-    let start = c .before .before .before .before in
-    let a = start .args in
-    ready (a .t .now) (a .list .now) (a .from) (a .n) (a .fans .fan) (a .fans .next) (a .fans .height) (a .b) (start .pre .1) 0 (c .if1 .left)
-
-no-entries-requires : (t : ℕ) → lts.Need-no-entries-requires (cs t) (at t) build.Post Inv μ
-no-entries-requires t c κs = search needs
+parts : (t : ℕ) (c : lts.Else1 (cs t) (at t) build.Post Inv μ)
+    → let a = c .before .before .before .before .args in
+    Under (a .fans .fan) (shapeOf (a .fans .next) 6 (a .fans .height - 1)) (a .n) (a .b) (blocksOf (length (a .t .now)))
+parts t c = ready (c .before .before .before .before .pre .1) 0 (c .if1 .left)
 
 put-own-requires : (t : ℕ) → lts.Need-put-own-requires (cs t) (at t) build.Post Inv μ
 put-own-requires t c κs =
-    leaf-ready _ _ _ _ _ _ _ _ (c .before .before .before .before .before .pre .1) _ (c .before .if1 .taken) (c .before .before .no-entries .ensures .0) (c .before .before .no-entries .ensures .1)
-
-same-length : (t : ℕ) → lts.Need-same-length (cs t) (at t) build.Post Inv μ
-same-length t c = search needs
+    leaf-ready (c .before .before .before .before .before .pre .1) _ (c .before .if1 .taken) (c .before .before .no-entries .ensures .0) (c .before .before .no-entries .ensures .1)
 
 returns : (t : ℕ) → lts.Need-returns (cs t) (at t) build.Post Inv μ
 returns t c =
     let at-if1 = c .before .before .before .before in
     let at-no-entries = at-if1 .before in
     let start = at-no-entries .before .before .before in
-    leaf-post _ _ _ _ _ _ _ _ (start .pre .1) _ (at-if1 .if1 .taken) (at-no-entries .no-entries .result) (at-no-entries .no-entries .ensures .1) (c .before .before .put-own .ensures)
-
-choose-cut-requires : (t : ℕ) → lts.Need-choose-cut-requires (cs t) (at t) build.Post Inv μ
-choose-cut-requires t c κs = c .before .before .before .before .pre .1 .segment
-
-limit-at-requires : (t : ℕ) → lts.Need-limit-at-requires (cs t) (at t) build.Post Inv μ
-limit-at-requires t c κs = search needs
-
-sub-nodes-of : (t : ℕ) → lts.Need-sub-nodes-of (cs t) (at t) build.Post Inv μ
-sub-nodes-of t c = search needs
-
-sub-nodes-of-2 : (t : ℕ) → lts.Need-sub-nodes-of-2 (cs t) (at t) build.Post Inv μ
-sub-nodes-of-2 t c = search needs
+    leaf-post (start .pre .1) _ (at-if1 .if1 .taken) (at-no-entries .no-entries .result) (at-no-entries .no-entries .ensures .1) (c .before .before .put-own .ensures)
 
 nodes-of-requires : (t : ℕ) → lts.Need-nodes-of-requires (cs t) (at t) build.Post Inv μ
 nodes-of-requires t c κs = let p = c .before .before .before .before .before .before .pre .1 in omega (arith, p .near, p .high)
 
 loop-holds : (t : ℕ) → lts.Need-loop-holds (cs t) (at t) build.Post Inv μ
 loop-holds t c = children-none _ _ _ _ _ _ _ _ (parts t (c .before .before .before)) (c .before .before .before .before .no-entries .ensures .0) (c .before .before .before .before .no-entries .ensures .1)
-
-sub-share : (t : ℕ) → lts.Need-sub-share (cs t) (at t) build.Post Inv μ
-sub-share t c = search needs
-
-div-share : (t : ℕ) → lts.Need-div-share (cs t) (at t) build.Post Inv μ
-div-share t c = search needs
-
-sub-start : (t : ℕ) → lts.Need-sub-start (cs t) (at t) build.Post Inv μ
-sub-start t c = let m = c .before .loop .inv .few in omega arith
 
 add-start : (t : ℕ) → lts.Need-add-start (cs t) (at t) build.Post Inv μ
 add-start t c =
@@ -134,9 +104,6 @@ sub-left t c = share-small _ _ _ _ _ _ _ _ (parts t (c .before .before .before .
 add-j : (t : ℕ) → lts.Need-add-j (cs t) (at t) build.Post Inv μ
 add-j t c = let below = parts t (c .before .before .before .before .before .before .before .before .before .before) in omega (arith, below .eight, c .before .before .before .before .before .loop-test .taken)
 
-loop-less : (t : ℕ) → lts.Need-loop-less (cs t) (at t) build.Post Inv μ
-loop-less t c = omega (arith, c .before .before .before .before .before .loop-test .taken)
-
 loop-again : (t : ℕ) → lts.Need-loop-again (cs t) (at t) build.Post Inv μ
 loop-again t c =
     let at-build = c .before .before .before in
@@ -145,11 +112,11 @@ loop-again t c =
     let at-nodes-of = at-loop .before in
     let at-limit-at = at-nodes-of .before in
     let at-here = at-limit-at .before .before in
-    child-added _ _ _ _ _ _ _ _ (parts t (at-here)) (at-loop .loop .inv) (at-loop-test .loop-test .taken) (at-nodes-of .nodes-of .ensures .0) (at-limit-at .limit-at .ensures) (at-build .build .ensures .0) (at-build .build .ensures .1) (c .add-entry .ensures .0) (c .add-entry .ensures .1)
+    child-added _ _ _ _ _ _ _ _ (parts t at-here) (at-loop .loop .inv) (at-loop-test .loop-test .taken) (at-nodes-of .nodes-of .ensures .0) (at-limit-at .limit-at .ensures) (at-build .build .ensures .0) (at-build .build .ensures .1) (c .add-entry .ensures .0) (c .add-entry .ensures .1)
 
 put-own-requires-2 : (t : ℕ) → lts.Need-put-own-requires-2 (cs t) (at t) build.Post Inv μ
 put-own-requires-2 t c κs =
-    inner-ready _ _ _ _ _ _ _ _ (c .before .before .before .before .before .before .before .before .before .before .pre .1) _ (c .before .before .before .before .before .before .if1 .left) _ _ refl (c .before .before .before .before .before .choose-cut .ensures) (c .before .before .loop .inv)
+    inner-ready (c .before .before .before .before .before .before .before .before .before .before .pre .1) _ (c .before .before .before .before .before .before .if1 .left) _ _ refl (c .before .before .before .before .before .choose-cut .ensures) (c .before .before .loop .inv)
 
 same-length-2 : (t : ℕ) → lts.Need-same-length-2 (cs t) (at t) build.Post Inv μ
 same-length-2 t c = c .before .before .put-own2 .ensures .sized ∙ c .before .before .before .before .before .loop .inv .sized
@@ -161,33 +128,12 @@ returns-2 t c =
     let at-choose-cut = at-loop .before .before .before in
     let at-if1 = at-choose-cut .before in
     let start = at-if1 .before .before .before .before in
-    inner-post _ _ _ _ _ _ _ _ (start .pre .1) _ (at-if1 .if1 .left) _ _ refl (at-choose-cut .choose-cut .ensures) (at-loop .loop .inv) (at-loop-test .loop-test .left) (c .before .before .put-own2 .ensures)
+    inner-post (start .pre .1) _ (at-if1 .if1 .left) _ _ refl (at-choose-cut .choose-cut .ensures) (at-loop .loop .inv) (at-loop-test .loop-test .left) (c .before .before .put-own2 .ensures)
 
 pub +build-spec : {M : Type 1} → statement M
 +build-spec = close μ-height λ t. lts.spec (cs t) (at t) build.Post Inv μ
-    (no-entries-requires t)
-    (put-own-requires t)
-    (same-length t)
-    (returns t)
-    (choose-cut-requires t)
-    (limit-at-requires t)
-    (sub-nodes-of t)
-    (sub-nodes-of-2 t)
-    (nodes-of-requires t)
-    (loop-holds t)
-    (sub-share t)
-    (div-share t)
-    (sub-start t)
-    (add-start t)
-    (add-at t)
-    (mul-at t)
-    (add-at-2 t)
-    (build-requires t)
-    (add-entry-requires t)
-    (sub-left t)
-    (add-j t)
-    (loop-less t)
-    (loop-again t)
-    (put-own-requires-2 t)
-    (same-length-2 t)
-    (returns-2 t)
+    (λ c κs. search needs) (put-own-requires t) (λ c. search needs) (returns t) (λ c κs. c .before .before .before .before .pre .1 .segment)
+    (λ c κs. search needs) (λ c. search needs) (λ c. search needs) (nodes-of-requires t) (loop-holds t) (λ c. search needs) (λ c. search needs)
+    (λ c. let m = c .before .loop .inv .few in omega arith) (add-start t) (add-at t) (mul-at t) (add-at-2 t) (build-requires t) (add-entry-requires t)
+    (sub-left t) (add-j t) (λ c. omega (arith, c .before .before .before .before .before .loop-test .taken)) (loop-again t) (put-own-requires-2 t)
+    (same-length-2 t) (returns-2 t)

@@ -27,13 +27,5 @@ returns c =
     rebuilt _ _ _ (p .0) (p .1) (p .2) _ (at-shape-of .shape-of .ensures) (at-nodes-of .nodes-of .ensures .0) (at-build .build .ensures .0) (c .before .before .write-header .ensures)
 
 pub build-table-spec : {M : Type 1} → statement M
-build-table-spec =
-    tie.close
-    (tie.spec
-    (λ c κs. search needs)
-    build-requires
-    (λ c κs. search needs)
-    (λ c. search needs)
-    write-header-requires
-    (λ c. search needs)
-    returns)
+build-table-spec = tie.close (tie.spec
+    (λ c κs. search needs) build-requires (λ c κs. search needs) (λ c. search needs) write-header-requires (λ c. search needs) returns)

@@ -14,30 +14,6 @@ Inv-loop list from n cut limit sum₀ i₀ sum i = Counted list from n cut (limi
 abbrev μ-loop : tie.MeasureT-loop
 μ-loop list from n cut limit sum₀ i₀ sum i = n - i
 
-loop-holds : tie.Need-loop-holds Inv-loop μ-loop
-loop-holds c = counted-none _ _ _ _ _
-
-add-read-key : tie.Need-add-read-key Inv-loop μ-loop
-add-read-key c = omega arith
-
-mul-read-key : tie.Need-mul-read-key Inv-loop μ-loop
-mul-read-key c = omega arith
-
-read-key-requires : tie.Need-read-key-requires Inv-loop μ-loop
-read-key-requires c κs = omega arith
-
-in-band-requires : tie.Need-in-band-requires Inv-loop μ-loop
-in-band-requires c κs = omega arith
-
-add-sum : tie.Need-add-sum Inv-loop μ-loop
-add-sum c = omega arith
-
-add-i : tie.Need-add-i Inv-loop μ-loop
-add-i c = omega arith
-
-loop-less : tie.Need-loop-less Inv-loop μ-loop
-loop-less c = omega arith
-
 loop-again : tie.Need-loop-again Inv-loop μ-loop
 loop-again c =
     let a = c .before .before .before .before .before .before .args in
@@ -51,18 +27,6 @@ returns : tie.Need-returns Inv-loop μ-loop
 returns c = counted-all _ _ _ _ _ (c .before .loop .inv) (c .loop-test .left)
 
 pub count-band-spec : {M : Type 1} → statement M
-count-band-spec =
-    tie.close
-    (tie.spec
-    Inv-loop
-    μ-loop
-    loop-holds
-    add-read-key
-    mul-read-key
-    read-key-requires
-    in-band-requires
-    add-sum
-    add-i
-    loop-less
-    loop-again
-    returns)
+count-band-spec = tie.close (tie.spec
+    Inv-loop μ-loop (λ c. counted-none _ _ _ _ _) (λ c. omega arith) (λ c. omega arith) (λ c κs. omega arith) (λ c κs. omega arith) (λ c. omega arith)
+    (λ c. omega arith) (λ c. omega arith) loop-again returns)

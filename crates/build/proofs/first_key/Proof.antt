@@ -6,11 +6,8 @@ use borrow.Author.Needs.{needs}
 use Rattle.build.proofs.first_key.Statement.{statement}
 use Rattle.build.proofs.first_key.Tie as tie
 
-returns : tie.Need-returns
-returns c = first-none _ _ _ (c .if1 .taken)
-
 returns-2 : tie.Need-returns-2
 returns-2 c = c .read-key .ensures ∙ first-some _ _ _ (c .before .if1 .left)
 
 pub first-key-spec : {M : Type 1} → statement M
-first-key-spec = tie.close (tie.spec returns (λ c. search needs) (λ c κs. search needs) returns-2)
+first-key-spec = tie.close (tie.spec (λ c. first-none _ _ _ (c .if1 .taken)) (λ c. search needs) (λ c κs. search needs) returns-2)

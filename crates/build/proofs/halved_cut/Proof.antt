@@ -15,26 +15,17 @@ Inv-loop list from n limit lo₀ hi₀ lo hi = Between list from n limit lo hi
 abbrev μ-loop : tie.MeasureT-loop
 μ-loop list from n limit lo₀ hi₀ lo hi = hi - lo
 
-count-band-requires : tie.Need-count-band-requires Inv-loop μ-loop
-count-band-requires c κs = search needs
-
 returns : tie.Need-returns Inv-loop μ-loop
 returns c = cut-all _ _ _ _ (c .before .before .before .pre) refl (c .before .count-band .ensures .0) (c .if1 .taken)
 
 loop-holds : tie.Need-loop-holds Inv-loop μ-loop
 loop-holds c = between-first _ _ _ _ (c .before .before .before .pre) (c .before .count-band .ensures .0) (c .if1 .left)
 
-sub-mid : tie.Need-sub-mid Inv-loop μ-loop
-sub-mid c = omega arith
-
 add-mid : tie.Need-add-mid Inv-loop μ-loop
 add-mid c =
     let i = c .before .loop .inv in
     let w = i .near in
     record { fits = omega (arith, between-high _ _ _ _ (c .before .before .before .before .before .pre) i, c .before .before .before .before .before .good) }
-
-count-band-requires-2 : tie.Need-count-band-requires-2 Inv-loop μ-loop
-count-band-requires-2 c κs = search needs
 
 loop-less : tie.Need-loop-less Inv-loop μ-loop
 loop-less c = let i = c .before .before .before .loop .inv in omega (arith, between-low _ _ _ _ (c .before .before .before .before .before .before .before .pre) i, between-high _ _ _ _ (c .before .before .before .before .before .before .before .pre) i)
@@ -55,20 +46,6 @@ returns-3 : tie.Need-returns-3 Inv-loop μ-loop
 returns-3 c = let o = c .before .loop .inv .order in let z : ⊥ = omega (arith, c .loop-test .left) in absurd z
 
 pub halved-cut-spec : {M : Type 1} → statement M
-halved-cut-spec =
-    tie.close
-    (tie.spec
-    Inv-loop
-    μ-loop
-    count-band-requires
-    returns
-    loop-holds
-    sub-mid
-    add-mid
-    count-band-requires-2
-    loop-less
-    loop-again
-    returns-2
-    loop-less-2
-    loop-again-2
-    returns-3)
+halved-cut-spec = tie.close (tie.spec
+    Inv-loop μ-loop (λ c κs. search needs) returns loop-holds (λ c. omega arith) add-mid (λ c κs. search needs) loop-less loop-again returns-2
+    loop-less-2 loop-again-2 returns-3)

@@ -12,37 +12,19 @@ Inv-loop map₀ last i₀ map i = MarkedBelow map₀ map i × (i ≤ last + 1)
 abbrev μ-loop : tie.MeasureT-loop
 μ-loop map₀ last i₀ map i = last + 1 - i
 
-loop-holds : tie.Need-loop-holds Inv-loop μ-loop
-loop-holds c = (marked-none _, omega arith)
-
 set-bit-requires : tie.Need-set-bit-requires Inv-loop μ-loop
 set-bit-requires c κs = let l = c .before .before .loop .inv in omega (arith, l .0 .sized, c .before .before .before .before .pre)
 
 add-i : tie.Need-add-i Inv-loop μ-loop
 add-i c = let l = c .before .before .before .before .before .loop .inv in omega (arith, l .1, c .before .before .before .before .before .before .before .pre)
 
-loop-less : tie.Need-loop-less Inv-loop μ-loop
-loop-less c = omega arith
-
 loop-again : tie.Need-loop-again Inv-loop μ-loop
 loop-again c = (marked-more _ (c .before .before .before .before .before .loop .inv .0) (omega (arith, c .before .before .before .before .before .before .before .pre)) (c .before .before .set-bit .ensures), omega arith)
-
-same-length : tie.Need-same-length Inv-loop μ-loop
-same-length c = c .before .loop .inv .0 .sized
 
 returns : tie.Need-returns Inv-loop μ-loop
 returns c = marked-all _ (c .before .loop .inv .0) (omega (arith, c .before .loop .inv .1, c .loop-test .left))
 
 pub mark-to-spec : {M : Type 1} → statement M
-mark-to-spec =
-    tie.close
-    (tie.spec
-    Inv-loop
-    μ-loop
-    loop-holds
-    set-bit-requires
-    add-i
-    loop-less
-    loop-again
-    same-length
+mark-to-spec = tie.close (tie.spec
+    Inv-loop μ-loop (λ c. (marked-none _, omega arith)) set-bit-requires add-i (λ c. omega arith) loop-again (λ c. c .before .loop .inv .0 .sized)
     returns)

@@ -1,7 +1,7 @@
 -- `build::put_own` meets its contract: what is stored is a node as a rebuild leaves it.
 -- Assumes nothing.
 use Rattle.spot.specs.Spots.{spotsFrom}
-use Rattle.rebuild.specs.Build.{band}
+use Rattle.rebuild_theory.specs.Build.{band}
 use Rattle.build.specs.Building.{limitOf}
 use Rattle.build.proofs.Own.{own-storable, own-put}
 use borrow.Author.Needs.{needs}
@@ -34,15 +34,6 @@ returns c =
     {ps = band (a .cut) (limitOf (a .limit)) (spotsFrom (a .list .now) (a .from) (a .n))} (at-put-node .put-node .ensures) (at-take-band .take-band .ensures .1) (c .before .first-key .ensures) (c .entry-for .ensures)
 
 pub put-own-spec : {M : Type 1} → statement M
-put-own-spec =
-    tie.close
-    (tie.spec
-    (λ c κs. search needs)
-    (λ c κs. search needs)
-    (λ c κs. search needs)
-    (λ c κs. search needs)
-    put-node-requires
-    (λ c κs. search needs)
-    (λ c κs. search needs)
-    (λ c. search needs)
-    returns)
+put-own-spec = tie.close (tie.spec
+    (λ c κs. search needs) (λ c κs. search needs) (λ c κs. search needs) (λ c κs. search needs) put-node-requires (λ c κs. search needs)
+    (λ c κs. search needs) (λ c. search needs) returns)

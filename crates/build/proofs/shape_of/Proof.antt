@@ -12,23 +12,11 @@ Inv-loop n i₀ i = Sought n i
 abbrev μ-loop : tie.MeasureT-loop
 μ-loop n i₀ i = 30 - i
 
-loop-holds : tie.Need-loop-holds Inv-loop μ-loop
-loop-holds c = sought-first _
-
-mul-loop : tie.Need-mul-loop Inv-loop μ-loop
-mul-loop c = omega arith
-
-array-read-loop : tie.Need-array-read-loop Inv-loop μ-loop
-array-read-loop c = omega arith
-
 mul-loop-2 : tie.Need-mul-loop-2 Inv-loop μ-loop
 unfolding rows
 mul-loop-2 c =
     let l = c .loop in
     record { fits = omega (arith, count-small (l .i) (l .inv .inside)) }
-
-add-i : tie.Need-add-i Inv-loop μ-loop
-add-i c = let m = c .before .loop .inv .inside in omega arith
 
 loop-less : tie.Need-loop-less Inv-loop μ-loop
 unfolding rows
@@ -38,29 +26,11 @@ loop-again : tie.Need-loop-again Inv-loop μ-loop
 unfolding rows
 loop-again c = sought-next _ _ (c .before .before .pre) (c .before .loop .inv) (c .loop-test .taken)
 
-mul-r : tie.Need-mul-r Inv-loop μ-loop
-mul-r c = omega arith
-
-array-read-r : tie.Need-array-read-r Inv-loop μ-loop
-array-read-r c = omega arith
-
 returns : tie.Need-returns Inv-loop μ-loop
 unfolding rows
 returns c = sought-found _ _ (c .before .before .pre) (c .before .loop .inv) (c .loop-test .left)
 
 pub shape-of-spec : {M : Type 1} → statement M
-shape-of-spec =
-    tie.close
-    (tie.spec
-    Inv-loop
-    μ-loop
-    loop-holds
-    mul-loop
-    array-read-loop
-    mul-loop-2
-    add-i
-    loop-less
-    loop-again
-    mul-r
-    array-read-r
-    returns)
+shape-of-spec = tie.close (tie.spec
+    Inv-loop μ-loop (λ c. sought-first _) (λ c. omega arith) (λ c. omega arith) mul-loop-2 (λ c. let m = c .before .loop .inv .inside in omega arith)
+    loop-less loop-again (λ c. omega arith) (λ c. omega arith) returns)

@@ -16,44 +16,18 @@ Inv-loop list from n cut limit out₀ i₀ out i = Taken list from n cut (limitO
 abbrev μ-loop : tie.MeasureT-loop
 μ-loop list from n cut limit out₀ i₀ out i = n - i
 
-empty-requires : tie.Need-empty-requires Inv-loop μ-loop
-empty-requires c κs = search needs
-
 loop-holds : tie.Need-loop-holds Inv-loop μ-loop
 loop-holds c = taken-none _ _ _ _ _ (search (needs, length-image)) (c .empty .ensures .0) (c .empty .ensures .1)
-
-add-read-spot : tie.Need-add-read-spot Inv-loop μ-loop
-add-read-spot c = omega arith
-
-mul-read-spot : tie.Need-mul-read-spot Inv-loop μ-loop
-mul-read-spot c = omega arith
-
-read-spot-requires : tie.Need-read-spot-requires Inv-loop μ-loop
-read-spot-requires c κs = omega arith
-
-in-band-requires : tie.Need-in-band-requires Inv-loop μ-loop
-in-band-requires c κs = omega arith
 
 -- there is room for one more
 room : (c : tie.Then1 Inv-loop μ-loop) → c .before .before .before .before .loop .out .n < 64
 room c =
-    let a = c .before .before .before .before .before .before .before .args in
-    taken-room (a .list .now) (a .from) (a .n) (a .cut) (limitOf (a .limit)) (c .before .before .before .before .loop .inv) (c .before .before .before .loop-test .taken) (c .before .before .read-spot .ensures) (c .before .in-band .ensures) (c .if1 .taken) (c .before .before .before .before .before .before .before .pre .1)
-
-mul-s : tie.Need-mul-s Inv-loop μ-loop
-mul-s c = let m = room c in omega arith
+    let start = c .before .before .before .before .before .before .before in
+    let a = start .args in
+    taken-room (a .list .now) (a .from) (a .n) (a .cut) (limitOf (a .limit)) (c .before .before .before .before .loop .inv) (c .before .before .before .loop-test .taken) (c .before .before .read-spot .ensures) (c .before .in-band .ensures) (c .if1 .taken) (start .pre .1)
 
 element-set-from-s : tie.Need-element-set-from-s Inv-loop μ-loop
 element-set-from-s c = let m = room c in omega (arith, c .before .before .before .before .loop .inv .long)
-
-add-out : tie.Need-add-out Inv-loop μ-loop
-add-out c = let m = room c in omega arith
-
-add-i : tie.Need-add-i Inv-loop μ-loop
-add-i c = omega arith
-
-loop-less : tie.Need-loop-less Inv-loop μ-loop
-loop-less c = omega arith
 
 loop-again : tie.Need-loop-again Inv-loop μ-loop
 loop-again c =
@@ -68,21 +42,7 @@ returns : tie.Need-returns Inv-loop μ-loop
 returns c = taken-all _ _ _ _ _ (c .before .before .before .before .pre .0 .rises) (c .before .before .before .before .pre .1) (c .before .loop .inv) (c .loop-test .left)
 
 pub take-band-spec : {M : Type 1} → statement M
-take-band-spec =
-    tie.close
-    (tie.spec
-    Inv-loop
-    μ-loop
-    empty-requires
-    loop-holds
-    add-read-spot
-    mul-read-spot
-    read-spot-requires
-    in-band-requires
-    mul-s
-    element-set-from-s
-    add-out
-    add-i
-    loop-less
-    loop-again
+take-band-spec = tie.close (tie.spec
+    Inv-loop μ-loop (λ c κs. search needs) loop-holds (λ c. omega arith) (λ c. omega arith) (λ c κs. omega arith) (λ c κs. omega arith)
+    (λ c. let m = room c in omega arith) element-set-from-s (λ c. let m = room c in omega arith) (λ c. omega arith) (λ c. omega arith) loop-again
     returns)

@@ -13,13 +13,5 @@ returns c =
     head-says _ _ _ _ (at-write-numbers .write-numbers .last .0) _ (c .before .before .mark-to .last .0) (at-write-numbers .write-numbers .kept .0 ∙ start .pre .0) (at-write-numbers .write-numbers .ensures) (c .before .before .mark-to .ensures) refl
 
 pub write-head-spec : {M : Type 1} → statement M
-write-head-spec =
-    tie.close
-    (tie.spec
-    (λ c κs. search needs)
-    (λ c. search needs)
-    (λ c. search needs)
-    (λ c. search needs)
-    (λ c κs. search needs)
-    (λ c. search needs)
-    returns)
+write-head-spec = tie.close (tie.spec
+    (λ c κs. search needs) (λ c. search needs) (λ c. search needs) (λ c. search needs) (λ c κs. search needs) (λ c. search needs) returns)

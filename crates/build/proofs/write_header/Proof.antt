@@ -21,12 +21,4 @@ returns c =
     header-written t _ s _ _ _ (c .before .before .before .before .before .pre) (c .before .before .write-head .kept .0 ∙ mid-len 0 2048 t (omega (arith, sized-least (length t) (c .before .before .before .before .before .pre .sized)))) (c .before .before .write-head .ensures) (put-part-is t 0 s)
 
 pub write-header-spec : {M : Type 1} → statement M
-write-header-spec =
-    tie.close
-    (tie.spec
-    (λ c. search needs)
-    (λ c. search needs)
-    (λ c. search needs)
-    write-head-requires
-    (λ c. search needs)
-    returns)
+write-header-spec = tie.close (tie.spec (λ c. search needs) (λ c. search needs) (λ c. search needs) write-head-requires (λ c. search needs) returns)

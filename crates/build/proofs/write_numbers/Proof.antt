@@ -19,14 +19,6 @@ returns c =
     (p .0) (at-zero .zero .ensures) (at-write32 .write32 .ensures) (at-write8 .write8 .ensures) (at-write82 .write82 .ensures) (at-write16 .write16 .ensures) (c .before .before .write322 .ensures)
 
 pub write-numbers-spec : {M : Type 1} → statement M
-write-numbers-spec =
-    tie.close
-    (tie.spec
-    (λ c κs. search needs)
-    (λ c κs. search needs)
-    (λ c κs. search needs)
-    (λ c κs. search needs)
-    (λ c κs. search needs)
-    (λ c κs. search needs)
-    (λ c. search needs)
-    returns)
+write-numbers-spec = tie.close (tie.spec
+    (λ c κs. search needs) (λ c κs. search needs) (λ c κs. search needs) (λ c κs. search needs) (λ c κs. search needs) (λ c κs. search needs)
+    (λ c. search needs) returns)

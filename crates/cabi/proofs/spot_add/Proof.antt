@@ -8,11 +8,12 @@ use Rattle.cabi.proofs.spot_add.Tie as tie
 
 returns : tie.Need-returns
 returns c =
+    let start = c .before .before .before .before .before .before .before .before .before .before in
     record {
       answer = c .before .before .before .before .before .add .result;
       number = search needs;
       detail = search needs;
-      keeps = rw (toZ-ofZ w32 (c .before .before .before .before .before .before .before .before .before .before .args .place) (c .before .before .before .before .before .before .before .before .before .before .fits .place), toZ-ofZ w32 (c .before .before .before .before .before .before .before .before .before .before .args .rank) (c .before .before .before .before .before .before .before .before .before .before .fits .rank)) at (c .before .before .before .before .before .add .ensures);
+      keeps = rw (toZ-ofZ w32 (start .args .place) (start .fits .place), toZ-ofZ w32 (start .args .rank) (start .fits .rank)) at (c .before .before .before .before .before .add .ensures);
     }
 
 pub spot-add-spec : {M : Type 1} → statement M

@@ -8,13 +8,13 @@ use Rattle.cabi.proofs.spot_withdraw.Tie as tie
 
 returns : tie.Need-returns
 returns c =
+    let start = c .before .before .before .before .before .before .before .before .before .before in
     record {
       answer = c .before .before .before .before .before .withdraw .result;
       number = search needs;
       detail = search needs;
-      keeps = rw (toZ-ofZ w32 (c .before .before .before .before .before .before .before .before .before .before .args .place) (c .before .before .before .before .before .before .before .before .before .before .fits .place), toZ-ofZ w32 (c .before .before .before .before .before .before .before .before .before .before .args .rank) (c .before .before .before .before .before .before .before .before .before .before .fits .rank)) at (c .before .before .before .before .before .withdraw .ensures);
+      keeps = rw (toZ-ofZ w32 (start .args .place) (start .fits .place), toZ-ofZ w32 (start .args .rank) (start .fits .rank)) at (c .before .before .before .before .before .withdraw .ensures);
     }
 
 pub spot-withdraw-spec : {M : Type 1} → statement M
-spot-withdraw-spec =
-    tie.close (tie.spec (λ c κs. search needs) (λ c κs. search needs) (λ c. search needs) (λ c. search needs) returns)
+spot-withdraw-spec = tie.close (tie.spec (λ c κs. search needs) (λ c κs. search needs) (λ c. search needs) (λ c. search needs) returns)

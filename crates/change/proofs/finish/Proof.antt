@@ -25,16 +25,6 @@ returns c =
     (ap (putMid 0 2048 (a .t .now)) (c .before .before .before .before .before .before .copy .ensures) ∙ copied-is (a .t .now) (a .w .now) 0 (p .long) (p .room)) (c .before .before .rehead .ensures)
 
 pub finish-spec : {M : Type 1} → statement M
-finish-spec =
-    tie.close
-    (tie.spec
-    (λ c. search needs)
-    (λ c. search needs)
-    (λ c. search needs)
-    (λ c. search needs)
-    (λ c. search needs)
-    (λ c. search needs)
-    (λ c κs. search needs)
-    rehead-requires
-    (λ c. search needs)
-    returns)
+finish-spec = tie.close (tie.spec
+    (λ c. search needs) (λ c. search needs) (λ c. search needs) (λ c. search needs) (λ c. search needs) (λ c. search needs) (λ c κs. search needs)
+    rehead-requires (λ c. search needs) returns)

@@ -24,33 +24,23 @@ add-new-root c = omega (arith, c .before .before .before .before .before .before
 
 new-root-requires : tie.Need-new-root-requires
 new-root-requires c κs =
-    let s = c .before .before .before .before .before .before .before .before .before .before .before .before .before .settle .ensures in
-    grow-crowns (c .before .before .before .before .before .before .before .before .before .before .before .before .before .before .before .before .before .before .before .before .pre) (s .0) (s .1) (not-false _ (c .before .before .before .before .before .if1 .left)) (not-false _ (c .before .before .before .if2 .left))
+    let at-settle = c .before .before .before .before .before .before .before .before .before .before .before .before .before in
+    let start = at-settle .before .before .before .before .before .before .before in
+    let s = at-settle .settle .ensures in
+    grow-crowns (start .pre) (s .0) (s .1) (not-false _ (c .before .before .before .before .before .if1 .left)) (not-false _ (c .before .before .before .if2 .left))
 
 returns-3 : tie.Need-returns-3
 returns-3 c =
-    let s = c .before .before .before .before .before .before .before .before .before .before .before .before .before .before .before .before .before .before .before .before .settle .ensures in
-    let g = c .before .before .before .before .before .before .new-root .ensures in
-    (kept-trans (s .0) (g .0), grow-two (c .before .before .before .before .before .before .before .before .before .before .before .before .before .before .before .before .before .before .before .before .before .before .before .before .before .before .before .pre) (s .0) (s .1) (not-false _ (c .before .before .before .before .before .before .before .before .before .before .before .before .if1 .left)) (not-false _ (c .before .before .before .before .before .before .before .before .before .before .if2 .left)) (g .1))
+    let at-new-root = c .before .before .before .before .before .before in
+    let at-if1 = at-new-root .before .before .before .before .before .before in
+    let at-settle = at-if1 .before .before .before .before .before .before .before .before in
+    let start = at-settle .before .before .before .before .before .before .before in
+    let s = at-settle .settle .ensures in
+    let g = at-new-root .new-root .ensures in
+    (kept-trans (s .0) (g .0), grow-two (start .pre) (s .0) (s .1) (not-false _ (at-if1 .if1 .left)) (not-false _ (at-new-root .before .before .before .before .if2 .left)) (g .1))
 
 pub grow-spec : {M : Type 1} → statement M
-grow-spec =
-    tie.close
-    (tie.spec
-    (λ c κs. search needs)
-    (λ c κs. search needs)
-    (λ c. search needs)
-    (λ c. search needs)
-    (λ c. search needs)
-    returns
-    add-t19
-    (λ c. search needs)
-    (λ c. search needs)
-    (λ c. search needs)
-    returns-2
-    add-new-root
-    new-root-requires
-    (λ c. search needs)
-    (λ c. search needs)
-    (λ c. search needs)
+grow-spec = tie.close (tie.spec
+    (λ c κs. search needs) (λ c κs. search needs) (λ c. search needs) (λ c. search needs) (λ c. search needs) returns add-t19 (λ c. search needs)
+    (λ c. search needs) (λ c. search needs) returns-2 add-new-root new-root-requires (λ c. search needs) (λ c. search needs) (λ c. search needs)
     returns-3)

@@ -33,52 +33,50 @@ all-keys : (c : tie.Start) (k : ℕ) → List·Memᴰ k (named (c .args .deletes
 all-keys c = keys-within (c .args .deletes .n) (c .args .deletes .keys) (fit-keys c)
 
 save-requires : tie.Need-save-requires
-save-requires c κs = (heavy-starts (c .before .before .before .before .before .pre), let z = nine-blocks (c .before .before .before .before .before .args .t .now) (c .before .before .before .before .before .pre .start .header) in omega (arith, z))
+save-requires c κs =
+    let start = c .before .before .before .before .before in
+    (heavy-starts (start .pre), let z = nine-blocks (start .args .t .now) (start .pre .start .header) in omega (arith, z))
 
 grow-requires : tie.Need-grow-requires
 grow-requires c κs =
-    let s = c .before .before .before .before .before .before .before .before .save .ensures in
-    heavy-settles (c .before .before .before .before .before .before .before .before .before .before .before .before .before .before .pre) (s .0) (s .1) (c .before .before .before .spare-blocks .ensures)
+    let at-save = c .before .before .before .before .before .before .before .before in
+    let s = at-save .save .ensures in
+    heavy-settles (at-save .before .before .before .before .before .before .pre) (s .0) (s .1) (c .before .before .before .spare-blocks .ensures)
 
 undo-requires : tie.Need-undo-requires
 undo-requires c κs =
-    let s = c .before .before .before .before .before .before .before .before .before .before .before .before .before .before .before .before .before .before .before .save .ensures in
-    undoable-kept (kept-trans (s .0) (c .before .before .before .before .before .before .before .before .before .before .grow .ensures .0)) (heavy-starts (c .before .before .before .before .before .before .before .before .before .before .before .before .before .before .before .before .before .before .before .before .before .before .before .before .before .pre))
+    let at-grow = c .before .before .before .before .before .before .before .before .before .before in
+    let at-save = at-grow .before .before .before .before .before .before .before .before .before in
+    undoable-kept (kept-trans (at-save .save .ensures .0) (at-grow .grow .ensures .0)) (heavy-starts (at-save .before .before .before .before .before .before .pre))
 
 returns : tie.Need-returns
 returns c =
-    let s = c .before .before .before .before .before .before .before .before .before .before .before .before .before .before .before .before .before .before .before .before .before .before .before .save .ensures in
-    let g = c .before .before .before .before .before .before .before .before .before .before .before .before .before .before .grow .ensures in
-    heavy-undone (c .before .before .before .before .before .before .before .before .before .before .before .before .before .before .before .before .before .before .before .before .before .before .before .before .before .before .before .before .before .pre) (s .0) (s .1) (c .before .before .before .before .before .before .before .before .before .before .before .before .before .before .before .before .before .before .spare-blocks .ensures) (g .0) (g .1) (c .refused .ensures) (c .before .before .before .undo .ensures) (all-spots (c .before .before .before .before .before .before .before .before .before .before .before .before .before .before .before .before .before .before .before .before .before .before .before .before .before .before .before .before .before)) (all-keys (c .before .before .before .before .before .before .before .before .before .before .before .before .before .before .before .before .before .before .before .before .before .before .before .before .before .before .before .before .before))
+    let at-grow = c .before .before .before .before .before .before .before .before .before .before .before .before .before .before in
+    let at-save = at-grow .before .before .before .before .before .before .before .before .before in
+    let start = at-save .before .before .before .before .before .before in
+    let s = at-save .save .ensures in
+    let g = at-grow .grow .ensures in
+    heavy-undone (start .pre) (s .0) (s .1) (at-grow .before .before .before .before .spare-blocks .ensures) (g .0) (g .1) (c .refused .ensures) (c .before .before .before .undo .ensures) (all-spots start) (all-keys start)
 
 finish-requires : tie.Need-finish-requires
 finish-requires c κs =
-    let s = c .before .before .before .before .before .before .before .before .before .before .before .before .before .before .before .before .before .before .save .ensures in
-    let g = c .before .before .before .before .before .before .before .before .before .grow .ensures in
-    heavy-finishes (c .before .before .before .before .before .before .before .before .before .before .before .before .before .before .before .before .before .before .before .before .before .before .before .before .pre) (s .0) (s .1) (c .before .before .before .before .before .before .before .before .before .before .before .before .before .spare-blocks .ensures) (g .0) (g .1) (not-false _ (c .before .before .if1 .left))
+    let at-grow = c .before .before .before .before .before .before .before .before .before in
+    let at-save = at-grow .before .before .before .before .before .before .before .before .before in
+    let start = at-save .before .before .before .before .before .before in
+    let s = at-save .save .ensures in
+    let g = at-grow .grow .ensures in
+    heavy-finishes (start .pre) (s .0) (s .1) (at-grow .before .before .before .before .spare-blocks .ensures) (g .0) (g .1) (not-false _ (c .before .before .if1 .left))
 
 returns-2 : tie.Need-returns-2
 returns-2 c =
-    let s = c .before .before .before .before .before .before .before .before .before .before .before .before .before .before .before .before .before .before .before .before .before .save .ensures in
-    let g = c .before .before .before .before .before .before .before .before .before .before .before .before .grow .ensures in
-    heavy-done (c .before .before .before .before .before .before .before .before .before .before .before .before .before .before .before .before .before .before .before .before .before .before .before .before .before .before .before .pre) (s .0) (s .1) (c .before .before .before .before .before .before .before .before .before .before .before .before .before .before .before .before .spare-blocks .ensures) (g .0) (g .1) (not-false _ (c .before .before .before .before .before .if1 .left)) (c .before .before .finish .ensures) (all-spots (c .before .before .before .before .before .before .before .before .before .before .before .before .before .before .before .before .before .before .before .before .before .before .before .before .before .before .before)) (all-keys (c .before .before .before .before .before .before .before .before .before .before .before .before .before .before .before .before .before .before .before .before .before .before .before .before .before .before .before))
+    let at-grow = c .before .before .before .before .before .before .before .before .before .before .before .before in
+    let at-save = at-grow .before .before .before .before .before .before .before .before .before in
+    let start = at-save .before .before .before .before .before .before in
+    let s = at-save .save .ensures in
+    let g = at-grow .grow .ensures in
+    heavy-done (start .pre) (s .0) (s .1) (at-grow .before .before .before .before .spare-blocks .ensures) (g .0) (g .1) (not-false _ (c .before .before .before .before .before .if1 .left)) (c .before .before .finish .ensures) (all-spots start) (all-keys start)
 
 pub heavy-spec : {M : Type 1} → statement M
-heavy-spec =
-    tie.close
-    (tie.spec
-    (λ c. search needs)
-    save-requires
-    (λ c κs. search needs)
-    (λ c. search needs)
-    grow-requires
-    (λ c. search needs)
-    undo-requires
-    (λ c κs. search needs)
-    (λ c. search needs)
-    (λ c. search needs)
-    returns
-    finish-requires
-    (λ c. search needs)
-    (λ c. search needs)
-    returns-2)
+heavy-spec = tie.close (tie.spec
+    (λ c. search needs) save-requires (λ c κs. search needs) (λ c. search needs) grow-requires (λ c. search needs) undo-requires
+    (λ c κs. search needs) (λ c. search needs) (λ c. search needs) returns finish-requires (λ c. search needs) (λ c. search needs) returns-2)

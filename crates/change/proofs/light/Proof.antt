@@ -24,9 +24,6 @@ fit-spots c = search (needs, all-fit)
 fit-keys : (c : tie.Start) → every keyFits (c .args .deletes .keys) ≡ true
 fit-keys c = keys-fit (c .args .deletes .keys) (λ i. search needs)
 
-take-in-requires : tie.Need-take-in-requires
-take-in-requires c κs = light-receives (c .before .pre)
-
 put-node-requires : tie.Need-put-node-requires
 put-node-requires c κs = (light-inside (c .before .before .before .pre), light-stores (c .before .before .before .pre) (c .before .take-in .ensures))
 
@@ -38,12 +35,11 @@ rehead-requires c κs = light-head (c .before .before .before .before .before .b
 
 returns : tie.Need-returns
 returns c =
-    let a = c .before .before .before .before .before .before .before .before .before .before .args in
-    let k = c .before .before .before .before .before .before .before .before .take-in in
-    light-done (c .before .before .before .before .before .before .before .before .before .before .pre) (k .ensures) (c .before .before .before .before .before .before .put-node .ensures) (c .before .before .rehead .ensures) (held-length (k .result .points) (long (c .before .before .before .before .before .before .before .before)) (k .ensures .tidy .points .fits))
-    (spots-within (a .inserts .n) (a .inserts .spots) (fit-spots (c .before .before .before .before .before .before .before .before .before .before))) (keys-within (a .deletes .n) (a .deletes .keys) (fit-keys (c .before .before .before .before .before .before .before .before .before .before)))
+    let at-put-node = c .before .before .before .before .before .before in
+    let a = at-put-node .before .before .before .before .args in
+    let k = at-put-node .before .before .take-in in
+    light-done (at-put-node .before .before .before .before .pre) (k .ensures) (at-put-node .put-node .ensures) (c .before .before .rehead .ensures) (held-length (k .result .points) (long (at-put-node .before .before)) (k .ensures .tidy .points .fits))
+    (spots-within (a .inserts .n) (a .inserts .spots) (fit-spots (at-put-node .before .before .before .before))) (keys-within (a .deletes .n) (a .deletes .keys) (fit-keys (at-put-node .before .before .before .before)))
 
 pub light-spec : {M : Type 1} → statement M
-light-spec =
-    tie.close
-    (tie.spec take-in-requires put-node-requires add-rehead rehead-requires (λ c. search needs) returns)
+light-spec = tie.close (tie.spec (λ c κs. light-receives (c .before .pre)) put-node-requires add-rehead rehead-requires (λ c. search needs) returns)

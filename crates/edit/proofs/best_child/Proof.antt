@@ -25,21 +25,6 @@ long c = search (needs, length-image)
 loop-holds : tie.Need-loop-holds Inv-loop μ-loop
 loop-holds c = (omega arith, seen-none (c .args .t1 .list) (c .args .t1 .n) 0)
 
-mul-e : tie.Need-mul-e Inv-loop μ-loop
-mul-e c = omega arith
-
-element-copy-out-e : tie.Need-element-copy-out-e Inv-loop μ-loop
-element-copy-out-e c = omega arith
-
-rank-key-requires : tie.Need-rank-key-requires Inv-loop μ-loop
-rank-key-requires c κs = omega arith
-
-add-i : tie.Need-add-i Inv-loop μ-loop
-add-i c = omega arith
-
-loop-less : tie.Need-loop-less Inv-loop μ-loop
-loop-less c = omega arith
-
 loop-again : tie.Need-loop-again Inv-loop μ-loop
 loop-again c =
     let s = c .before .before .before .before .before .before in
@@ -71,16 +56,5 @@ returns c =
     seen-all (es .list) (es .n) (l .best) (l .high) (omega (arith, long s, s .pre)) (rw e at (l .inv .1))
 
 pub best-child-spec : {M : Type 1} → statement M
-best-child-spec =
-    tie.close
-    (tie.spec
-    Inv-loop
-    μ-loop
-    loop-holds
-    mul-e
-    element-copy-out-e
-    rank-key-requires
-    add-i
-    loop-less
-    loop-again
-    returns)
+best-child-spec = tie.close (tie.spec
+    Inv-loop μ-loop loop-holds (λ c. omega arith) (λ c. omega arith) (λ c κs. omega arith) (λ c. omega arith) (λ c. omega arith) loop-again returns)

@@ -5,7 +5,7 @@ use Prim.Native.Nat.{ℕ, _+_, _-_, _≤_}
 use native.Mathlib.Omega.{arith}
 use borrow.Author.Needs.{needs}
 use lib.ListN.{length, drop}
-use Rattle.update.specs.Held.{deleteAll}
+use Rattle.update_theory.specs.Held.{deleteAll}
 use Rattle.buffer.specs.Buffer.{named}
 use Rattle.edit.specs.Edits.{heldIn, Edited}
 use Rattle.edit.proofs.Buffered.{deletes-none, deletes-more, edited-none, edited-more, edited-same}
@@ -29,22 +29,10 @@ loop-holds c =
       edited-none (deletes-none (a .r) (a .t2 .keys) (a .t2 .n) (omega (arith, long c)) (heldIn (a .n))) (c .pre .0) (omega arith) (omega arith) (omega arith),
     )
 
-sub-i : tie.Need-sub-i Inv-loop μ-loop
-sub-i c = omega arith
-
-mul-k : tie.Need-mul-k Inv-loop μ-loop
-mul-k c = omega arith
-
-element-copy-out-k : tie.Need-element-copy-out-k Inv-loop μ-loop
-element-copy-out-k c = omega arith
-
 delete-one-requires : tie.Need-delete-one-requires Inv-loop μ-loop
 delete-one-requires c κs =
     let l = c .before .before .loop in
     (l .inv .1 .tidy, omega (arith, l .inv .1 .deletes))
-
-loop-less : tie.Need-loop-less Inv-loop μ-loop
-loop-less c = omega arith
 
 loop-again : tie.Need-loop-again Inv-loop μ-loop
 loop-again c =
@@ -66,16 +54,5 @@ returns c =
     edited-same (l .inv .1) (omega arith) (omega arith) (omega arith) (ap (λ (i : ℕ). deleteAll (a .r) (drop i (named (a .t2))) (heldIn (a .n))) e)
 
 pub delete-all-spec : {M : Type 1} → statement M
-delete-all-spec =
-    tie.close
-    (tie.spec
-    Inv-loop
-    μ-loop
-    loop-holds
-    sub-i
-    mul-k
-    element-copy-out-k
-    delete-one-requires
-    loop-less
-    loop-again
-    returns)
+delete-all-spec = tie.close (tie.spec
+    Inv-loop μ-loop loop-holds (λ c. omega arith) (λ c. omega arith) (λ c. omega arith) delete-one-requires (λ c. omega arith) loop-again returns)

@@ -55,13 +55,5 @@ returns-2 c =
     }
 
 pub delete-one-spec : {M : Type 1} → statement M
-delete-one-spec =
-    tie.close
-    (tie.spec
-    (λ c κs. search needs)
-    (λ c κs. search needs)
-    (λ c κs. search needs)
-    (λ c κs. search needs)
-    put-key-requires
-    returns
-    returns-2)
+delete-one-spec = tie.close (tie.spec
+    (λ c κs. search needs) (λ c κs. search needs) (λ c κs. search needs) (λ c κs. search needs) put-key-requires returns returns-2)

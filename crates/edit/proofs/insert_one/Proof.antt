@@ -66,14 +66,5 @@ returns-2 c =
     }
 
 pub insert-one-spec : {M : Type 1} → statement M
-insert-one-spec =
-    tie.close
-    (tie.spec
-    (λ c κs. search needs)
-    (λ c κs. search needs)
-    (λ c κs. search needs)
-    (λ c κs. search needs)
-    put-requires
-    returns
-    put-requires-2
-    returns-2)
+insert-one-spec = tie.close (tie.spec
+    (λ c κs. search needs) (λ c κs. search needs) (λ c κs. search needs) (λ c κs. search needs) put-requires returns put-requires-2 returns-2)

@@ -12,7 +12,7 @@ use Rattle.spot.specs.Keys.{rankKey}
 use Rattle.spot.specs.Spots.{keys}
 use Rattle.buffer.specs.Buffer.{held, named, blank}
 use Rattle.buffer.proofs.Lists.{length-image}
-use Rattle.update.specs.Held.{Held, insertOne, insertAll}
+use Rattle.update_theory.specs.Held.{Held, insertOne, insertAll}
 use Rattle.edit.specs.Edits.{heldIn}
 use Rattle.edit.proofs.Buffered.{buffers, spot-gone, inserts-none, inserts-more, edited-same}
 use Rattle.edit.proofs.Gathered.{Gathered, joined, gathered-none, gathered-high, gathered-low, gathered-all}
@@ -47,12 +47,6 @@ turn c b e =
     let l = c .before .loop in
     inserts-more (a .r) (a .t2 .spots) (a .t2 .n) (omega (arith, long s)) (heldIn (a .n)) (l .i) (omega arith) (l .inv .0) (l .inv .1 .holds) e
 
-empty-requires : tie.Need-empty-requires Inv-loop μ-loop
-empty-requires c κs = search needs
-
-empty-requires-2 : tie.Need-empty-requires-2 Inv-loop μ-loop
-empty-requires-2 c κs = search needs
-
 loop-holds : tie.Need-loop-holds Inv-loop μ-loop
 loop-holds c =
     let s = c .before .before .before .before .before .before in
@@ -65,27 +59,6 @@ loop-holds c =
           (h .ensures .0) (h .ensures .1) (l .ensures .0) (l .ensures .1) (inserts-none (a .r) (a .t2 .spots) (a .t2 .n) (omega (arith, long s)) (heldIn n)),
     )
 
-sub-i : tie.Need-sub-i Inv-loop μ-loop
-sub-i c = omega arith
-
-mul-s : tie.Need-mul-s Inv-loop μ-loop
-mul-s c = omega (arith, c .before .loop .inv .0)
-
-element-copy-out-s : tie.Need-element-copy-out-s Inv-loop μ-loop
-element-copy-out-s c = omega (arith, c .before .loop .inv .0)
-
-without-key-requires : tie.Need-without-key-requires Inv-loop μ-loop
-without-key-requires c κs = c .before .before .loop .inv .1 .deletes
-
-rank-key-requires : tie.Need-rank-key-requires Inv-loop μ-loop
-rank-key-requires c κs = search needs
-
-without-requires : tie.Need-without-requires Inv-loop μ-loop
-without-requires c κs = c .before .before .before .before .before .loop .inv .1 .low .old
-
-without-requires-2 : tie.Need-without-requires-2 Inv-loop μ-loop
-without-requires-2 c κs = c .before .before .before .before .before .before .loop .inv .1 .high .new
-
 put-requires : tie.Need-put-requires Inv-loop μ-loop
 put-requires c κs =
     let t = c .before .before .before .before .before .before in
@@ -93,9 +66,6 @@ put-requires c κs =
     let w = c .without2 in
     let k = spot-of t .key in
     (w .ensures .2, omega (arith, w .ensures .0, l .inv .1 .high .few, start t .pre .1), ap (λ (x : List Spot). has k (keys x)) (w .ensures .1) ∙ spot-gone k (held (l .high)))
-
-loop-less : tie.Need-loop-less Inv-loop μ-loop
-loop-less c = omega arith
 
 loop-again : tie.Need-loop-again Inv-loop μ-loop
 loop-again c =
@@ -112,12 +82,6 @@ loop-again c =
           (i .result) (o .result) (h .result) high (i .ensures .0) (i .ensures .1) (i .ensures .2) (o .ensures .0) (o .ensures .1) (h .ensures .0) (h .ensures .1) (h .ensures .2),
     )
 
-without-requires-3 : tie.Need-without-requires-3 Inv-loop μ-loop
-without-requires-3 c κs = c .before .before .before .before .before .loop .inv .1 .high .old
-
-without-requires-4 : tie.Need-without-requires-4 Inv-loop μ-loop
-without-requires-4 c κs = c .before .before .before .before .before .before .loop .inv .1 .low .new
-
 put-requires-2 : tie.Need-put-requires-2 Inv-loop μ-loop
 put-requires-2 c κs =
     let t = c .before .before .before .before .before .before in
@@ -125,9 +89,6 @@ put-requires-2 c κs =
     let w = c .without4 in
     let k = spot-of t .key in
     (w .ensures .2, omega (arith, w .ensures .0, l .inv .1 .low .few, start t .pre .1), ap (λ (x : List Spot). has k (keys x)) (w .ensures .1) ∙ spot-gone k (held (l .low)))
-
-loop-less-2 : tie.Need-loop-less-2 Inv-loop μ-loop
-loop-less-2 c = omega arith
 
 loop-again-2 : tie.Need-loop-again-2 Inv-loop μ-loop
 loop-again-2 c =
@@ -169,29 +130,11 @@ returns c =
     (omega arith) (omega arith) (omega arith) (ap (λ (j : ℕ). insertAll (a .r) (drop j (held (a .t2))) (heldIn (a .n))) e)
 
 pub insert-parts-spec : {M : Type 1} → statement M
-insert-parts-spec =
-    tie.close
-    (tie.spec
-    Inv-loop
-    μ-loop
-    empty-requires
-    empty-requires-2
-    loop-holds
-    sub-i
-    mul-s
-    element-copy-out-s
-    without-key-requires
-    rank-key-requires
-    without-requires
-    without-requires-2
-    put-requires
-    loop-less
-    loop-again
-    without-requires-3
-    without-requires-4
-    put-requires-2
-    loop-less-2
-    loop-again-2
-    bring-in-requires
-    bring-in-requires-2
-    returns)
+insert-parts-spec = tie.close (tie.spec
+    Inv-loop μ-loop (λ c κs. search needs) (λ c κs. search needs) loop-holds (λ c. omega arith) (λ c. omega (arith, c .before .loop .inv .0))
+    (λ c. omega (arith, c .before .loop .inv .0)) (λ c κs. c .before .before .loop .inv .1 .deletes) (λ c κs. search needs)
+    (λ c κs. c .before .before .before .before .before .loop .inv .1 .low .old)
+    (λ c κs. c .before .before .before .before .before .before .loop .inv .1 .high .new) put-requires (λ c. omega arith) loop-again
+    (λ c κs. c .before .before .before .before .before .loop .inv .1 .high .old)
+    (λ c κs. c .before .before .before .before .before .before .loop .inv .1 .low .new) put-requires-2 (λ c. omega arith) loop-again-2
+    bring-in-requires bring-in-requires-2 returns)

@@ -9,13 +9,6 @@ use Rattle.buffer.proofs.Lists.{length-image}
 use Rattle.edit.proofs.Lowered.{Lowering, lowering-none, lowest-new, one-fewer, lowering-more, lowering-all, spilled-none}
 use Rattle.edit.proofs.spill.Statement.{statement}
 use Rattle.edit.proofs.spill.Tie as tie
-use Rattle.edit.proofs.spill.Reads as reads
-use Rattle.edit.proofs.spill.Lts as lts
-use Rattle.buffer.proofs.empty.Reads as empty-reads
-use Rattle.buffer.proofs.lowest.Reads as lowest-reads
-use Rattle.buffer.proofs.merge.Reads as merge-reads
-use Rattle.buffer.proofs.put.Reads as put-reads
-use Rattle.buffer.proofs.without.Reads as without-reads
 
 abbrev Inv-loop : tie.InvT-loop
 Inv-loop n size level entries deletes points₀ gathered₀ points gathered = Lowering (n .points) (n .inserts) (n .deletes) points gathered
@@ -29,21 +22,12 @@ lengths c = (search (needs, length-image), search (needs, length-image))
 returns : tie.Need-returns Inv-loop μ-loop
 returns c = spilled-none (c .before .args .n) (c .before .pre .0) (omega arith)
 
-empty-requires : tie.Need-empty-requires Inv-loop μ-loop
-empty-requires c κs = search needs
-
 loop-holds : tie.Need-loop-holds Inv-loop μ-loop
 loop-holds c =
     let s = c .before .before .before .before .before in
     let n = s .args .n in
     let g = c .empty in
     lowering-none (n .points) (n .inserts) (g .result) (n .deletes) (lengths s .0) (s .pre .0 .points) (s .pre .2) (omega arith) (g .ensures .0) (g .ensures .1)
-
-lowest-requires : tie.Need-lowest-requires Inv-loop μ-loop
-lowest-requires c κs = (c .before .before .loop .inv .points, omega arith)
-
-without-requires : tie.Need-without-requires Inv-loop μ-loop
-without-requires c κs = c .before .before .before .loop .inv .points
 
 put-requires : tie.Need-put-requires Inv-loop μ-loop
 put-requires c κs =
@@ -52,7 +36,7 @@ put-requires c κs =
     let q = c .before .lowest in
     (l .inv .gathered, omega (arith, s .pre .0 .points .fits, l .inv .total), lowest-new (l .points) (held (l .gathered)) (q .result) (q .ensures) (l .inv .apart))
 
-long : (c : lts.After-put (empty-reads.Asked, empty-reads.Learnt, lowest-reads.Asked, lowest-reads.Learnt, without-reads.Asked, without-reads.Learnt, put-reads.Asked, put-reads.Learnt, merge-reads.Asked, merge-reads.Learnt) reads.Pre reads.Post Inv-loop μ-loop)
+long : (c : tie.After-put Inv-loop μ-loop)
     → length (c .before .without .result .spots) ≡ 80
 long c = search (needs, length-image)
 
@@ -88,18 +72,6 @@ returns-2 c =
     (i .ensures .2)
 
 pub spill-spec : {M : Type 1} → statement M
-spill-spec =
-    tie.close
-    (tie.spec
-    Inv-loop
-    μ-loop
-    returns
-    empty-requires
-    loop-holds
-    lowest-requires
-    without-requires
-    put-requires
-    loop-less
-    loop-again
-    merge-requires
-    returns-2)
+spill-spec = tie.close (tie.spec
+    Inv-loop μ-loop returns (λ c κs. search needs) loop-holds (λ c κs. (c .before .before .loop .inv .points, omega arith))
+    (λ c κs. c .before .before .before .loop .inv .points) put-requires loop-less loop-again merge-requires returns-2)

@@ -44,5 +44,5 @@ returns-3 c =
     }
 
 pub from-top-spec : {M : Type 1} → statement M
-from-top-spec =
-    tie.close (tie.spec (λ c κs. search needs) (λ c κs. search needs) returns (λ c κs. search needs) (λ c κs. search needs) returns-2 raise-child-requires returns-3)
+from-top-spec = tie.close (tie.spec
+    (λ c κs. search needs) (λ c κs. search needs) returns (λ c κs. search needs) (λ c κs. search needs) returns-2 raise-child-requires returns-3)

@@ -1,7 +1,7 @@
 -- `frontier::place_at` meets its contract. The measure is the slot: its parent's comes before it.
 -- Assumes nothing.
 use Rattle.frontier.proofs.Chains.{slot-first, child-inside, hangs-inside, hangs-lower, hangs-up, hangs-child, hangs-valid}
-use Rattle.frontier.specs.Frontier.{kidCount, placeOf, kidPlace, parentBy, indexBy, slotBy}
+use Rattle.frontier.specs.Frontier.{kidCount, slotPlace, kidPlace, parentBy, indexBy, slotBy}
 use Rattle.frontier.specs.declared.Place.{Place}
 use Rattle.block.specs.NodeRules.{ValidBlock}
 use denote.Ref.{now}
@@ -45,7 +45,7 @@ returns : (t : ℕ) → lts.Need-returns (cs t) (at t) place-at.Post
 returns t c =
     let at-if = c .before in
     let a = at-if .before .before .args in
-    c .root-place .ensures ∙ ap placeOf (sym (ap (slotBy (now (a .t)) (now (a .rows))) (at-if .if1 .taken) ∙ slot-first (now (a .t)) (now (a .rows))))
+    c .root-place .ensures ∙ ap slotPlace (sym (ap (slotBy (now (a .t)) (now (a .rows))) (at-if .if1 .taken) ∙ slot-first (now (a .t)) (now (a .rows))))
 
 mul-row : (t : ℕ) → lts.Need-mul-row (cs t) (at t) place-at.Post
 mul-row t c = omega (arith, hangs-inside (c .before .before .pre .1))
@@ -84,7 +84,7 @@ returns-2 t c =
     let a = s .args in
     c .kid-place .ensures
     ∙ ap (λ (p : Place). kidPlace (now (a .t)) p (indexBy (now (a .rows)) (a .i))) (c .before .place-at .ensures)
-    ∙ ap placeOf (sym (hangs-child (s .pre .1) (some t at-row)))
+    ∙ ap slotPlace (sym (hangs-child (s .pre .1) (some t at-row)))
 
 pub +place-at-spec : {M : Type 1} → statement M
 +place-at-spec = close μ-slot λ t. lts.spec (cs t) (at t) place-at.Post

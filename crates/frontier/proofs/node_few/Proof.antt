@@ -8,7 +8,7 @@ use borrow.Author.Needs.{needs}
 use native.Mathlib.Omega.{arith}
 use Rattle.spot.specs.Keys.{rankOf}
 use Rattle.spot.proofs.TopKeys.{top-rank}
-use Rattle.frontier.specs.Picks.{spotsAt, spotCount, Apart, OneOf, Few, fewFloor}
+use Rattle.frontier.specs.Picks.{spotsAt, spotCount, KeysApart, OneOf, Few, fewFloor}
 use Rattle.frontier.proofs.Spots.{Sizes, part-sizes, spots-apart}
 use Rattle.frontier.proofs.Fews.{few-none, apart-first, inserts-past}
 use Rattle.frontier.proofs.node_few.Statement.{statement}
@@ -25,11 +25,11 @@ start c = omega (arith, known (c .before) .children, c .points-from .ensures)
 all : (c : tie.After-points-from) → let a = c .before .before .before .before .args in c .before .front-of .result .p + c .before .front-of .result .i ≡ spotCount (now (a .t)) (a .b)
 all c = let z = known (c .before) in omega (arith, z .points, z .inserts)
 
-apart : (c : tie.After-points-from) → let a = c .before .before .before .before .args in let h = c .before .front-of .result in Apart (now (a .t)) (a .b * 2048 + c .points-from .result) (h .p + h .i)
+apart : (c : tie.After-points-from) → let a = c .before .before .before .before .args in let h = c .before .front-of .result in KeysApart (now (a .t)) (a .b * 2048 + c .points-from .result) (h .p + h .i)
 apart c =
     let s = c .before .before .before .before in
     let h = c .before .front-of .result in
-    subst (λ (k : ℕ). Apart (now (s .args .t)) k (h .p + h .i)) (sym (start c)) (spots-apart (now (s .args .t)) (s .args .b) h (known (c .before)) (s .pre .0))
+    subst (λ (k : ℕ). KeysApart (now (s .args .t)) k (h .p + h .i)) (sym (start c)) (spots-apart (now (s .args .t)) (s .args .b) h (known (c .before)) (s .pre .0))
 
 -- the rows stay as many
 some : (c : tie.After-run-few) → 0 < length (c .run-few .last .1 .1 .1 .1 .1 .1 .0)

@@ -9,12 +9,11 @@ use Rattle.histories.proofs.steps.Statement.{statement}
 use Rattle.histories.proofs.steps.Tie as tie
 
 abbrev Inv-loop : tie.InvT-loop
-Inv-loop table₀ scratch₀ places₀ ranks₀ tracks₀ capacity kind n run₀ i₀ table scratch places ranks tracks run i =
+Inv-loop table₀ scratch₀ list₀ capacity kind n run₀ i₀ table scratch list run i =
     (length table ≡ length table₀) × (length scratch ≡ length scratch₀)
 
 abbrev μ-loop : tie.MeasureT-loop
-μ-loop table₀ scratch₀ places₀ ranks₀ tracks₀ capacity kind n run₀ i₀ table scratch places ranks tracks run i =
-    n - i
+μ-loop table₀ scratch₀ list₀ capacity kind n run₀ i₀ table scratch list run i = n - i
 
 loop-holds : tie.Need-loop-holds Inv-loop μ-loop
 loop-holds c = search needs

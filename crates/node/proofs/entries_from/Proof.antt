@@ -27,27 +27,6 @@ loop-holds c =
     let e : a .k - a .k ≡ 0 = omega arith in
     (omega arith, omega arith, long c, ap (λ (m : ℕ). take m (a .t1 .list)) e ∙ sym (part-none (a .k) (entriesOf (a .t1))))
 
-mul-x : tie.Need-mul-x Inv-loop μ-loop
-mul-x c = omega arith
-
-element-copy-out-x : tie.Need-element-copy-out-x Inv-loop μ-loop
-element-copy-out-x c = omega arith
-
-sub-x : tie.Need-sub-x Inv-loop μ-loop
-sub-x c = omega arith
-
-mul-x-2 : tie.Need-mul-x-2 Inv-loop μ-loop
-mul-x-2 c = omega arith
-
-element-set-from-x : tie.Need-element-set-from-x Inv-loop μ-loop
-element-set-from-x c = omega arith
-
-add-j : tie.Need-add-j Inv-loop μ-loop
-add-j c = omega arith
-
-loop-less : tie.Need-loop-less Inv-loop μ-loop
-loop-less c = omega arith
-
 loop-again : tie.Need-loop-again Inv-loop μ-loop
 loop-again c =
     let s = c .before .before .before in
@@ -61,9 +40,6 @@ loop-again c =
       ap (λ (m : ℕ). take m (set (l .next .list) (l .j - a .k) (getD (es .list) (l .j) blank))) e ∙ grown blank (es .list) (l .next .list) [] (es .n) (l .j - a .k) (l .inv .0) (omega arith) (omega (arith, long s)) (omega arith) (l .inv .3),
     )
 
-sub-next : tie.Need-sub-next Inv-loop μ-loop
-sub-next c = omega arith
-
 returns : tie.Need-returns Inv-loop μ-loop
 returns c =
     let s = c .before .before in
@@ -76,19 +52,6 @@ returns c =
     )
 
 pub entries-from-spec : {M : Type 1} → statement M
-entries-from-spec =
-    tie.close
-    (tie.spec
-    Inv-loop
-    μ-loop
-    loop-holds
-    mul-x
-    element-copy-out-x
-    sub-x
-    mul-x-2
-    element-set-from-x
-    add-j
-    loop-less
-    loop-again
-    sub-next
-    returns)
+entries-from-spec = tie.close (tie.spec
+    Inv-loop μ-loop loop-holds (λ c. omega arith) (λ c. omega arith) (λ c. omega arith) (λ c. omega arith) (λ c. omega arith) (λ c. omega arith)
+    (λ c. omega arith) loop-again (λ c. omega arith) returns)

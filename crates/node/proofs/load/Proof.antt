@@ -17,13 +17,5 @@ returns c =
     loaded-part (now (s .args .t)) (s .args .b) (s .pre) (c .load-block .result) (c .load-block .ensures)
 
 pub load-spec : {M : Type 1} → statement M
-load-spec =
-    tie.close
-    (tie.spec
-    (λ c. search needs)
-    (λ c. search needs)
-    (λ c. search needs)
-    (λ c. search needs)
-    (λ c. search needs)
-    load-block-requires
-    returns)
+load-spec = tie.close (tie.spec
+    (λ c. search needs) (λ c. search needs) (λ c. search needs) (λ c. search needs) (λ c. search needs) load-block-requires returns)

@@ -19,24 +19,15 @@ load-entries-requires c κs =
     let q = counted (c .before) in
     (ap (λ (x : Front). x .c) (c .before .front-of .ensures .0), omega (arith, q), omega (arith, q, c .before .before .before .pre .sized))
 
-points-from-requires : tie.Need-points-from-requires
-points-from-requires c κs = omega (arith, counted (c .before .before))
-
 load-spots-requires : tie.Need-load-spots-requires
 load-spots-requires c κs =
     let q = counted (c .before .before .before) in
     (omega (arith, q), omega (arith, q, c .before .before .before .before .before .pre .sized, c .points-from .ensures))
 
-inserts-from-requires : tie.Need-inserts-from-requires
-inserts-from-requires c κs = omega (arith, counted (c .before .before .before .before))
-
 load-spots-requires-2 : tie.Need-load-spots-requires-2
 load-spots-requires-2 c κs =
     let q = counted (c .before .before .before .before .before) in
     (omega (arith, q), omega (arith, q, c .before .before .before .before .before .before .before .pre .sized, c .inserts-from .ensures))
-
-deletes-from-requires : tie.Need-deletes-from-requires
-deletes-from-requires c κs = omega (arith, counted (c .before .before .before .before .before .before))
 
 load-keys-requires : tie.Need-load-keys-requires
 load-keys-requires c κs =
@@ -62,16 +53,7 @@ returns c =
     (ds .0, ds .1 ∙ ap (records (keyAt t) 8 (h .d)) (d .deletes-from .ensures))
 
 pub load-block-spec : {M : Type 1} → statement M
-load-block-spec =
-    tie.close
-    (tie.spec
-    (λ c κs. search needs)
-    (λ c κs. search needs)
-    load-entries-requires
-    points-from-requires
-    load-spots-requires
-    inserts-from-requires
-    load-spots-requires-2
-    deletes-from-requires
-    load-keys-requires
-    returns)
+load-block-spec = tie.close (tie.spec
+    (λ c κs. search needs) (λ c κs. search needs) load-entries-requires (λ c κs. omega (arith, counted (c .before .before))) load-spots-requires
+    (λ c κs. omega (arith, counted (c .before .before .before .before))) load-spots-requires-2
+    (λ c κs. omega (arith, counted (c .before .before .before .before .before .before))) load-keys-requires returns)

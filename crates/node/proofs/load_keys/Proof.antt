@@ -19,33 +19,6 @@ Inv-loop s at n out₀ i₀ out i = (i ≤ n) × (length (out .keys) ≡ 32) × 
 abbrev μ-loop : tie.MeasureT-loop
 μ-loop s at n out₀ i₀ out i = n - i
 
-empty-keys-requires : tie.Need-empty-keys-requires Inv-loop μ-loop
-empty-keys-requires c κs = omega arith
-
-loop-holds : tie.Need-loop-holds Inv-loop μ-loop
-loop-holds c = (search needs, search (needs, length-image), refl)
-
-mul-read-key : tie.Need-mul-read-key Inv-loop μ-loop
-mul-read-key c = omega arith
-
-add-read-key : tie.Need-add-read-key Inv-loop μ-loop
-add-read-key c = omega arith
-
-read-key-requires : tie.Need-read-key-requires Inv-loop μ-loop
-read-key-requires c κs = omega arith
-
-mul-out : tie.Need-mul-out Inv-loop μ-loop
-mul-out c = omega arith
-
-element-write-out : tie.Need-element-write-out Inv-loop μ-loop
-element-write-out c = omega arith
-
-add-i : tie.Need-add-i Inv-loop μ-loop
-add-i c = omega arith
-
-loop-less : tie.Need-loop-less Inv-loop μ-loop
-loop-less c = omega arith
-
 loop-again : tie.Need-loop-again Inv-loop μ-loop
 loop-again c =
     let l = c .before .before .loop in
@@ -60,19 +33,6 @@ returns c =
     (search needs, rw e at (l .inv .2))
 
 pub load-keys-spec : {M : Type 1} → statement M
-load-keys-spec =
-    tie.close
-    (tie.spec
-    Inv-loop
-    μ-loop
-    empty-keys-requires
-    loop-holds
-    mul-read-key
-    add-read-key
-    read-key-requires
-    mul-out
-    element-write-out
-    add-i
-    loop-less
-    loop-again
-    returns)
+load-keys-spec = tie.close (tie.spec
+    Inv-loop μ-loop (λ c κs. omega arith) (λ c. (search needs, search (needs, length-image), refl)) (λ c. omega arith) (λ c. omega arith)
+    (λ c κs. omega arith) (λ c. omega arith) (λ c. omega arith) (λ c. omega arith) (λ c. omega arith) loop-again returns)

@@ -19,33 +19,6 @@ Inv-loop s at n out₀ i₀ out i = (i ≤ n) × (length (out .spots) ≡ 80) ×
 abbrev μ-loop : tie.MeasureT-loop
 μ-loop s at n out₀ i₀ out i = n - i
 
-empty-requires : tie.Need-empty-requires Inv-loop μ-loop
-empty-requires c κs = omega arith
-
-loop-holds : tie.Need-loop-holds Inv-loop μ-loop
-loop-holds c = (search needs, search (needs, length-image), refl)
-
-mul-read-spot : tie.Need-mul-read-spot Inv-loop μ-loop
-mul-read-spot c = omega arith
-
-add-read-spot : tie.Need-add-read-spot Inv-loop μ-loop
-add-read-spot c = omega arith
-
-read-spot-requires : tie.Need-read-spot-requires Inv-loop μ-loop
-read-spot-requires c κs = omega arith
-
-mul-x : tie.Need-mul-x Inv-loop μ-loop
-mul-x c = omega arith
-
-element-set-from-x : tie.Need-element-set-from-x Inv-loop μ-loop
-element-set-from-x c = omega arith
-
-add-i : tie.Need-add-i Inv-loop μ-loop
-add-i c = omega arith
-
-loop-less : tie.Need-loop-less Inv-loop μ-loop
-loop-less c = omega arith
-
 loop-again : tie.Need-loop-again Inv-loop μ-loop
 loop-again c =
     let l = c .before .before .loop in
@@ -60,19 +33,6 @@ returns c =
     (search needs, rw e at (l .inv .2))
 
 pub load-spots-spec : {M : Type 1} → statement M
-load-spots-spec =
-    tie.close
-    (tie.spec
-    Inv-loop
-    μ-loop
-    empty-requires
-    loop-holds
-    mul-read-spot
-    add-read-spot
-    read-spot-requires
-    mul-x
-    element-set-from-x
-    add-i
-    loop-less
-    loop-again
-    returns)
+load-spots-spec = tie.close (tie.spec
+    Inv-loop μ-loop (λ c κs. omega arith) (λ c. (search needs, search (needs, length-image), refl)) (λ c. omega arith) (λ c. omega arith)
+    (λ c κs. omega arith) (λ c. omega arith) (λ c. omega arith) (λ c. omega arith) (λ c. omega arith) loop-again returns)

@@ -12,14 +12,6 @@ returns c =
     block-stored (now (s .args .t)) (s .args .b) (s .args .n) (s .pre .0) (c .before .before .store .ensures)
 
 pub put-node-spec : {M : Type 1} → statement M
-put-node-spec =
-    tie.close
-    (tie.spec
-    (λ c. search needs)
-    (λ c. search needs)
-    (λ c. search needs)
-    (λ c. search needs)
-    (λ c. search needs)
-    (λ c κs. search needs)
-    (λ c. search needs)
+put-node-spec = tie.close (tie.spec
+    (λ c. search needs) (λ c. search needs) (λ c. search needs) (λ c. search needs) (λ c. search needs) (λ c κs. search needs) (λ c. search needs)
     returns)

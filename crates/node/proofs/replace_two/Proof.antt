@@ -24,49 +24,10 @@ abbrev μ-loop : tie.MeasureT-loop
 long : (c : tie.Start Inv-loop μ-loop) → length (c .args .t1 .list) ≡ 8
 long c = search (needs, length-image)
 
-mul-e : tie.Need-mul-e Inv-loop μ-loop
-mul-e c = omega arith
-
-element-set-from-e : tie.Need-element-set-from-e Inv-loop μ-loop
-element-set-from-e c = omega arith
-
-add-f : tie.Need-add-f Inv-loop μ-loop
-add-f c = omega arith
-
-mul-f : tie.Need-mul-f Inv-loop μ-loop
-mul-f c = omega arith
-
-element-set-from-f : tie.Need-element-set-from-f Inv-loop μ-loop
-element-set-from-f c = omega arith
-
-add-j : tie.Need-add-j Inv-loop μ-loop
-add-j c = omega arith
-
 loop-holds : tie.Need-loop-holds Inv-loop μ-loop
 loop-holds c =
     let a = c .args in
     (omega arith, omega arith, simp length-set (long c), grown-none (entriesOf (a .t1)) _ (a .i + 1))
-
-mul-x : tie.Need-mul-x Inv-loop μ-loop
-mul-x c = omega arith
-
-element-copy-out-x : tie.Need-element-copy-out-x Inv-loop μ-loop
-element-copy-out-x c = omega arith
-
-add-x : tie.Need-add-x Inv-loop μ-loop
-add-x c = omega arith
-
-mul-x-2 : tie.Need-mul-x-2 Inv-loop μ-loop
-mul-x-2 c = omega arith
-
-element-set-from-x : tie.Need-element-set-from-x Inv-loop μ-loop
-element-set-from-x c = omega arith
-
-add-j-2 : tie.Need-add-j-2 Inv-loop μ-loop
-add-j-2 c = omega arith
-
-loop-less : tie.Need-loop-less Inv-loop μ-loop
-loop-less c = omega arith
 
 loop-again : tie.Need-loop-again Inv-loop μ-loop
 loop-again c =
@@ -76,9 +37,6 @@ loop-again c =
     let es = a .t1 in
     let two : List Entry = take (a .i + 1 + 1) (set (set (es .list) (a .i) (a .e)) (a .i + 1) (a .f)) in
     (omega arith, omega arith, simp length-set (l .inv .2), grown blank (es .list) (l .next .list) two (es .n) (l .j + 1) (l .inv .0) (omega arith) (omega (arith, long s)) (omega arith) (l .inv .3))
-
-add-next : tie.Need-add-next Inv-loop μ-loop
-add-next c = omega arith
 
 returns : tie.Need-returns Inv-loop μ-loop
 returns c =
@@ -96,25 +54,7 @@ returns c =
     )
 
 pub replace-two-spec : {M : Type 1} → statement M
-replace-two-spec =
-    tie.close
-    (tie.spec
-    Inv-loop
-    μ-loop
-    mul-e
-    element-set-from-e
-    add-f
-    mul-f
-    element-set-from-f
-    add-j
-    loop-holds
-    mul-x
-    element-copy-out-x
-    add-x
-    mul-x-2
-    element-set-from-x
-    add-j-2
-    loop-less
-    loop-again
-    add-next
-    returns)
+replace-two-spec = tie.close (tie.spec
+    Inv-loop μ-loop (λ c. omega arith) (λ c. omega arith) (λ c. omega arith) (λ c. omega arith) (λ c. omega arith) (λ c. omega arith) loop-holds
+    (λ c. omega arith) (λ c. omega arith) (λ c. omega arith) (λ c. omega arith) (λ c. omega arith) (λ c. omega arith) (λ c. omega arith) loop-again
+    (λ c. omega arith) returns)

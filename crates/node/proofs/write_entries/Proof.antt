@@ -33,27 +33,6 @@ long c = search (needs, length-image)
 loop-holds : tie.Need-loop-holds Inv-loop μ-loop
 loop-holds c = (search needs, refl, bytes-nothing (now (c .before .args .s)) 8, refl)
 
-mul-e : tie.Need-mul-e Inv-loop μ-loop
-mul-e c = omega arith
-
-element-copy-out-e : tie.Need-element-copy-out-e Inv-loop μ-loop
-element-copy-out-e c = omega arith
-
-mul-write-entry : tie.Need-mul-write-entry Inv-loop μ-loop
-mul-write-entry c = omega arith
-
-add-write-entry : tie.Need-add-write-entry Inv-loop μ-loop
-add-write-entry c = omega arith
-
-write-entry-requires : tie.Need-write-entry-requires Inv-loop μ-loop
-write-entry-requires c κs = omega arith
-
-add-i : tie.Need-add-i Inv-loop μ-loop
-add-i c = omega arith
-
-loop-less : tie.Need-loop-less Inv-loop μ-loop
-loop-less c = omega arith
-
 loop-again : tie.Need-loop-again Inv-loop μ-loop
 loop-again c =
     let s = c .before .before .before .before .before .before .before .before in
@@ -66,9 +45,6 @@ loop-again c =
       entry-behind (now (a .s)) (es .n) (es .list) (l .i) blank (omega arith) (omega (arith, long s)) (s .pre .1) (l .inv .2) (call .ensures .0),
       every-more keysFit (l .i) (es .n) (es .list) blank (omega arith) (omega (arith, long s)) (l .inv .3) (call .ensures .1),
     )
-
-same-length : tie.Need-same-length Inv-loop μ-loop
-same-length c = c .before .loop .inv .1
 
 returns : tie.Need-returns Inv-loop μ-loop
 returns c =
@@ -84,19 +60,6 @@ returns c =
     }
 
 pub write-entries-spec : {M : Type 1} → statement M
-write-entries-spec =
-    tie.close
-    (tie.spec
-    Inv-loop
-    μ-loop
-    loop-holds
-    mul-e
-    element-copy-out-e
-    mul-write-entry
-    add-write-entry
-    write-entry-requires
-    add-i
-    loop-less
-    loop-again
-    same-length
-    returns)
+write-entries-spec = tie.close (tie.spec
+    Inv-loop μ-loop loop-holds (λ c. omega arith) (λ c. omega arith) (λ c. omega arith) (λ c. omega arith) (λ c κs. omega arith) (λ c. omega arith)
+    (λ c. omega arith) loop-again (λ c. c .before .loop .inv .1) returns)

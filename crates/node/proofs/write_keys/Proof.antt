@@ -34,27 +34,6 @@ fit c = keys-fit (c .args .t3 .keys) (λ i. search needs)
 loop-holds : tie.Need-loop-holds Inv-loop μ-loop
 loop-holds c = (search needs, refl, bytes-nothing (now (c .before .args .s)) (c .before .args .at))
 
-mul-k : tie.Need-mul-k Inv-loop μ-loop
-mul-k c = omega arith
-
-element-copy-out-k : tie.Need-element-copy-out-k Inv-loop μ-loop
-element-copy-out-k c = omega arith
-
-mul-write-key : tie.Need-mul-write-key Inv-loop μ-loop
-mul-write-key c = omega arith
-
-add-write-key : tie.Need-add-write-key Inv-loop μ-loop
-add-write-key c = omega arith
-
-write-key-requires : tie.Need-write-key-requires Inv-loop μ-loop
-write-key-requires c κs = omega arith
-
-add-i : tie.Need-add-i Inv-loop μ-loop
-add-i c = omega arith
-
-loop-less : tie.Need-loop-less Inv-loop μ-loop
-loop-less c = omega arith
-
 loop-again : tie.Need-loop-again Inv-loop μ-loop
 loop-again c =
     let s = c .before .before .before .before .before .before .before .before in
@@ -65,9 +44,6 @@ loop-again c =
       c .before .before .write-key .kept .0 ∙ l .inv .1,
       key-behind (now (a .s)) (a .at) (b .n) (b .keys) (l .i) (omega arith) (omega (arith, long s)) (s .pre .1) (l .inv .1) (l .inv .2) (c .before .before .write-key .ensures),
     )
-
-same-length : tie.Need-same-length Inv-loop μ-loop
-same-length c = c .before .loop .inv .1
 
 returns : tie.Need-returns Inv-loop μ-loop
 returns c =
@@ -83,19 +59,6 @@ returns c =
     }
 
 pub write-keys-spec : {M : Type 1} → statement M
-write-keys-spec =
-    tie.close
-    (tie.spec
-    Inv-loop
-    μ-loop
-    loop-holds
-    mul-k
-    element-copy-out-k
-    mul-write-key
-    add-write-key
-    write-key-requires
-    add-i
-    loop-less
-    loop-again
-    same-length
-    returns)
+write-keys-spec = tie.close (tie.spec
+    Inv-loop μ-loop loop-holds (λ c. omega arith) (λ c. omega arith) (λ c. omega arith) (λ c. omega arith) (λ c κs. omega arith) (λ c. omega arith)
+    (λ c. omega arith) loop-again (λ c. c .before .loop .inv .1) returns)

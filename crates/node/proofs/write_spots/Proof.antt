@@ -35,27 +35,6 @@ fit c = search (needs, all-fit)
 loop-holds : tie.Need-loop-holds Inv-loop μ-loop
 loop-holds c = (search needs, refl, bytes-nothing (now (c .before .args .s)) (c .before .args .at))
 
-mul-x : tie.Need-mul-x Inv-loop μ-loop
-mul-x c = omega arith
-
-element-copy-out-x : tie.Need-element-copy-out-x Inv-loop μ-loop
-element-copy-out-x c = omega arith
-
-mul-write-spot : tie.Need-mul-write-spot Inv-loop μ-loop
-mul-write-spot c = omega arith
-
-add-write-spot : tie.Need-add-write-spot Inv-loop μ-loop
-add-write-spot c = omega arith
-
-write-spot-requires : tie.Need-write-spot-requires Inv-loop μ-loop
-write-spot-requires c κs = omega arith
-
-add-i : tie.Need-add-i Inv-loop μ-loop
-add-i c = omega arith
-
-loop-less : tie.Need-loop-less Inv-loop μ-loop
-loop-less c = omega arith
-
 loop-again : tie.Need-loop-again Inv-loop μ-loop
 loop-again c =
     let s = c .before .before .before .before .before .before .before .before in
@@ -66,9 +45,6 @@ loop-again c =
       c .before .before .write-spot .kept .0 ∙ l .inv .1,
       spot-behind (now (a .s)) (a .at) (b .n) (b .spots) (l .i) (omega arith) (omega (arith, long s)) (s .pre .1) (l .inv .1) (l .inv .2) (c .before .before .write-spot .ensures),
     )
-
-same-length : tie.Need-same-length Inv-loop μ-loop
-same-length c = c .before .loop .inv .1
 
 returns : tie.Need-returns Inv-loop μ-loop
 returns c =
@@ -84,19 +60,6 @@ returns c =
     }
 
 pub write-spots-spec : {M : Type 1} → statement M
-write-spots-spec =
-    tie.close
-    (tie.spec
-    Inv-loop
-    μ-loop
-    loop-holds
-    mul-x
-    element-copy-out-x
-    mul-write-spot
-    add-write-spot
-    write-spot-requires
-    add-i
-    loop-less
-    loop-again
-    same-length
-    returns)
+write-spots-spec = tie.close (tie.spec
+    Inv-loop μ-loop loop-holds (λ c. omega arith) (λ c. omega arith) (λ c. omega arith) (λ c. omega arith) (λ c κs. omega arith) (λ c. omega arith)
+    (λ c. omega arith) loop-again (λ c. c .before .loop .inv .1) returns)

@@ -28,14 +28,5 @@ returns-2 c =
     (rw (w .before .before .if1 .left) (w .write-key .ensures ∙ key-bytes (now (a .s)) (a .at) (a .k) (s .pre)), key-fits (a .k) (omega (arith, s .fits .k)))
 
 pub write-unless-spec : {M : Type 1} → statement M
-write-unless-spec =
-    tie.close
-    (tie.spec
-    (λ c κs. search needs)
-    (λ c. search needs)
-    (λ c κs. search needs)
-    (λ c. search needs)
-    returns
-    (λ c κs. search needs)
-    (λ c. search needs)
-    returns-2)
+write-unless-spec = tie.close (tie.spec
+    (λ c κs. search needs) (λ c. search needs) (λ c κs. search needs) (λ c. search needs) returns (λ c κs. search needs) (λ c. search needs) returns-2)

@@ -12,6 +12,5 @@ returns c =
     zeroed (now (s .args .s)) (s .args .at) (s .pre) (c .before .before .zero .ensures)
 
 pub zero-from-spec : {M : Type 1} → statement M
-zero-from-spec =
-    tie.close
-    (tie.spec (λ c. search needs) (λ c. search needs) (λ c. search needs) (λ c. search needs) (λ c κs. search needs) (λ c. search needs) returns)
+zero-from-spec = tie.close (tie.spec
+    (λ c. search needs) (λ c. search needs) (λ c. search needs) (λ c. search needs) (λ c κs. search needs) (λ c. search needs) returns)

@@ -13,9 +13,6 @@ use native.Mathlib.Omega.{arith}
 use Rattle.revise.proofs.put_counted.Statement.{statement}
 use Rattle.revise.proofs.put_counted.Tie as tie
 
-count-table-requires : tie.Need-count-table-requires
-count-table-requires c κs = (c .before .before .before .before .before .pre .0 .sized, refl)
-
 returns : tie.Need-returns
 returns c =
     let at-count-table = c .before .before .before in
@@ -54,19 +51,6 @@ returns-3 c =
     add-counted _ _ (start .args .s) (start .pre .2) (counted .spots (not-false _ (at-if1 .if1 .left))) room (at-put-within .put-within .ensures)
 
 pub put-counted-spec : {M : Type 1} → statement M
-put-counted-spec =
-    tie.close
-    (tie.spec
-    (λ c κs. search needs)
-    (λ c. search needs)
-    count-table-requires
-    (λ c. search needs)
-    returns
-    (λ c κs. search needs)
-    (λ c. search needs)
-    returns-2
-    (λ c. search needs)
-    put-within-requires
-    (λ c. search needs)
-    (λ c. search needs)
-    returns-3)
+put-counted-spec = tie.close (tie.spec
+    (λ c κs. search needs) (λ c. search needs) (λ c κs. (c .before .before .before .before .before .pre .0 .sized, refl)) (λ c. search needs) returns
+    (λ c κs. search needs) (λ c. search needs) returns-2 (λ c. search needs) put-within-requires (λ c. search needs) (λ c. search needs) returns-3)

@@ -12,40 +12,37 @@ use native.Mathlib.Omega.{arith}
 use Rattle.revise.proofs.put_spot.Statement.{statement}
 use Rattle.revise.proofs.put_spot.Tie as tie
 
-header-ok-requires : tie.Need-header-ok-requires
-header-ok-requires c κs = lent-long (c .before .before .before .pre)
-
 returns : tie.Need-returns
 returns c = add-header _ _ (c .before .before .before .before .before .args .s) _ (c .before .header-ok .ensures) (not-true _ (c .if1 .taken))
-
-bound-of-requires : tie.Need-bound-of-requires
-bound-of-requires c κs = lent-long (c .before .before .before .before .before .before .pre)
 
 look-up-requires : tie.Need-look-up-requires
 look-up-requires c κs = c .before .before .before .before .before .before .before .before .pre .sized
 
-enum-told : tie.Need-enum-told
-enum-told c = search needs
-
 put-within-requires : tie.Need-put-within-requires
 put-within-requires c κs =
-    let ok = sym (c .before .before .before .before .before .before .before .before .before .header-ok .ensures) ∙ not-false _ (c .before .before .before .before .before .before .before .before .if1 .left) in
-    (c .before .before .before .before .before .before .before .before .before .before .before .before .before .pre, ok, bound-few (now (c .before .before .before .before .before .before .before .before .before .before .before .before .before .args .table)) ok (c .before .before .before .before .before .before .bound-of .ensures .0))
+    let at-bound-of = c .before .before .before .before .before .before in
+    let start = at-bound-of .before .before .before .before .before .before .before in
+    let ok = sym (at-bound-of .before .before .before .header-ok .ensures) ∙ not-false _ (at-bound-of .before .before .if1 .left) in
+    (start .pre, ok, bound-few (now (start .args .table)) ok (at-bound-of .bound-of .ensures .0))
 
 put-within-requires-2 : tie.Need-put-within-requires-2
 put-within-requires-2 c κs =
-    (c .before .before .before .before .before .before .before .before .before .before .before .before .before .before .before .pre, sym (c .before .before .before .before .before .before .before .before .before .before .before .header-ok .ensures) ∙ not-false _ (c .before .before .before .before .before .before .before .before .before .before .if1 .left), omega (arith, c .before .before .before .capacity-of .ensures))
+    let at-if1 = c .before .before .before .before .before .before .before .before .before .before in
+    (at-if1 .before .before .before .before .before .pre, sym (at-if1 .before .header-ok .ensures) ∙ not-false _ (at-if1 .if1 .left), omega (arith, c .before .before .before .capacity-of .ensures))
 
 returns-2 : tie.Need-returns-2
 returns-2 c =
-    let below : c .before .before .before .before .before .before .before .before .before .before .before .before .before .bound-of .result < capacity (length (now (c .before .before .before .before .before .before .before .before .before .before .before .before .before .before .before .before .before .before .before .before .args .table))) = omega (arith, c .before .before .before .before .before .before .before .before .capacity-of .ensures) in
-    let start = c .before .before .before .before .before .before .before .before .before .before .before .before .before .before .before .before .before .before .before .before in
-    let found = looked-is (c .before .before .before .before .before .before .before .before .before .before .before .look-up .ensures) (c .before .before .before .before .before .before .before .before .before .enum-told3 .given .1) in
-    add-below _ _ (start .args .s) found (c .before .before .before .before .before .before .before .before .before .before .before .before .before .bound-of .ensures .0) below (c .before .before .before .before .put-within2 .ensures)
+    let at-capacity-of = c .before .before .before .before .before .before .before .before in
+    let start = at-capacity-of .before .before .before .before .before .before .before .before .before .before .before .before in
+    let below : at-capacity-of .before .before .before .before .before .bound-of .result < capacity (length (now (start .args .table))) = omega (arith, at-capacity-of .capacity-of .ensures) in
+    let found = looked-is (at-capacity-of .before .before .before .look-up .ensures) (at-capacity-of .before .enum-told3 .given .1) in
+    add-below _ _ (start .args .s) found (at-capacity-of .before .before .before .before .before .bound-of .ensures .0) below (c .before .before .before .before .put-within2 .ensures)
 
 put-counted-requires : tie.Need-put-counted-requires
 put-counted-requires c κs =
-    (c .before .before .before .before .before .before .before .before .before .before .before .before .before .before .before .pre, sym (c .before .before .before .before .before .before .before .before .before .before .before .header-ok .ensures) ∙ not-false _ (c .before .before .before .before .before .before .before .before .before .before .if1 .left), looked-is (c .before .before .before .before .before .before .look-up .ensures) (c .before .before .before .before .enum-told3 .given .1))
+    let at-look-up = c .before .before .before .before .before .before in
+    let start = at-look-up .before .before .before .before .before .before .before .before .before in
+    (start .pre, sym (at-look-up .before .before .before .before .before .header-ok .ensures) ∙ not-false _ (at-look-up .before .before .before .before .if1 .left), looked-is (at-look-up .look-up .ensures) (c .before .before .before .before .enum-told3 .given .1))
 
 returns-3 : tie.Need-returns-3
 returns-3 c = add-lost _ _ (c .before .before .before .before .before .before .before .before .before .before .before .args .s) (c .before .before .look-up .ensures) (c .enum-told .given .1)
@@ -60,30 +57,9 @@ returns-5 : tie.Need-returns-5
 returns-5 c = c .before .before .before .before .put-counted .ensures
 
 pub put-spot-spec : {M : Type 1} → statement M
-put-spot-spec =
-    tie.close
-    (tie.spec
-    header-ok-requires
-    (λ c. search needs)
-    returns
-    bound-of-requires
-    look-up-requires
-    enum-told
-    (λ c. search needs)
-    put-within-requires
-    (λ c. search needs)
-    (λ c κs. search needs)
-    (λ c. search needs)
-    put-within-requires-2
-    (λ c. search needs)
-    (λ c. search needs)
-    returns-2
-    put-counted-requires
-    (λ c. search needs)
-    returns-3
-    (λ c. search needs)
-    (λ c. search needs)
-    returns-4
-    (λ c. search needs)
-    (λ c. search needs)
-    returns-5)
+put-spot-spec = tie.close (tie.spec
+    (λ c κs. lent-long (c .before .before .before .pre)) (λ c. search needs) returns
+    (λ c κs. lent-long (c .before .before .before .before .before .before .pre)) look-up-requires (λ c. search needs) (λ c. search needs)
+    put-within-requires (λ c. search needs) (λ c κs. search needs) (λ c. search needs) put-within-requires-2 (λ c. search needs) (λ c. search needs)
+    returns-2 put-counted-requires (λ c. search needs) returns-3 (λ c. search needs) (λ c. search needs) returns-4 (λ c. search needs)
+    (λ c. search needs) returns-5)

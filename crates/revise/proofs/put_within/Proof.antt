@@ -1,15 +1,15 @@
 -- `revise::put_within` meets its contract: one insert in the tree, or where that has no room all laid out anew with it.
 -- Assumes nothing.
 use Rattle.spot.specs.declared.Spot.{Spot}
-use mathlib.Core.Path.{ap, sym, _∙_}
+use mathlib.Core.Path.{_≡_, ap, sym, _∙_}
 use mathlib.Core.List.{List, [], _∷_, _++_}
-use Rattle.revise.proofs.Ends.{lent-again, put-answered, put-anew, put-broken}
+use Rattle.revise.proofs.Ends.{lent-again, within-answered, within-anew, within-broken, withSpot, withFits, with-fits}
+use Rattle.revise.proofs.Counts.{planned-put, says-put}
 use borrow.Author.Needs.{needs}
+use Rattle.revise.specs.declared.Step.the-variants.{Anew}
+use Rattle.revise.specs.Steps.{stepAfter}
 use Rattle.revise.proofs.put_within.Statement.{statement}
 use Rattle.revise.proofs.put_within.Tie as tie
-
-enum-told : tie.Need-enum-told
-enum-told c = search needs
 
 with-spot-requires : tie.Need-with-spot-requires
 with-spot-requires c κs =
@@ -17,14 +17,16 @@ with-spot-requires c κs =
     let start = changed .before .before .before .before .before .before .before .before in
     lent-again (start .pre .0) (changed .change .ensures)
 
+-- the tree has no room
+full : (c : tie.After-with-spot) → stepAfter (c .before .before .before .before .before .before .before .before .before .before .change .result) ≡ Anew
+full c = sym (c .before .before .before .before .before .step-after .ensures) ∙ c .before .before .before .enum-told .given .1
+
 returns : tie.Need-returns
 returns c =
     let renewed = c .before .before .before .before .before in
-    let told = renewed .before .before .before in
-    let stepped = told .before .before in
-    let changed = stepped .before .before .before .before .before in
+    let changed = renewed .before .before .before .before .before .before .before .before .before .before in
     let start = changed .before .before .before .before .before .before .before .before in
-    put-anew (start .args .s) (changed .change .ensures) (sym (stepped .step-after .ensures) ∙ told .enum-told .given .1) (renewed .with-spot .ensures) (c .if1 .taken)
+    within-anew (changed .change .ensures) (full renewed) (withSpot (start .args .s)) (withFits (start .args .s)) (planned-put _ (start .args .s)) (renewed .with-spot .ensures) (c .if1 .taken)
 
 returns-2 : tie.Need-returns-2
 returns-2 c =
@@ -33,35 +35,18 @@ returns-2 c =
     let named = changed .before .before .before in
     let start = named .before .before .before .before .before in
     let inserts = named .before .push .ensures .1 ∙ ap (λ (l : List Spot). l ++ (start .args .s ∷ [])) (named .before .before .empty .ensures .1) in
-    put-answered (start .args .s) (changed .change .ensures) inserts (named .empty-keys .ensures .1) (sym (stepped .step-after .ensures) ∙ c .before .number .given .1)
+    within-answered (changed .change .ensures) (planned-put _ (start .args .s)) (sym (stepped .step-after .ensures) ∙ c .before .number .given .1)
+    (says-put (start .args .s) _ inserts (named .empty-keys .ensures .1))
 
 returns-3 : tie.Need-returns-3
 returns-3 c =
     let renewed = c .before .before .before .before .before in
-    let told = renewed .before .before .before in
-    let stepped = told .before .before in
-    let changed = stepped .before .before .before .before .before in
+    let changed = renewed .before .before .before .before .before .before .before .before .before .before in
     let start = changed .before .before .before .before .before .before .before .before in
-    put-broken (start .args .s) (changed .change .ensures) (sym (stepped .step-after .ensures) ∙ told .enum-told .given .1) (renewed .with-spot .ensures) (start .pre .2) (c .if1 .left)
+    within-broken (changed .change .ensures) (full renewed) (withSpot (start .args .s)) (withFits (start .args .s)) (planned-put _ (start .args .s)) (renewed .with-spot .ensures) (with-fits (start .args .s) _ (start .pre .2)) (c .if1 .left)
 
 pub put-within-spec : {M : Type 1} → statement M
-put-within-spec =
-    tie.close
-    (tie.spec
-    (λ c κs. search needs)
-    (λ c κs. search needs)
-    (λ c κs. search needs)
-    (λ c κs. search needs)
-    (λ c κs. search needs)
-    (λ c. search needs)
-    enum-told
-    with-spot-requires
-    (λ c. search needs)
-    (λ c. search needs)
-    returns
-    (λ c. search needs)
-    (λ c. search needs)
-    returns-2
-    (λ c. search needs)
-    (λ c. search needs)
-    returns-3)
+put-within-spec = tie.close (tie.spec
+    (λ c κs. search needs) (λ c κs. search needs) (λ c κs. search needs) (λ c κs. search needs) (λ c κs. search needs) (λ c. search needs)
+    (λ c. search needs) with-spot-requires (λ c. search needs) (λ c. search needs) returns (λ c. search needs) (λ c. search needs) returns-2
+    (λ c. search needs) (λ c. search needs) returns-3)

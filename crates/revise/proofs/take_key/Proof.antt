@@ -9,29 +9,23 @@ use native.Mathlib.Omega.{arith}
 use Rattle.revise.proofs.take_key.Statement.{statement}
 use Rattle.revise.proofs.take_key.Tie as tie
 
-header-ok-requires : tie.Need-header-ok-requires
-header-ok-requires c κs = lent-long (c .before .before .before .pre)
-
 returns : tie.Need-returns
 returns c = drop-header _ _ (c .before .before .before .before .before .args .k) _ (c .before .header-ok .ensures) (not-true _ (c .if1 .taken))
-
-bound-of-requires : tie.Need-bound-of-requires
-bound-of-requires c κs = lent-long (c .before .before .before .before .before .before .pre)
 
 look-up-requires : tie.Need-look-up-requires
 look-up-requires c κs = c .before .before .before .before .before .before .before .before .pre .sized
 
-enum-told : tie.Need-enum-told
-enum-told c = search needs
-
 returns-2 : tie.Need-returns-2
 returns-2 c =
-    drop-uncounted _ _ (c .before .before .before .before .before .before .before .before .before .before .before .before .args .k) (c .before .before .before .before .before .bound-of .ensures .0) (looked-is (c .before .before .before .look-up .ensures) (c .before .enum-told2 .given .1)) (c .if2 .taken)
+    let start = c .before .before .before .before .before .before .before .before .before .before .before .before in
+    drop-uncounted _ _ (start .args .k) (c .before .before .before .before .before .bound-of .ensures .0) (looked-is (c .before .before .before .look-up .ensures) (c .before .enum-told2 .given .1)) (c .if2 .taken)
 
 take-within-requires : tie.Need-take-within-requires
 take-within-requires c κs =
-    let ok = sym (c .before .before .before .before .before .before .before .before .before .before .header-ok .ensures) ∙ not-false _ (c .before .before .before .before .before .before .before .before .before .if1 .left) in
-    (c .before .before .before .before .before .before .before .before .before .before .before .before .before .before .pre, ok, omega (arith, bound-few (now (c .before .before .before .before .before .before .before .before .before .before .before .before .before .before .args .table)) ok (c .before .before .before .before .before .before .before .bound-of .ensures .0)))
+    let at-bound-of = c .before .before .before .before .before .before .before in
+    let start = at-bound-of .before .before .before .before .before .before .before in
+    let ok = sym (at-bound-of .before .before .before .header-ok .ensures) ∙ not-false _ (at-bound-of .before .before .if1 .left) in
+    (start .pre, ok, omega (arith, bound-few (now (start .args .table)) ok (at-bound-of .bound-of .ensures .0)))
 
 returns-3 : tie.Need-returns-3
 returns-3 c = drop-lost _ _ (c .before .before .before .before .before .before .before .before .before .before .before .args .k) (c .before .before .look-up .ensures) (c .enum-told .given .1)
@@ -46,25 +40,8 @@ returns-5 : tie.Need-returns-5
 returns-5 c = drop-none _ _ (c .before .before .before .before .before .before .before .before .before .before .before .args .k) (looked-is (c .before .before .look-up .ensures) (c .enum-told3 .given .1))
 
 pub take-key-spec : {M : Type 1} → statement M
-take-key-spec =
-    tie.close
-    (tie.spec
-    header-ok-requires
-    (λ c. search needs)
-    returns
-    bound-of-requires
-    look-up-requires
-    enum-told
-    (λ c. search needs)
-    (λ c. search needs)
-    returns-2
-    (λ c. search needs)
-    take-within-requires
-    (λ c. search needs)
-    (λ c. search needs)
-    returns-3
-    (λ c. search needs)
-    (λ c. search needs)
-    returns-4
-    (λ c. search needs)
-    returns-5)
+take-key-spec = tie.close (tie.spec
+    (λ c κs. lent-long (c .before .before .before .pre)) (λ c. search needs) returns
+    (λ c κs. lent-long (c .before .before .before .before .before .before .pre)) look-up-requires (λ c. search needs) (λ c. search needs)
+    (λ c. search needs) returns-2 (λ c. search needs) take-within-requires (λ c. search needs) (λ c. search needs) returns-3 (λ c. search needs)
+    (λ c. search needs) returns-4 (λ c. search needs) returns-5)

@@ -1,94 +1,63 @@
 -- `script::call` meets its contract, by that of the call which the number stands for.
 -- Assumes nothing.
-use mathlib.Core.Path.{sym, _∙_}
 use borrow.Author.Needs.{needs}
-use Rattle.script.proofs.Cases.{made-format, made-add, made-withdraw, made-report, made-top, made-count, made-check, made-rebuild}
+use Rattle.script.proofs.Cases.{Row, made-format, made-add, made-withdraw, made-report, made-top, made-count, made-check, made-rebuild}
 use Rattle.script.proofs.call.Statement.{statement}
 use Rattle.script.proofs.call.Tie as tie
 
+row : (c : tie.After-read322)
+    → let a = c .before .before .before .before .before .before .before .before .before .args in
+    Row (a .script .now) (a .at) (c .before .before .before .read32 .result) (c .before .before .read-i32 .result) (c .before .read-i322 .result) (c .read322 .result)
+row c =
+    record {
+      bytes = λ i. c .before .before .before .before .before .before .before .before .shared-slice-known .given i .fits;
+      number = c .before .before .before .read32 .ensures .0;
+      first = c .before .before .read-i32 .ensures;
+      second = c .before .read-i322 .ensures;
+      third = c .read322 .ensures .0;
+    }
+
 returns : tie.Need-returns
-returns c =
-    let p = c .before .before .before .before .before in
-    made-format _ (λ k. p .before .before .before .before .before .before .before .before .shared-slice-known .given k .fits) _ _ _ _ _ _ _ (sym (p .before .before .before .read32 .ensures .0) ∙ c .before .before .before .before .if1 .taken) (c .before .before .format .ensures)
+returns c = made-format (row (c .before .before .before .before .before)) _ _ _ _ _ _ (c .before .before .before .before .if1 .taken) (c .before .before .format .ensures)
 
 returns-2 : tie.Need-returns-2
 returns-2 c =
-    let p = c .before .before .before .before .before .before .before .before .before in
-    made-add _ (λ k. p .before .before .before .before .before .before .before .before .shared-slice-known .given k .fits) _ _ _ _ _ _ (p .before .before .read-i32 .result) (p .before .read-i322 .result) _ _ _ (sym (p .before .before .before .read32 .ensures .0) ∙ c .before .before .before .before .before .before .before .if2 .taken) (p .before .before .read-i32 .ensures) (p .before .read-i322 .ensures) (p .read322 .ensures .0) (c .before .before .before .before .add .ensures)
+    let at-if2 = c .before .before .before .before .before .before .before in
+    made-add (row (at-if2 .before .before)) _ _ _ _ _ _ _ (at-if2 .if2 .taken) (c .before .before .before .before .add .ensures)
 
 returns-3 : tie.Need-returns-3
 returns-3 c =
-    let p = c .before .before .before .before .before .before .before .before .before .before in
-    made-withdraw _ (λ k. p .before .before .before .before .before .before .before .before .shared-slice-known .given k .fits) _ _ _ _ _ _ (p .before .before .read-i32 .result) (p .before .read-i322 .result) _ _ (sym (p .before .before .before .read32 .ensures .0) ∙ c .before .before .before .before .before .before .before .if3 .taken) (p .before .before .read-i32 .ensures) (p .before .read-i322 .ensures) (c .before .before .before .before .withdraw .ensures)
+    let at-if3 = c .before .before .before .before .before .before .before in
+    made-withdraw (row (at-if3 .before .before .before)) _ _ _ _ _ _ _ (at-if3 .if3 .taken) (c .before .before .before .before .withdraw .ensures)
 
 returns-4 : tie.Need-returns-4
 returns-4 c =
-    let p = c .before .before .before .before .before .before .before .before .before .before .before .before .before in
-    let y = c .before .before .before .before .before .before .before .before .read-i323 in
-    made-report _ (λ k. p .before .before .before .before .before .before .before .before .shared-slice-known .given k .fits) _ _ _ _ _ _ (p .before .before .read-i32 .result) (p .before .read-i322 .result) (y .result) _ _ (sym (p .before .before .before .read32 .ensures .0) ∙ c .before .before .before .before .before .before .before .before .before .if4 .taken) (p .before .before .read-i32 .ensures) (p .before .read-i322 .ensures) (y .ensures) (c .before .before .before .before .report .ensures)
+    let at-third = c .before .before .before .before .before .before .before .before in
+    let z = at-third .read-i323 in
+    made-report (row (at-third .before .before .before .before .before)) _ _ _ _ _ (z .result) _ _ (at-third .before .if4 .taken) (z .ensures) (c .before .before .before .before .report .ensures)
 
 returns-5 : tie.Need-returns-5
 returns-5 c =
-    let p = c .before .before .before .before .before .before .before .before .before .before .before .before .before in
-    made-top _ (λ k. p .before .before .before .before .before .before .before .before .shared-slice-known .given k .fits) _ _ _ _ _ _ (p .before .before .read-i32 .result) (p .before .read-i322 .result) _ _ _ (sym (p .before .before .before .read32 .ensures .0) ∙ c .before .before .before .before .before .before .before .before .if5 .taken) (p .before .before .read-i32 .ensures) (p .before .read-i322 .ensures) (p .read322 .ensures .0) (c .before .before .before .before .top .ensures)
+    let at-if5 = c .before .before .before .before .before .before .before .before in
+    made-top (row (at-if5 .before .before .before .before .before)) _ _ _ _ _ _ _ (at-if5 .if5 .taken) (c .before .before .before .before .top .ensures)
 
 returns-6 : tie.Need-returns-6
-returns-6 c =
-    let p = c .before .before .before .before .before .before .before .before in
-    made-count _ (λ k. p .before .before .before .before .before .before .before .before .shared-slice-known .given k .fits) _ _ _ _ _ _ (sym (p .before .before .before .read32 .ensures .0) ∙ c .before .before .if6 .taken) (c .count .ensures)
+returns-6 c = made-count (row (c .before .before .before .before .before .before .before .before)) _ _ _ _ _ (c .before .before .if6 .taken) (c .count .ensures)
 
 returns-7 : tie.Need-returns-7
-returns-7 c =
-    let p = c .before .before .before .before .before .before .before .before .before in
-    made-check _ (λ k. p .before .before .before .before .before .before .before .before .shared-slice-known .given k .fits) _ _ _ _ _ _ (sym (p .before .before .before .read32 .ensures .0) ∙ c .before .before .if7 .taken) (c .check .ensures)
+returns-7 c = made-check (row (c .before .before .before .before .before .before .before .before .before)) _ _ _ _ _ (c .before .before .if7 .taken) (c .check .ensures)
 
 returns-8 : tie.Need-returns-8
 returns-8 c =
-    let p = c .before .before .before .before .before .before .before .before .before .before .before .before .before .before in
-    made-rebuild _ (λ k. p .before .before .before .before .before .before .before .before .shared-slice-known .given k .fits) _ _ _ _ _ _ _ _ _ (p .before .before .before .read32 .ensures .0) (c .before .before .before .before .before .before .before .before .before .before .before .before .before .if1 .left) (c .before .before .before .before .before .before .before .before .before .before .before .before .if2 .left) (c .before .before .before .before .before .before .before .before .before .before .before .if3 .left) (c .before .before .before .before .before .before .before .before .before .before .if4 .left) (c .before .before .before .before .before .before .before .before .before .if5 .left) (c .before .before .before .before .before .before .before .before .if6 .left) (c .before .before .before .before .before .before .before .if7 .left) (c .before .before .before .before .rebuild .ensures)
+    let at-if7 = c .before .before .before .before .before .before .before in
+    made-rebuild (row (at-if7 .before .before .before .before .before .before .before)) _ _ _ _ _ _ _ (at-if7 .before .before .before .before .before .before .if1 .left) (at-if7 .before .before .before .before .before .if2 .left) (at-if7 .before .before .before .before .if3 .left)
+    (at-if7 .before .before .before .if4 .left) (at-if7 .before .before .if5 .left) (at-if7 .before .if6 .left) (at-if7 .if7 .left) (c .before .before .before .before .rebuild .ensures)
 
 pub call-spec : {M : Type 1} → statement M
-call-spec =
-    tie.close
-    (tie.spec
-    (λ c κs. search needs)
-    (λ c. search needs)
-    (λ c κs. search needs)
-    (λ c. search needs)
-    (λ c κs. search needs)
-    (λ c. search needs)
-    (λ c κs. search needs)
-    (λ c. search needs)
-    (λ c κs. search needs)
-    (λ c. search needs)
-    returns
-    (λ c κs. search needs)
-    (λ c. search needs)
-    (λ c. search needs)
-    returns-2
-    (λ c κs. search needs)
-    (λ c. search needs)
-    (λ c. search needs)
-    returns-3
-    (λ c. search needs)
-    (λ c κs. search needs)
-    (λ c κs. search needs)
-    (λ c. search needs)
-    (λ c. search needs)
-    (λ c. search needs)
-    returns-4
-    (λ c κs. search needs)
-    (λ c. search needs)
-    (λ c. search needs)
-    (λ c. search needs)
-    returns-5
-    (λ c κs. search needs)
-    (λ c. search needs)
-    returns-6
-    (λ c κs. search needs)
-    (λ c. search needs)
-    returns-7
-    (λ c κs. search needs)
-    (λ c. search needs)
-    (λ c. search needs)
-    returns-8)
+call-spec = tie.close (tie.spec
+    (λ c κs. search needs) (λ c. search needs) (λ c κs. search needs) (λ c. search needs) (λ c κs. search needs) (λ c. search needs)
+    (λ c κs. search needs) (λ c. search needs) (λ c κs. search needs) (λ c. search needs) returns (λ c κs. search needs) (λ c. search needs)
+    (λ c. search needs) returns-2 (λ c κs. search needs) (λ c. search needs) (λ c. search needs) returns-3 (λ c. search needs) (λ c κs. search needs)
+    (λ c κs. search needs) (λ c. search needs) (λ c. search needs) (λ c. search needs) returns-4 (λ c κs. search needs) (λ c. search needs)
+    (λ c. search needs) (λ c. search needs) returns-5 (λ c κs. search needs) (λ c. search needs) returns-6 (λ c κs. search needs) (λ c. search needs)
+    returns-7 (λ c κs. search needs) (λ c. search needs) (λ c. search needs) returns-8)

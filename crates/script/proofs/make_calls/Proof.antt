@@ -6,24 +6,21 @@ use native.Mathlib.Omega.{arith}
 use lib.ListN.{length, drop, length-take, length-drop}
 use borrow.Author.Needs.{needs}
 use borrow.Rule.Slice.PartMut.{same-len-mid}
-use Rattle.script.specs.Run.{held, runLengths}
+use Rattle.script.specs.Run.{runState, runLengths}
 use Rattle.script.proofs.Turns.{Going, part-fits, start, next, ended}
-use Rattle.script.proofs.turn.Reads as turn-reads
 use Rattle.script.proofs.make_calls.Statement.{statement}
 use Rattle.script.proofs.make_calls.Tie as tie
-use Rattle.script.proofs.make_calls.Reads as reads
-use Rattle.script.proofs.make_calls.Lts as lts
 
 abbrev Inv-loop : tie.InvT-loop
 Inv-loop script n table₀ scratch₀ read-map₀ log₀ part i₀ at₀ table scratch read-map log i at =
     (i ≤ n) × (at ≡ part * i) × (length log ≡ length log₀)
-    × Going script (runLengths table₀ scratch₀ read-map₀ part) (held table₀ scratch₀ read-map₀ log₀) table scratch read-map log i at
+    × Going script (runLengths table₀ scratch₀ read-map₀ part) (runState table₀ scratch₀ read-map₀ log₀) table scratch read-map log i at
 
 abbrev μ-loop : tie.MeasureT-loop
 μ-loop script n table₀ scratch₀ read-map₀ log₀ part i₀ at₀ table scratch read-map log i at = n - i
 
 -- the part of this turn is within the log
-room : (c : lts.In-loop (turn-reads.Asked, turn-reads.Learnt) reads.Pre reads.Post Inv-loop μ-loop)
+room : (c : tie.In-loop Inv-loop μ-loop)
     → c .before .loop .at + c .before .before .before .before .before .before .before .args .part ≤ length (c .before .loop .log)
 room c =
     let s = c .before .before .before .before .before .before .before in
@@ -34,20 +31,8 @@ room c =
 loop-holds : tie.Need-loop-holds Inv-loop μ-loop
 loop-holds c = (omega arith, omega arith, refl, start _ _ _ _ _ _)
 
-add-end : tie.Need-add-end Inv-loop μ-loop
-add-end c = omega (arith, room c)
-
 mul-turn : tie.Need-mul-turn Inv-loop μ-loop
 mul-turn c = omega (arith, c .before .before .before .before .before .before .before .pre .0)
-
-sub-turn : tie.Need-sub-turn Inv-loop μ-loop
-sub-turn c = omega arith
-
-part-turn-start : tie.Need-part-turn-start Inv-loop μ-loop
-part-turn-start c = omega arith
-
-part-turn-end : tie.Need-part-turn-end Inv-loop μ-loop
-part-turn-end c = omega (arith, room (c .before .before .before))
 
 turn-requires : tie.Need-turn-requires Inv-loop μ-loop
 turn-requires c κs =
@@ -56,12 +41,6 @@ turn-requires c κs =
     let s = d .before .before .before .before .before .before .before in
     let k : ℕ = q .at + s .args .part - q .at in
     (omega (arith, d .loop-test .taken, s .pre .0), omega (arith, s .pre .1, room d, length-take k (drop (q .at) (q .log)), length-drop (q .at) (q .log)))
-
-add-i : tie.Need-add-i Inv-loop μ-loop
-add-i c = omega arith
-
-loop-less : tie.Need-loop-less Inv-loop μ-loop
-loop-less c = omega arith
 
 loop-again : tie.Need-loop-again Inv-loop μ-loop
 loop-again c =
@@ -82,39 +61,11 @@ loop-again c =
     let same = kept .1 .1 .1 .0 in
     (more, place, same-len-mid (q .at) k (q .log) p same ∙ q .inv .2, next _ _ _ _ _ _ _ _ _ (q .inv .3) k size fits _ _ _ p (turn .ensures) (q .at + part) end same (kept .0) (kept .1 .0) (kept .1 .1 .0))
 
-same-length : tie.Need-same-length Inv-loop μ-loop
-same-length c = search needs
-
-same-length-2 : tie.Need-same-length-2 Inv-loop μ-loop
-same-length-2 c = search needs
-
-same-length-3 : tie.Need-same-length-3 Inv-loop μ-loop
-same-length-3 c = search needs
-
-same-length-4 : tie.Need-same-length-4 Inv-loop μ-loop
-same-length-4 c = search needs
-
 returns : tie.Need-returns Inv-loop μ-loop
 returns c = ended _ _ _ _ _ _ _ _ _ _ (c .before .loop .inv .3) (c .before .loop .inv .0) (omega (arith, c .loop-test .left))
 
 pub make-calls-spec : {M : Type 1} → statement M
-make-calls-spec =
-    tie.close
-    (tie.spec
-    Inv-loop
-    μ-loop
-    loop-holds
-    add-end
-    mul-turn
-    sub-turn
-    part-turn-start
-    part-turn-end
-    turn-requires
-    add-i
-    loop-less
-    loop-again
-    same-length
-    same-length-2
-    same-length-3
-    same-length-4
-    returns)
+make-calls-spec = tie.close (tie.spec
+    Inv-loop μ-loop loop-holds (λ c. omega (arith, room c)) mul-turn (λ c. omega arith) (λ c. omega arith)
+    (λ c. omega (arith, room (c .before .before .before))) turn-requires (λ c. omega arith) (λ c. omega arith) loop-again (λ c. search needs)
+    (λ c. search needs) (λ c. search needs) (λ c. search needs) returns)

@@ -20,23 +20,17 @@ make-calls-requires c κs = (omega arith, omega (arith, c .before .before .befor
 
 returns-3 : tie.Need-returns-3
 returns-3 c =
-    let part = c .before .before .before .before .before .before .before .before .before .before .before .before .before .before .before .before .before .before .before .before .part-of in
-    let format = c .before .before .before .before .before .before .before .before .before .before .before .before .before .before .before .format in
-    let made = c .before .before .before .before .before .before .before .before .make-calls in
-    says-run _ _ _ _ _ _ _ _ _ (sym (c .before .before .before .before .before .before .before .before .before .before .before .before .before .before .before .before .before .before .before .sized .ensures) ∙ not-false _ (c .before .before .before .before .before .before .before .before .before .before .before .before .before .before .before .before .before .before .if1 .left)) (part .result) (format .last .0) (part .ensures) (omega (arith, c .before .before .before .before .before .before .before .before .before .before .before .before .before .before .before .before .before .if2 .left)) (format .ensures .written) (made .ensures) (made .kept .1 .1 .0 ∙ format .kept .0) (made .kept .1 .1 .1 .0) (made .kept .1 .1 .1 .1 .0) (made .kept .1 .1 .1 .1 .1 .0)
+    let at-make-calls = c .before .before .before .before .before .before .before .before in
+    let at-format = at-make-calls .before .before .before .before .before .before .before in
+    let part = at-format .before .before .before .before .before .part-of in
+    let format = at-format .format in
+    let made = at-make-calls .make-calls in
+    let sized = sym (at-format .before .before .before .before .sized .ensures) ∙ not-false _ (at-format .before .before .before .if1 .left) in
+    let lengths = made .kept .1 .1 in
+    says-run _ _ _ _ _ _ _ _ _ sized (part .result) (format .last .0) (part .ensures) (omega (arith, at-format .before .before .if2 .left)) (format .ensures .written) (made .ensures)
+    (lengths .0 ∙ format .kept .0) (lengths .1 .0) (lengths .1 .1 .0) (lengths .1 .1 .1 .0)
 
 pub run-spec : {M : Type 1} → statement M
-run-spec =
-    tie.close
-    (tie.spec
-    (λ c κs. search needs)
-    (λ c κs. search needs)
-    returns
-    returns-2
-    (λ c κs. search needs)
-    make-calls-requires
-    (λ c. search needs)
-    (λ c. search needs)
-    (λ c. search needs)
-    (λ c. search needs)
-    returns-3)
+run-spec = tie.close (tie.spec
+    (λ c κs. search needs) (λ c κs. search needs) returns returns-2 (λ c κs. search needs) make-calls-requires (λ c. search needs) (λ c. search needs)
+    (λ c. search needs) (λ c. search needs) returns-3)

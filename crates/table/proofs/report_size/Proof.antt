@@ -4,16 +4,19 @@ use mir.Syntax.{w32}
 use mir.ValLaws.{toZ-ofZ}
 use borrow.Author.Needs.{needs}
 use Rattle.query.proofs.Whole.{counted-as}
+use Rattle.query.proofs.Gathered.{held-as}
 use Rattle.table.proofs.Answering.{query-same}
 use Rattle.table.proofs.report_size.Statement.{statement}
 use Rattle.table.proofs.report_size.Tie as tie
 
 returns : tie.Need-returns
 returns c =
-    let at-count-table = c .before .before in
-    let at-make-query = at-count-table .before in
-    let fits = at-make-query .before .before .before .before .fits in
-    counted-as (query-same _ _ _ _ _ _ _ (toZ-ofZ w32 _ (fits .x1)) (toZ-ofZ w32 _ (fits .x2)) (toZ-ofZ w32 _ (fits .y)) (at-make-query .make-query .ensures)) (at-count-table .count-table .ensures)
+    let at-gather-table = c .before .before .before .before in
+    let at-make-query = at-gather-table .before .before in
+    let start = at-make-query .before .before .before .before .before in
+    let fits = start .fits in
+    let same = query-same _ _ _ _ _ _ _ (toZ-ofZ w32 _ (fits .x1)) (toZ-ofZ w32 _ (fits .x2)) (toZ-ofZ w32 _ (fits .y)) (at-make-query .make-query .ensures) in
+    (counted-as same (at-gather-table .gather-table .ensures .0), held-as same (at-gather-table .gather-table .ensures .1))
 
 pub report-size-spec : {M : Type 1} → statement M
-report-size-spec = tie.close (tie.spec (λ c κs. search needs) (λ c κs. search needs) (λ c. search needs) returns)
+report-size-spec = tie.close (tie.spec (λ c κs. search needs) (λ c κs. search needs) (λ c. search needs) (λ c. search needs) returns)

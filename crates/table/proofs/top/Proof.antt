@@ -1,6 +1,6 @@
 -- `table::top` meets its contract: refused by the lengths, a rule is broken, too many spots, or given from the small buffer or straight into the output.
 -- Assumes nothing.
-use Rattle.table.proofs.Topping.{top-short, top-lent, top-zero, top-broken, top-many, top-few, top-wide, still-whole, top-asks}
+use Rattle.table.proofs.Topping.{top-short, top-lent, top-zero, top-broken, top-many, top-few, top-wide, top-asks}
 use Rattle.table.proofs.Answering.{map-is}
 use Rattle.spot.specs.Query.{topQuery}
 use Rattle.block.specs.Table.{tableSized}
@@ -34,7 +34,7 @@ module _ (p : tie.After-top-query) where
   lent = eq-eqb (length (now (start p .args .read-map))) 512 mapped
 
   asks : p .top-query .result ≡ topQuery (start p .args .x1) (start p .args .x2) 0
-  asks = top-asks _ _ _ _ _ (toZ-ofZ w32 _ (start p .fits .x1)) (toZ-ofZ w32 _ (start p .fits .x2)) (p .top-query .ensures)
+  asks = top-asks _ _ _ _ 0 _ (toZ-ofZ w32 _ (start p .fits .x1)) (toZ-ofZ w32 _ (start p .fits .x2)) (p .top-query .ensures)
 
 -- ---- the needs
 
@@ -65,18 +65,15 @@ returns-3 c =
 top-size-requires : tie.Need-top-size-requires
 top-size-requires c κs =
     let p = c .before .before in
-    let long = length-replicate 6144 zero in (
-      record {
-        x1 = start p .args .x1;
-        x2 = start p .args .x2;
-        asks = asks p;
-        sized = sized p;
-        clear = refl;
-        some = omega (arith, c .before .before .before .if3 .left);
-        fits = omega arith;
-      },
-      long,
-    )
+    record {
+      x1 = start p .args .x1;
+      x2 = start p .args .x2;
+      asks = asks p;
+      sized = sized p;
+      clear = refl;
+      some = omega (arith, c .before .before .before .if3 .left);
+      fits = omega (arith, length-replicate 6144 zero);
+    }
 
 returns-4 : tie.Need-returns-4
 returns-4 c =
@@ -86,8 +83,8 @@ returns-4 c =
     (c .before .before .before .before .before .top-size .ensures .fails (a .x1) (a .x2) (asks p) (not-true _ (c .before .if4 .taken)))
     (c .plain-answer3 .ensures)
 
-cast-t23 : tie.Need-cast-t23
-cast-t23 c =
+cast-t22 : tie.Need-cast-t22
+cast-t22 c =
     let p = c .before .before .before .before .before .before .before .before in
     let g = c .before .before .before .before .before .top-size .ensures .gives (start p .args .x1) (start p .args .x2) (asks p) (not-false _ (c .before .if4 .left)) in
     omega (arith, g .few)
@@ -110,8 +107,8 @@ copy-requires c κs =
 copy-requires-2 : tie.Need-copy-requires-2
 copy-requires-2 c κs = (omega (arith, c .before .before .before .before .before .before .before .before .before .before .before .before .before .top-size .kept .1 .0, length-replicate {A = ℕ} 512 0), omega arith)
 
-cast-t34 : tie.Need-cast-t34
-cast-t34 c = omega (arith, c .before .before .before .before .before .before .before .before .before .before .before .before .before .before .before .before .top-size .ensures .small (c .before .before .before .before .before .before .before .before .before .before .if6 .taken))
+cast-t33 : tie.Need-cast-t33
+cast-t33 c = omega (arith, c .before .before .before .before .before .before .before .before .before .before .before .before .before .before .before .before .top-size .ensures .small (c .before .before .before .before .before .before .before .before .before .before .if6 .taken))
 
 returns-6 : tie.Need-returns-6
 returns-6 c =
@@ -126,24 +123,27 @@ returns-6 c =
     (c .before .before .before .before .before .before .before .copy .ensures)
     (map-is _ (now (a .read-map)) _ _ (z .kept .1 .0 ∙ length-replicate {A = ℕ} 512 0) (mapped p) refl (c .before .before .copy2 .ensures))
 
-top-run-requires : tie.Need-top-run-requires
-top-run-requires c κs =
+top-write-requires : tie.Need-top-write-requires
+top-write-requires c κs =
     let p = c .before .before .before .before .before .before .before .before .before .before .before in
-    record {
-      x1 = start p .args .x1;
-      x2 = start p .args .x2;
-      asks = asks p;
-      sized = sized p;
-      clear = refl;
-      some = omega (arith, c .before .before .before .before .before .before .before .before .before .before .before .before .if3 .left);
-      fits = omega (arith, c .before .before .before .if5 .left);
-    }
+    let z = c .before .before .before .before .before .before .before .before .top-size in (
+      record {
+        x1 = start p .args .x1;
+        x2 = start p .args .x2;
+        asks = asks p;
+        sized = sized p;
+        some = omega (arith, c .before .before .before .before .before .before .before .before .before .before .before .before .if3 .left);
+        fits = omega (arith, c .before .before .before .if5 .left);
+        mapped = z .kept .1 .0 ∙ length-replicate {A = ℕ} 512 0;
+      },
+      λ h. z .ensures .all h,
+    )
 
 copy-requires-3 : tie.Need-copy-requires-3
-copy-requires-3 c κs = (omega (arith, c .before .before .before .before .before .top-run .kept .1 .0, length-replicate {A = ℕ} 512 0), omega arith)
+copy-requires-3 c κs = (omega (arith, c .before .before .before .before .before .top-write .kept .1 .0, c .before .before .before .before .before .before .before .before .before .before .before .before .before .before .top-size .kept .1 .0, length-replicate {A = ℕ} 512 0), omega arith)
 
-cast-t45 : tie.Need-cast-t45
-cast-t45 c =
+cast-t43 : tie.Need-cast-t43
+cast-t43 c =
     let p = c .before .before .before .before .before .before .before .before .before .before .before .before .before .before .before .before .before .before .before .before in
     let g = c .before .before .before .before .before .before .before .before .before .before .before .before .before .before .before .before .before .top-size .ensures .gives (start p .args .x1) (start p .args .x2) (asks p) (not-false _ (c .before .before .before .before .before .before .before .before .before .before .before .before .before .if4 .left)) in
     omega (arith, g .few)
@@ -152,13 +152,13 @@ returns-7 : tie.Need-returns-7
 returns-7 c =
     let p = c .before .before .before .before .before .before .before .before .before .before .before .before .before .before .before .before .before .before .before .before in
     let a = start p .args in
-    let g = c .before .before .before .before .before .before .before .before .before .before .before .before .before .before .before .before .before .top-size .ensures .gives (a .x1) (a .x2) (asks p) (not-false _ (c .before .before .before .before .before .before .before .before .before .before .before .before .before .if4 .left)) in
-    let run = c .before .before .before .before .before .before .before .before .top-run in
-    let ok = still-whole (a .x1) (a .x2) (a .k) (now (a .table)) (now (a .output)) (now (a .read-map)) (sized p) (lent p) g (asks p) (run .ensures) in
-    top-wide (a .x1) (a .x2) (a .k) (now (a .table)) (now (a .output)) (now (a .read-map)) (sized p) (lent p) _ _ _ _ _ g (run .ensures .ends (a .x1) (a .x2) (asks p) ok)
+    let z = c .before .before .before .before .before .before .before .before .before .before .before .before .before .before .before .before .before .top-size in
+    let g = z .ensures .gives (a .x1) (a .x2) (asks p) (not-false _ (c .before .before .before .before .before .before .before .before .before .before .before .before .before .if4 .left)) in
+    let w = c .before .before .before .before .before .before .before .before .top-write in
+    top-wide (a .x1) (a .x2) (a .k) (now (a .table)) (now (a .output)) (now (a .read-map)) (sized p) (lent p) _ _ _ _ _ g (w .ensures .ends (a .x1) (a .x2) (asks p) g)
     (c .before .before .before .before .before .before .before .before .before .before .before .before .if5 .left)
     refl
-    (map-is _ (now (a .read-map)) _ _ (run .kept .1 .0 ∙ length-replicate {A = ℕ} 512 0) (mapped p) refl (c .before .before .copy3 .ensures))
+    (map-is _ (now (a .read-map)) _ _ (w .kept .1 .0 ∙ z .kept .1 .0 ∙ length-replicate {A = ℕ} 512 0) (mapped p) refl (c .before .before .copy3 .ensures))
 
 pub top-spec : {M : Type 1} → statement M
 top-spec =
@@ -178,22 +178,22 @@ top-spec =
     top-size-requires
     (λ c κs. search needs)
     returns-4
-    cast-t23
+    cast-t22
     returns-5
     (λ c. search needs)
     mul-copy
     copy-requires
     (λ c. search needs)
     copy-requires-2
-    cast-t34
+    cast-t33
     (λ c. search needs)
     (λ c. search needs)
     returns-6
     (λ c. search needs)
-    top-run-requires
+    top-write-requires
     (λ c. search needs)
     copy-requires-3
-    cast-t45
+    cast-t43
     (λ c. search needs)
     (λ c. search needs)
     returns-7)

@@ -1,3 +1,5 @@
+use Rattle.table.proofs.Answering.{told-whole}
+use mathlib.Core.Path.{refl}
 -- `table::top_count` meets its contract: a number is told only after a count of a walk that is whole.
 -- Assumes nothing.
 use mathlib.Core.Bool.{true≢false, false≢true}
@@ -16,21 +18,36 @@ zero-requires c κs = omega (arith, c .before .before .before .before .before .c
 returns : tie.Need-returns
 returns c =
     let all = c .before .before .before .before .before .before .before .before .count-table in
-    record { gives = λ x1 x2 a h. absurd (false≢true h); clear = λ h. zeroed (all .last .1 .0) (all .ensures .sized) (c .before .before .zero .ensures) }
+    record {
+      gives = λ x1 x2 a h. absurd (false≢true h);
+      clear = λ h. zeroed (all .last .1 .0) (all .ensures .sized) (c .before .before .zero .ensures);
+      unheld = refl;
+      all = λ h. absurd (false≢true h);
+    }
 
--- all are fewer than k
+-- all are no more than k
 returns-2 : tie.Need-returns-2
 returns-2 c =
-    let ok = not-false _ (c .before .before .if1 .left) in
-    let all = c .before .before .before .before .before .before .count-table .ensures in
-    record { gives = λ x1 x2 a h. count-gives _ _ _ _ _ _ (all .ok) ok (all .spots ok) (omega arith) x1 x2 a; clear = λ h. absurd (true≢false h) }
+    let ok = not-false _ (c .before .if1 .left) in
+    let all = c .before .before .before .before .before .count-table .ensures in
+    record {
+      gives = λ x1 x2 a h. count-gives _ _ _ _ _ _ (all .ok) ok (all .spots ok) (omega arith) x1 x2 a;
+      clear = λ h. absurd (true≢false h);
+      unheld = refl;
+      all = λ h. record { whole = told-whole _ _ _ (all .ok) ok; count = all .spots ok; few = c .if2 .taken; map = all .marks ok };
+    }
 
--- there are k
+-- there are more
 returns-3 : tie.Need-returns-3
 returns-3 c =
-    let ok = not-false _ (c .before .before .if1 .left) in
-    let all = c .before .before .before .before .before .before .count-table .ensures in
-    record { gives = λ x1 x2 a h. count-gives _ _ _ _ _ _ (all .ok) ok (all .spots ok) (omega arith) x1 x2 a; clear = λ h. absurd (true≢false h) }
+    let ok = not-false _ (c .before .if1 .left) in
+    let all = c .before .before .before .before .before .count-table .ensures in
+    record {
+      gives = λ x1 x2 a h. count-gives _ _ _ _ _ _ (all .ok) ok (all .spots ok) (omega arith) x1 x2 a;
+      clear = λ h. absurd (true≢false h);
+      unheld = refl;
+      all = λ h. absurd (false≢true h);
+    }
 
 pub top-count-spec : {M : Type 1} → statement M
 top-count-spec =

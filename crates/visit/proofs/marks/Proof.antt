@@ -1,121 +1,98 @@
--- `visit::marks` meets its contract: what waits in the nodes above is struck from the wanted ones, node after node.
+-- `visit::marks` meets its contract: what waits above is struck from the wanted ones, by the list where they lie in its range.
 -- Assumes nothing.
-use mathlib.Core.Path.{_≡_}
-use Prim.Native.Nat.{_-_, _≤_}
-use lib.ListN.{length, getD}
-use denote.Ref.{now}
-use Rattle.visit.proofs.Marking.{StruckBy, wanted-blank, blank-struck, path-start, path-more, marks-all, marks-none}
-use Rattle.visit.proofs.Paths.{path-at}
-use borrow.Author.Needs.{needs}
 use native.Mathlib.Omega.{arith}
+use lib.Dec.{leb}
+use denote.Ref.{now}
+use borrow.Author.Needs.{needs}
+use borrow.Author.Tests.{leb-true}
+use Rattle.octets.proofs.Tests.{and-left, and-right}
+use Rattle.visit.specs.Visit.{Blank}
+use Rattle.visit.proofs.Marking.{wanted-blank, marks-none, marks-struck, struck-near}
 use Rattle.visit.proofs.marks.Statement.{statement}
 use Rattle.visit.proofs.marks.Tie as tie
 
-abbrev Inv-loop : tie.InvT-loop
-Inv-loop t at n p m₀ lo hi c i₀ m i = (i ≤ c) × StruckBy t at n p i m₀ m
+-- where the wanted ones may have marks
+module _ (c : tie.After-earlier) where
+  abbrev start : tie.Start
+  start = c .before .before .before .before .before .before .before .before .before .before
 
-abbrev μ-loop : tie.MeasureT-loop
-μ-loop t at n p m₀ lo hi c i₀ m i = c - i
+  blank : Blank (now (start .args .t)) (start .args .at) (start .args .n) (c .before .before .before .later .result) (c .earlier .result) (c .before .before .before .before .before .before .before .wanted .result)
+  blank =
+      wanted-blank (now (start .args .t)) (start .args .at) (start .args .n) (start .args .q) (omega (arith, c .before .before .before .before .before .before .if1 .left)) (start .pre .3)
+      (c .before .before .before .before .before .from-key .ensures) (c .before .before .last-key .ensures) (c .before .before .before .before .read-key .ensures) (c .before .read-key2 .ensures) (c .before .before .before .later .ensures .0)
+      (c .earlier .ensures .0) (c .before .before .before .before .before .before .before .wanted .ensures)
 
-long : (c : tie.Start Inv-loop μ-loop) → length (c .args .t5 .blocks) ≡ 8
-long c = search needs
-
-wanted-requires : tie.Need-wanted-requires Inv-loop μ-loop
+wanted-requires : tie.Need-wanted-requires
 wanted-requires c κs = search needs
 
-returns : tie.Need-returns Inv-loop μ-loop
-returns c = marks-none (c .before .before .before .args .t5) (omega arith) (c .before .wanted .ensures)
+returns : tie.Need-returns
+returns c = marks-none (c .before .before .before .before .args .p) (omega arith) (c .before .wanted .ensures)
 
-from-key-requires : tie.Need-from-key-requires Inv-loop μ-loop
+from-key-requires : tie.Need-from-key-requires
 from-key-requires c κs = search needs
 
-read-key-requires : tie.Need-read-key-requires Inv-loop μ-loop
-read-key-requires c κs = omega arith
+read-key-requires : tie.Need-read-key-requires
+read-key-requires c κs = search needs
 
-later-requires : tie.Need-later-requires Inv-loop μ-loop
+later-requires : tie.Need-later-requires
 later-requires c κs = search needs
 
-last-key-requires : tie.Need-last-key-requires Inv-loop μ-loop
+last-key-requires : tie.Need-last-key-requires
 last-key-requires c κs = search needs
 
-sub-read-key : tie.Need-sub-read-key Inv-loop μ-loop
-sub-read-key c = omega arith
+sub-read-key : tie.Need-sub-read-key
+sub-read-key c = search needs
 
-mul-read-key : tie.Need-mul-read-key Inv-loop μ-loop
-mul-read-key c = omega arith
+mul-read-key : tie.Need-mul-read-key
+mul-read-key c = search needs
 
-add-read-key : tie.Need-add-read-key Inv-loop μ-loop
-add-read-key c = omega arith
+add-read-key : tie.Need-add-read-key
+add-read-key c = search needs
 
-read-key-requires-2 : tie.Need-read-key-requires-2 Inv-loop μ-loop
-read-key-requires-2 c κs = omega arith
+read-key-requires-2 : tie.Need-read-key-requires-2
+read-key-requires-2 c κs = search needs
 
-earlier-requires : tie.Need-earlier-requires Inv-loop μ-loop
+earlier-requires : tie.Need-earlier-requires
 earlier-requires c κs = search needs
 
-loop-holds : tie.Need-loop-holds Inv-loop μ-loop
-loop-holds c =
-    let asked = c .before .before .before .before .before .before .before in
-    let s = asked .before .before in
-    let a = s .args in
-    (omega arith, path-start (now (a .t)) (a .at) (a .n) (a .q) (a .t5) (long s) (s .pre .2 .few) (asked .wanted .result))
+slice-aggregate-strike-keys : tie.Need-slice-aggregate-strike-keys
+slice-aggregate-strike-keys c = search needs
 
-mul-b : tie.Need-mul-b Inv-loop μ-loop
-mul-b c = omega arith
+strike-keys-requires : tie.Need-strike-keys-requires
+strike-keys-requires c κs =
+    let s = c .before .before .before .before .before .before .before .before .before .before .before .before .before .before .pre in
+    ((omega arith, omega arith, s .0, s .1, s .3), omega (arith, s .0, c .before .before .before .before .before .before .before .before .before .before .before .wanted .ensures .sized), s .4 .few)
 
-element-copy-out-b : tie.Need-element-copy-out-b Inv-loop μ-loop
-element-copy-out-b c = omega arith
-
-slice-aggregate-strike-node : tie.Need-slice-aggregate-strike-node Inv-loop μ-loop
-slice-aggregate-strike-node c = search needs
-
-strike-node-requires : tie.Need-strike-node-requires Inv-loop μ-loop
-strike-node-requires c κs =
-    let at-loop = c .before .before .before in
-    let at-hi = at-loop .before in
-    let at-last = at-hi .before .before in
-    let at-lo = at-last .before in
-    let at-from = at-lo .before .before in
-    let asked = at-from .before .before in
-    let s = asked .before .before in
-    let a = s .args in
-    let l = at-loop .loop in
-    let valid = s .pre .2 .valid (getD (a .t5 .blocks) (l .i) 0) (path-at (a .t5) (long s) (s .pre .2 .few) (l .i) (omega arith)) in
-    let blank = wanted-blank (now (a .t)) (a .at) (a .n) (a .q) (omega arith) (s .pre .3) (at-from .from-key .ensures) (at-last .last-key .ensures) (at-lo .before .read-key .ensures) (at-hi .before .read-key2 .ensures) (at-lo .later .ensures) (at-hi .earlier .ensures) (asked .wanted .ensures) in (
-      (omega arith, omega arith, s .pre .0, s .pre .1, s .pre .3),
-      valid,
-      omega (arith, s .pre .0, l .inv .1 .sized, asked .wanted .ensures .sized),
-      blank-struck (at-lo .later .result) (at-hi .earlier .result) (l .inv .1) blank,
-    )
-
-add-i : tie.Need-add-i Inv-loop μ-loop
-add-i c = omega arith
-
-loop-less : tie.Need-loop-less Inv-loop μ-loop
-loop-less c = omega arith
-
-loop-again : tie.Need-loop-again Inv-loop μ-loop
-loop-again c =
-    let at-loop = c .before .before .before .before .before in
-    let s = at-loop .before .before .before .before .before .before .before .before .before .before in
-    let a = s .args in
-    let l = at-loop .loop in
-    (omega arith, path-more (now (a .t)) (a .at) (a .n) (a .q) (a .t5) (long s) (s .pre .2 .few) (l .i) (omega arith) (l .inv .1) (c .before .strike-node .ensures))
-
-returns-2 : tie.Need-returns-2 Inv-loop μ-loop
+returns-2 : tie.Need-returns-2
 returns-2 c =
-    let asked = c .before .before .before .before .before .before .before .before .before in
-    let s = asked .before .before in
+    let e = c .before .before .before .before .before .before in
+    let s = start e in
     let a = s .args in
-    let l = c .before .loop in
-    marks-all (now (a .t)) (a .at) (a .n) (a .q) (a .t5) (long s) (s .pre .2 .few) (l .i) (omega arith) (asked .wanted .ensures) (l .inv .1)
+    let near = c .before .before .before .if2 .taken in
+    let lo = e .before .before .before .later .result in
+    let hi = e .earlier .result in
+    marks-struck (a .p) (e .before .before .before .before .before .before .before .wanted .ensures)
+    (struck-near (now (a .t)) (a .at) (a .n) (a .p) (now (a .ws)) (s .pre .4) (blank e)
+    (leb-true (a .p .lo) lo (and-left (leb (a .p .lo) lo) (leb hi (a .p .last)) near))
+    (leb-true hi (a .p .last) (and-right (leb (a .p .lo) lo) (leb hi (a .p .last)) near))
+    (c .before .strike-keys .ensures))
+
+slice-aggregate-strike-path : tie.Need-slice-aggregate-strike-path
+slice-aggregate-strike-path c = search needs
+
+strike-path-requires : tie.Need-strike-path-requires
+strike-path-requires c κs =
+    let e = c .before .before .before .before in
+    let s = start e in
+    ((omega arith, omega arith, s .pre .0, s .pre .1, s .pre .3), s .pre .2, omega (arith, s .pre .0, e .before .before .before .before .before .before .before .wanted .ensures .sized), blank e)
+
+returns-3 : tie.Need-returns-3
+returns-3 c = marks-struck (c .before .before .before .before .before .before .before .before .before .before .before .before .before .before .before .before .args .p) (c .before .before .before .before .before .before .before .before .before .before .before .before .before .wanted .ensures) (c .before .strike-path .ensures)
 
 pub marks-spec : {M : Type 1} → statement M
 marks-spec =
     tie.close
     (tie.spec
-    Inv-loop
-    μ-loop
     wanted-requires
     returns
     from-key-requires
@@ -127,12 +104,9 @@ marks-spec =
     add-read-key
     read-key-requires-2
     earlier-requires
-    loop-holds
-    mul-b
-    element-copy-out-b
-    slice-aggregate-strike-node
-    strike-node-requires
-    add-i
-    loop-less
-    loop-again
-    returns-2)
+    slice-aggregate-strike-keys
+    strike-keys-requires
+    returns-2
+    slice-aggregate-strike-path
+    strike-path-requires
+    returns-3)

@@ -6,8 +6,5 @@ use lib.Seq.{take-take}
 use Rattle.buffer.proofs.keys.cut_keys.Statement.{statement}
 use Rattle.buffer.proofs.keys.cut_keys.Tie as tie
 
-returns : tie.Need-returns
-returns c = (search needs, sym (take-take _ _ _ (c .pre)))
-
 pub cut-keys-spec : {M : Type 1} → statement M
-cut-keys-spec = tie.close (tie.spec returns)
+cut-keys-spec = tie.close (tie.spec (λ c. (search needs, sym (take-take _ _ _ (c .pre)))))

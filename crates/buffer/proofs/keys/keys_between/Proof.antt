@@ -8,9 +8,6 @@ use Rattle.buffer.proofs.Keyed.{plain, part-built}
 use Rattle.buffer.proofs.keys.keys_between.Statement.{statement}
 use Rattle.buffer.proofs.keys.keys_between.Tie as tie
 
-append-keys-requires : tie.Need-append-keys-requires
-append-keys-requires c κs = omega arith
-
 returns : tie.Need-returns
 returns c =
     let s = c .before .before in
@@ -19,4 +16,4 @@ returns c =
     (omega arith, m .0, record { fits = omega arith; up = m .1 })
 
 pub keys-between-spec : {M : Type 1} → statement M
-keys-between-spec = tie.close (tie.spec (λ c κs. search needs) append-keys-requires returns)
+keys-between-spec = tie.close (tie.spec (λ c κs. search needs) (λ c κs. omega arith) returns)

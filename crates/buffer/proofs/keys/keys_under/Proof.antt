@@ -26,36 +26,6 @@ abbrev μ-loop : tie.MeasureT-loop
 long : (c : tie.Start Inv-loop μ-loop) → length (c .args .t1 .keys) ≡ 32
 long c = search (needs, length-image)
 
-rank-key-requires : tie.Need-rank-key-requires Inv-loop μ-loop
-rank-key-requires c κs = omega arith
-
-loop-holds : tie.Need-loop-holds Inv-loop μ-loop
-loop-holds c = (omega arith, omega arith, long (c .before), refl)
-
-mul-k : tie.Need-mul-k Inv-loop μ-loop
-mul-k c = omega arith
-
-element-copy-out-k : tie.Need-element-copy-out-k Inv-loop μ-loop
-element-copy-out-k c = omega arith
-
-rank-key-requires-2 : tie.Need-rank-key-requires-2 Inv-loop μ-loop
-rank-key-requires-2 c κs = omega arith
-
-mul-next : tie.Need-mul-next Inv-loop μ-loop
-mul-next c = omega arith
-
-element-write-next : tie.Need-element-write-next Inv-loop μ-loop
-element-write-next c = omega arith
-
-add-at : tie.Need-add-at Inv-loop μ-loop
-add-at c = omega arith
-
-add-i : tie.Need-add-i Inv-loop μ-loop
-add-i c = omega arith
-
-loop-less : tie.Need-loop-less Inv-loop μ-loop
-loop-less c = omega arith
-
 loop-again : tie.Need-loop-again Inv-loop μ-loop
 loop-again c =
     let s = c .before .before .before .before .before .before in
@@ -63,12 +33,6 @@ loop-again c =
     let k = getD (s .args .t1 .keys) (l .i) 0 in
     let passes : lower (s .args .t) k ≡ true = lt-ltb (rankKey k) (rankKey (s .args .t)) (omega arith) in
     (omega arith, omega arith, simp length-set (l .inv .2), kept-yes (lower (s .args .t)) (s .args .t1 .keys) (l .next .keys) (l .at) (l .i) 0 (omega (arith, long s)) (l .inv .3) (omega arith) passes)
-
-add-i-2 : tie.Need-add-i-2 Inv-loop μ-loop
-add-i-2 c = omega arith
-
-loop-less-2 : tie.Need-loop-less-2 Inv-loop μ-loop
-loop-less-2 c = omega arith
 
 loop-again-2 : tie.Need-loop-again-2 Inv-loop μ-loop
 loop-again-2 c =
@@ -88,23 +52,7 @@ returns c =
     (omega arith, m, record { fits = omega arith; up = rw m (up-keep plain (lower (s .args .t)) (named b) (s .pre .up)) })
 
 pub keys-under-spec : {M : Type 1} → statement M
-keys-under-spec =
-    tie.close
-    (tie.spec
-    Inv-loop
-    μ-loop
-    rank-key-requires
-    loop-holds
-    mul-k
-    element-copy-out-k
-    rank-key-requires-2
-    mul-next
-    element-write-next
-    add-at
-    add-i
-    loop-less
-    loop-again
-    add-i-2
-    loop-less-2
-    loop-again-2
-    returns)
+keys-under-spec = tie.close (tie.spec
+    Inv-loop μ-loop (λ c κs. omega arith) (λ c. (omega arith, omega arith, long (c .before), refl)) (λ c. omega arith) (λ c. omega arith)
+    (λ c κs. omega arith) (λ c. omega arith) (λ c. omega arith) (λ c. omega arith) (λ c. omega arith) (λ c. omega arith) loop-again (λ c. omega arith)
+    (λ c. omega arith) loop-again-2 returns)

@@ -9,15 +9,6 @@ use Rattle.buffer.proofs.Keyed.{plain, insert-built}
 use Rattle.buffer.proofs.keys.put_key.Statement.{statement}
 use Rattle.buffer.proofs.keys.put_key.Tie as tie
 
-cut-keys-requires : tie.Need-cut-keys-requires
-cut-keys-requires c κs = omega arith
-
-push-key-requires : tie.Need-push-key-requires
-push-key-requires c κs = omega arith
-
-append-keys-requires : tie.Need-append-keys-requires
-append-keys-requires c κs = omega arith
-
 returns : tie.Need-returns
 returns c =
     let s = c .before .before .before .before in
@@ -28,4 +19,4 @@ returns c =
     (omega arith, m .0, record { fits = omega arith; up = m .1 })
 
 pub put-key-spec : {M : Type 1} → statement M
-put-key-spec = tie.close (tie.spec (λ c κs. search needs) cut-keys-requires push-key-requires append-keys-requires returns)
+put-key-spec = tie.close (tie.spec (λ c κs. search needs) (λ c κs. omega arith) (λ c κs. omega arith) (λ c κs. omega arith) returns)

@@ -6,46 +6,34 @@ use Rattle.histories.proofs.list.count.Statement.{statement}
 use Rattle.histories.proofs.list.count.Tie as tie
 
 abbrev Inv-loop : tie.InvT-loop
-Inv-loop places ranks tracks x1 x2 place rank n₀ i₀ n i = Unit {0}
+Inv-loop list x1 x2 last n₀ i₀ n i = Unit {0}
 
 abbrev μ-loop : tie.MeasureT-loop
-μ-loop places ranks tracks x1 x2 place rank n₀ i₀ n i = 4784 - i
+μ-loop list x1 x2 last n₀ i₀ n i = 4784 - i
 
 loop-holds : tie.Need-loop-holds Inv-loop μ-loop
 loop-holds c = tt
 
-mul-if1 : tie.Need-mul-if1 Inv-loop μ-loop
-mul-if1 c = omega arith
+mul-counts : tie.Need-mul-counts Inv-loop μ-loop
+mul-counts c = omega arith
 
-element-copy-out-if1 : tie.Need-element-copy-out-if1 Inv-loop μ-loop
-element-copy-out-if1 c = omega arith
+element-copy-out-counts : tie.Need-element-copy-out-counts Inv-loop μ-loop
+element-copy-out-counts c = omega arith
 
-mul-if1-2 : tie.Need-mul-if1-2 Inv-loop μ-loop
-mul-if1-2 c = omega arith
+add-counts : tie.Need-add-counts Inv-loop μ-loop
+add-counts c = omega arith
 
-element-copy-out-if1-2 : tie.Need-element-copy-out-if1-2 Inv-loop μ-loop
-element-copy-out-if1-2 c = omega arith
+mul-counts-2 : tie.Need-mul-counts-2 Inv-loop μ-loop
+mul-counts-2 c = omega arith
 
-mul-if1-3 : tie.Need-mul-if1-3 Inv-loop μ-loop
-mul-if1-3 c = omega arith
+element-copy-out-counts-2 : tie.Need-element-copy-out-counts-2 Inv-loop μ-loop
+element-copy-out-counts-2 c = omega arith
 
-element-copy-out-if1-3 : tie.Need-element-copy-out-if1-3 Inv-loop μ-loop
-element-copy-out-if1-3 c = omega arith
+counts-requires : tie.Need-counts-requires Inv-loop μ-loop
+counts-requires c κs = tt
 
-mul-top-before : tie.Need-mul-top-before Inv-loop μ-loop
-mul-top-before c = omega arith
-
-element-copy-out-top-before : tie.Need-element-copy-out-top-before Inv-loop μ-loop
-element-copy-out-top-before c = omega arith
-
-mul-top-before-2 : tie.Need-mul-top-before-2 Inv-loop μ-loop
-mul-top-before-2 c = omega arith
-
-element-copy-out-top-before-2 : tie.Need-element-copy-out-top-before-2 Inv-loop μ-loop
-element-copy-out-top-before-2 c = omega arith
-
-top-before-requires : tie.Need-top-before-requires Inv-loop μ-loop
-top-before-requires c κs = tt
+cast-wrapping-add-u64 : tie.Need-cast-wrapping-add-u64 Inv-loop μ-loop
+cast-wrapping-add-u64 c = omega arith
 
 wrapping-add-u64-requires : tie.Need-wrapping-add-u64-requires Inv-loop μ-loop
 wrapping-add-u64-requires c κs = tt
@@ -69,17 +57,13 @@ count-spec =
     Inv-loop
     μ-loop
     loop-holds
-    mul-if1
-    element-copy-out-if1
-    mul-if1-2
-    element-copy-out-if1-2
-    mul-if1-3
-    element-copy-out-if1-3
-    mul-top-before
-    element-copy-out-top-before
-    mul-top-before-2
-    element-copy-out-top-before-2
-    top-before-requires
+    mul-counts
+    element-copy-out-counts
+    add-counts
+    mul-counts-2
+    element-copy-out-counts-2
+    counts-requires
+    cast-wrapping-add-u64
     wrapping-add-u64-requires
     add-i
     loop-less

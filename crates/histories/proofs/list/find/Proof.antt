@@ -6,10 +6,10 @@ use Rattle.histories.proofs.list.find.Statement.{statement}
 use Rattle.histories.proofs.list.find.Tie as tie
 
 abbrev Inv-loop : tie.InvT-loop
-Inv-loop places ranks tracks place rank i₀ i = Unit {0}
+Inv-loop list id i₀ i = Unit {0}
 
 abbrev μ-loop : tie.MeasureT-loop
-μ-loop places ranks tracks place rank i₀ i = 4784 - i
+μ-loop list id i₀ i = 4784 - i
 
 loop-holds : tie.Need-loop-holds Inv-loop μ-loop
 loop-holds c = tt
@@ -20,17 +20,14 @@ mul-if1 c = omega arith
 element-copy-out-if1 : tie.Need-element-copy-out-if1 Inv-loop μ-loop
 element-copy-out-if1 c = omega arith
 
+add-if1 : tie.Need-add-if1 Inv-loop μ-loop
+add-if1 c = omega arith
+
 mul-if1-2 : tie.Need-mul-if1-2 Inv-loop μ-loop
 mul-if1-2 c = omega arith
 
 element-copy-out-if1-2 : tie.Need-element-copy-out-if1-2 Inv-loop μ-loop
 element-copy-out-if1-2 c = omega arith
-
-mul-if1-3 : tie.Need-mul-if1-3 Inv-loop μ-loop
-mul-if1-3 c = omega arith
-
-element-copy-out-if1-3 : tie.Need-element-copy-out-if1-3 Inv-loop μ-loop
-element-copy-out-if1-3 c = omega arith
 
 returns : tie.Need-returns Inv-loop μ-loop
 returns c = tt
@@ -56,10 +53,9 @@ find-spec =
     loop-holds
     mul-if1
     element-copy-out-if1
+    add-if1
     mul-if1-2
     element-copy-out-if1-2
-    mul-if1-3
-    element-copy-out-if1-3
     returns
     add-i
     loop-less

@@ -6,46 +6,31 @@ use Rattle.histories.proofs.list.highest.Statement.{statement}
 use Rattle.histories.proofs.list.highest.Tie as tie
 
 abbrev Inv-loop : tie.InvT-loop
-Inv-loop places ranks tracks best₀ rank₀ place₀ i₀ best rank place i = Unit {0}
+Inv-loop list best₀ key₀ i₀ best key i = Unit {0}
 
 abbrev μ-loop : tie.MeasureT-loop
-μ-loop places ranks tracks best₀ rank₀ place₀ i₀ best rank place i = 4784 - i
+μ-loop list best₀ key₀ i₀ best key i = 4784 - i
 
 loop-holds : tie.Need-loop-holds Inv-loop μ-loop
 loop-holds c = tt
+
+mul-rank-key : tie.Need-mul-rank-key Inv-loop μ-loop
+mul-rank-key c = omega arith
+
+element-copy-out-rank-key : tie.Need-element-copy-out-rank-key Inv-loop μ-loop
+element-copy-out-rank-key c = omega arith
+
+rank-key-requires : tie.Need-rank-key-requires Inv-loop μ-loop
+rank-key-requires c κs = tt
+
+add-if1 : tie.Need-add-if1 Inv-loop μ-loop
+add-if1 c = omega arith
 
 mul-if1 : tie.Need-mul-if1 Inv-loop μ-loop
 mul-if1 c = omega arith
 
 element-copy-out-if1 : tie.Need-element-copy-out-if1 Inv-loop μ-loop
 element-copy-out-if1 c = omega arith
-
-mul-before : tie.Need-mul-before Inv-loop μ-loop
-mul-before c = omega arith
-
-element-copy-out-before : tie.Need-element-copy-out-before Inv-loop μ-loop
-element-copy-out-before c = omega arith
-
-mul-before-2 : tie.Need-mul-before-2 Inv-loop μ-loop
-mul-before-2 c = omega arith
-
-element-copy-out-before-2 : tie.Need-element-copy-out-before-2 Inv-loop μ-loop
-element-copy-out-before-2 c = omega arith
-
-before-requires : tie.Need-before-requires Inv-loop μ-loop
-before-requires c κs = tt
-
-mul-rank : tie.Need-mul-rank Inv-loop μ-loop
-mul-rank c = omega arith
-
-element-copy-out-rank : tie.Need-element-copy-out-rank Inv-loop μ-loop
-element-copy-out-rank c = omega arith
-
-mul-place : tie.Need-mul-place Inv-loop μ-loop
-mul-place c = omega arith
-
-element-copy-out-place : tie.Need-element-copy-out-place Inv-loop μ-loop
-element-copy-out-place c = omega arith
 
 add-i : tie.Need-add-i Inv-loop μ-loop
 add-i c = omega arith
@@ -66,17 +51,12 @@ highest-spec =
     Inv-loop
     μ-loop
     loop-holds
+    mul-rank-key
+    element-copy-out-rank-key
+    rank-key-requires
+    add-if1
     mul-if1
     element-copy-out-if1
-    mul-before
-    element-copy-out-before
-    mul-before-2
-    element-copy-out-before-2
-    before-requires
-    mul-rank
-    element-copy-out-rank
-    mul-place
-    element-copy-out-place
     add-i
     loop-less
     loop-again

@@ -1,0 +1,71 @@
+-- `table::top_all` meets its contract: Top's walk is the walk at the lowest rank, or the one from the rank of the last spot.
+-- Assumes nothing.
+use Rattle.table.proofs.Topping.{top-asks}
+use mir.ValLaws.{toZ-ofZ}
+use mir.Syntax.{w32}
+use Rattle.table.proofs.Writing.{fewer-written, full-written}
+use Rattle.top.proofs.Sweeps.{zeroed}
+use denote.Ref.{now}
+use borrow.Author.Needs.{needs}
+use native.Mathlib.Omega.{arith}
+use Rattle.table.proofs.top_all.Statement.{statement}
+use Rattle.table.proofs.top_all.Tie as tie
+
+returns : tie.Need-returns
+returns c =
+    let s = c .before .before .before .before .before .before .before .before .before .before .before .before in
+    let a = s .args in
+    let found = c .before .before .before .before .before .before .before .collect-table in
+    let sorted = c .before .before .before .by-top in
+    fewer-written (now (a .table)) (a .q) (a .k) (a .n) _ (now (a .read)) (now (a .output)) (found .last .1 .0) (sorted .last .0) (s .pre .1) (found .ensures) (sorted .ensures)
+    (λ i. omega (arith, c .before .slice-known4 .given i))
+    (found .kept .1 .0)
+    (s .pre .0 .fits)
+    (c .if1 .taken)
+
+count-table-requires : tie.Need-count-table-requires
+count-table-requires c κs =
+    let s = c .before .before .before .before .before .before .before .before .before .before .before .before .before .before .before .before .before .before .before .before .before .before in
+    (s .pre .0 .sized, zeroed (now (s .args .read)) (s .pre .0 .mapped) (c .before .before .before .before .before .before .zero .ensures))
+
+returns-2 : tie.Need-returns-2
+returns-2 c =
+    let s = c .before .before .before .before .before .before .before .before .before .before .before .before .before .before .before .before .before .before .before .before .before .before .before .before .before in
+    let a = s .args in
+    let found = c .before .before .before .before .before .before .before .before .before .before .before .before .before .before .before .before .before .before .before .before .collect-table in
+    let sorted = c .before .before .before .before .before .before .before .before .before .before .before .before .before .before .before .before .by-top in
+    let known = c .before .before .before .before .before .before .before .before .before .before .before .before .before .before .slice-known4 in
+    let last = c .before .before .before .before .before .before .before .before .before .before .before .read-key in
+    let told = c .before .before .before .before .before .struct-told .given in
+    let asks = c .before .before .before .top-query in
+    full-written (now (a .table)) (a .q) (a .k) (a .n) _ (now (a .read)) (now (a .output)) (found .last .1 .0) (sorted .last .0) (s .pre .1) (found .ensures) (sorted .ensures)
+    (λ i. omega (arith, known .given i))
+    (found .kept .1 .0)
+    (s .pre .0 .fits)
+    (omega (arith, c .before .before .before .before .before .before .before .before .before .before .before .before .before .if1 .left, s .pre .1 .few))
+    (s .pre .0 .some)
+    (last .result)
+    (last .ensures)
+    _
+    (asks .result)
+    _
+    (top-asks (a .q .x1) (a .q .x2) _ _ _ _ (toZ-ofZ w32 (a .q .x1) (record { sfits = told .0 .1 })) (toZ-ofZ w32 (a .q .x2) (record { sfits = told .1 .0 .1 })) (asks .ensures))
+    (c .before .before .count-table .ensures)
+
+pub top-all-spec : {M : Type 1} → statement M
+top-all-spec =
+    tie.close
+    (tie.spec
+    (λ c κs. search needs)
+    (λ c κs. search needs)
+    (λ c. search needs)
+    returns
+    (λ c. search needs)
+    (λ c. search needs)
+    (λ c κs. search needs)
+    (λ c κs. search needs)
+    (λ c κs. search needs)
+    count-table-requires
+    (λ c. search needs)
+    (λ c. search needs)
+    returns-2)
