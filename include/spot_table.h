@@ -22,7 +22,8 @@
  *   spot_count      reads block 0 and every node block that has spots.
  *   spot_check      reads block 0 and every node block.
  *   spot_report     reads at most 1 + 36h + 9 * (spots div 16) blocks on a sound table, and marks exactly those; each once up to 128 spots, twice above, to count and to write.
- *   spot_top        reads the blocks of the report from the lowest rank that it gives; once up to 512 spots, twice above.
+ *   spot_top        reads the blocks of the report from the rank of the last of its k spots (from the least rank, if there are fewer), and marks exactly those;
+ *                   only block 0 for k = 0. Each once up to 512 spots, twice above.
  *   spot_add        reads block 0 and the h blocks on the way down, and writes block 0 and the root where the root has room. Where it has none, changes go down in batches:
  *   spot_withdraw   some more blocks a level. Rarely, where no block is spare, all is laid out anew as by spot_rebuild. Both zero as much of the work area as the table is
  *                   long, which is most of their time on a large table. A withdrawal that finds nothing writes nothing to the table.
@@ -138,7 +139,8 @@ uint64_t spot_report(const uint8_t *table, size_t table_len, int32_t x1, int32_t
                      uint8_t *output, size_t output_len, uint8_t *read_map, size_t read_map_len);
 
 /* Of the live spots with x1 <= place <= x2 the k of highest rank, the highest first; all, if fewer. Of equal ranks the lower place comes first, and stays where k cuts
- * between them. Output and read map as for spot_report. */
+ * between them. Output as for spot_report. The read map marks the blocks that spot_report over the same places, from the rank of the last of the k spots, marks (from
+ * the least rank, if there are fewer than k), and for k = 0 block 0 alone. */
 uint64_t spot_top(const uint8_t *table, size_t table_len, int32_t x1, int32_t x2, uint32_t k,
                   uint8_t *output, size_t output_len, uint8_t *read_map, size_t read_map_len);
 

@@ -76,7 +76,8 @@ impl<B: AsRef<[u8]>> Table<B> {
     }
 
     /// Of the live spots with x1 ≤ place ≤ x2 the k of highest rank, the highest first; of equal ranks the lower place comes first, and stays where k cuts between them. All, if
-    /// there are fewer. Output and map as for `report`.
+    /// there are fewer. Output as for `report`; the map marks the blocks that a report from the rank of the last of the k spots marks (from the least rank, if there are fewer), and block 0 alone for
+    /// k = 0.
     ///
     /// ```
     /// use spot_table::{ReadMap, Spot, Table};

@@ -115,6 +115,43 @@ fn rows_of_one_rank() {
     assert!(beside >= 10, "{beside} looks with such an addition");
 }
 
+/// Request 2026-09: exactly k in range are "k found", one fewer is not; equal ranks at the last one; and whatever the unmarked blocks hold, answer and marks stay.
+#[test]
+fn little_reading() {
+    let mut random = Random(0x0900);
+    let mut spared = 0;
+    for round in 0..40 {
+        let blocks = [12, 32, 100, 300][round % 4];
+        let spots = some_spots(8 * blocks, 5000, [2, 30, 3000][round % 3], &mut random);
+        let made = make(blocks, &spots, round % 2 == 0, &mut random);
+        for _ in 0..10 {
+            let (x1, x2) = places(&mut random);
+            let n = due(&made.live, x1, x2, usize::MAX).len() as u32;
+            for k in [0, 1, n / 2, n.saturating_sub(1), n, n + 1, u32::MAX] {
+                let want = due(&made.live, x1, x2, k as usize);
+                let (a, out, map) = ask(&made.table, x1, x2, k, 12 * want.len());
+                assert_eq!(a, Answer::new(0, want.len() as u32));
+                let y = match want.last() {
+                    Some(last) if want.len() == k as usize => last.rank,
+                    _ => i32::MIN,
+                };
+                let allowed = read_by_report(&made.table, x1, x2, y);
+                assert!(marks(&map).iter().all(|b| allowed.contains(b)), "round {round}: {x1} {x2} {k}");
+                assert!(k > 0 || marks(&map) == [0]);
+                spared += read_by_report(&made.table, x1, x2, i32::MIN).len() - marks(&map).len();
+                let mut second = made.table.clone();
+                for (b, bytes) in second.chunks_mut(BLOCK).enumerate() {
+                    if !marks(&map).contains(&b) {
+                        bytes.iter_mut().for_each(|x| *x = random.draw() as u8);
+                    }
+                }
+                assert_eq!(ask(&second, x1, x2, k, 12 * want.len()), (a, out, map), "round {round}: {x1} {x2} {k}");
+            }
+        }
+    }
+    assert!(spared > 10_000, "{spared} blocks not read");
+}
+
 #[test]
 fn damaged() {
     let mut random = Random(77);

@@ -54,7 +54,7 @@ module _ (l : Lengths) where
   pub ends-sound : (h : RunState) (ps : Plain) (es : List Event) → sound (h .table) ≡ true → AllAgreed (h .table) ps es
       → sound (heldAfter (l .output) h es .table) ≡ true
   ends-sound h ps [] s g = s
-  ends-sound h ps (e ∷ es) s g = ends-sound (passed (l .output) h e) (modelAfter (h .table) ps e) es (g .0 .staysSound) (g .3)
+  ends-sound h ps (e ∷ es) s g = ends-sound (passed (l .output) h e) (modelAfter (h .table) ps e) es (g .0 .staysSound) (g .4)
 
   module _ (h : RunState) (ps : Plain) (c : Step) (e : Event) (i : InTurn l h c e) where
     reply-is : replyIn (e .call) (h .table) ps e ≡ reply (lentTo c l) (c .call) ps
@@ -100,5 +100,5 @@ module _ (l : Lengths) where
       let rest : RunState = passed (l .output) h e in
       append-assoc (entry (outputOf (l .output) h) e) (entries (l .output) rest es) (heldAfter (l .output) rest es .log)
       ∙ ap₂ (λ (x y : List ℕ). x ++ y) (entry-due h ps c e (a .0) (g .0 .answer) (output-left h ps c e (a .0) (g .0 .output)))
-      (as-model rest (modelAfter (h .table) ps e) cs es (a .1) (g .3)
+      (as-model rest (modelAfter (h .table) ps e) cs es (a .1) (g .4)
       ∙ ap (λ (r : Reply). logAfter l cs (r .next) (drop room (h .log))) (reply-is h ps c e (a .0)))

@@ -40,7 +40,7 @@ module _ (p r : ℤ) (fr : Fits r) where
   pub rank-first : rankKey (key p r) ≡ biased r * word + biased p
   rank-first = rank-is (key p r) ∙ ap₂ (λ (x y : ℕ). x * word + y) key-rank key-place
 
-  rank-of : Fits p → rankOf (key p r) ≡ biased r
+  pub rank-of : Fits p → rankOf (key p r) ≡ biased r
   rank-of fp = ap (λ (x : ℕ). x / word) rank-first ∙ digits-div (biased r) (biased-lt p fp)
 
   pub place-of-key : Fits p → placeOf (key p r) ≡ p

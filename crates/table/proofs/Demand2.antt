@@ -40,9 +40,12 @@ use Rattle.table.specs.Answers.{withScratch, withOutput, earlyNumber, un
 use Rattle.table.specs.Queries.{walkAnswer, QueryPost, ReportPost, TopPost}
 use Rattle.table.specs.Updates.{AddPost, WithdrawPost}
 use Rattle.table.specs.Model.{PlainSpot, hasIdentity, placeBefore, topBefore, asBytes}
+use Rattle.table.specs.TopMarks.{MarksFew}
 use Rattle.table.specs.Demands.{LiveSpot, OfPlaces, InOrder, AtCapacity, ReportOf, TopOf, HandedOut, AddedTo, WithdrawnFrom, Demand2}
 use Rattle.table.proofs.Plain.{toKeySpot, SpotFits, identity-key, keyed-bytes, two-fit}
 use Rattle.table.proofs.Changes.{number-is}
+use Rattle.table.proofs.Histories.{map-accepted}
+use Rattle.table.proofs.MarksFew.{marks-few}
 use Rattle.table.proofs.Alive.{plain, Small, keyed-plain, plain-length, plain-take, plain-fit, plain-mem, mem-plain, rises-in-order, falls-in-order, take-order, take-first, same-order, first-order, before-apart, higher-apart, alive-fits, kept-small, kept-live, live-kept, all-live, live-count}
 
 -- ---- what a query hands out
@@ -204,6 +207,18 @@ module _ (t : List ℕ) (g : sound t ≡ true) where
       handed-out (top x1 x2 k) (topTable t x1 x2 k) (take k (byTop of-places)) (top-finds t g x1 x2 k) (λ s i. few-ranked s (mem-take k (byTop of-places) i)) t out map r out′ map′ l
           (p .exact (top-rises t g x1 x2 k)),
     )
+
+    -- and what it marks
+    pub top-little : (out map : List ℕ) (r : Answer) (out′ map′ : List ℕ) → TopPost x1 x2 k t out map r out′ map′ → r .number ≡ 0 → (given : List PlainSpot) → TopOf x1 x2 k t given
+        → MarksFew x1 x2 k given t map′
+    unfolding of-places ranked
+    top-little out map r out′ map′ p z given h =
+        let found = take k (byTop of-places) in
+        subst (λ (l : List PlainSpot). MarksFew x1 x2 k l t map′) (plain-take k (byTop of-places) ∙ sym (is-first given h))
+        (marks-few t g x1 x2 (fits-signed x1 f1) (fits-signed x2 f2) k (plain found) (plain-fit found (λ s i. few-ranked s (mem-take k (byTop of-places) i)))
+        (keyed-plain found ∙ sym (ap spots (top-finds t g x1 x2 k .1)))
+        map′
+        (p .exact (top-rises t g x1 x2 k) .marks ∙ map-accepted _ _ _ z))
 
 -- ---- Add and Withdraw
 

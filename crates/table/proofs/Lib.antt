@@ -3,6 +3,7 @@ pub mod Keyed
 pub mod Plain
 pub mod Sorted
 pub mod Histories
+pub mod MarksFew
 pub mod Demand
 pub mod Worked
 pub mod Answering
@@ -15,3 +16,4 @@ pub mod Sizing
 pub mod Alive
 pub mod Demand2
 pub mod Demand1
+pub mod LittleReading

@@ -184,7 +184,8 @@ module _ (x1 x2 : ℤ) (f1 : Fits x1) (f2 : Fits x2) where
       ss
       h
 
-  keyed-highest : (k : ℕ) (ss : List PlainSpot) → AllFit ss → keyed (highest x1 x2 k ss) ≡ take k (byTop (keep (wants (topQuery x1 x2 0)) (keyed ss)))
+  -- what Top gives, and that it fits
+  pub keyed-highest : (k : ℕ) (ss : List PlainSpot) → AllFit ss → keyed (highest x1 x2 k ss) ≡ take k (byTop (keep (wants (topQuery x1 x2 0)) (keyed ss)))
   unfolding highest ofPlaces
   keyed-highest k ss h =
       keyed-take k (sortBy topBefore (chosen (ofPlaces x1 x2) ss)) ∙
@@ -193,7 +194,7 @@ module _ (x1 x2 : ℤ) (f1 : Fits x1) (f2 : Fits x2) where
       ap byTop
       (keyed-chosen (ofPlaces x1 x2) (wants (topQuery x1 x2 0)) (λ s f. top-wants (s .place) (s .rank) x1 x2 (f .place) (f .rank) f1 f2) ss h))
 
-  highest-fit : (k : ℕ) (ss : List PlainSpot) → AllFit ss → AllFit (highest x1 x2 k ss)
+  pub highest-fit : (k : ℕ) (ss : List PlainSpot) → AllFit ss → AllFit (highest x1 x2 k ss)
   unfolding highest
   highest-fit k ss h = take-fit k (sortBy topBefore (chosen (ofPlaces x1 x2) ss)) (sort-fit topBefore (chosen (ofPlaces x1 x2) ss) (chosen-fit (ofPlaces x1 x2) ss h))
 

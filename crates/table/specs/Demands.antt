@@ -21,7 +21,8 @@ use Rattle.table.specs.Answers.{lengths, earlyNumber, spotsAnswer}
 use Rattle.table.specs.Queries.{HandsOut, ReportPost, TopPost}
 use Rattle.table.specs.Updates.{AddPost, WithdrawPost}
 use Rattle.table.specs.Model.{PlainSpot, hasIdentity, placeBefore, topBefore, asBytes}
-use Rattle.table.specs.History.{Event, MetBy}
+use Rattle.table.specs.History.{Event, MetBy, SecondTable, SameOnSecond}
+use Rattle.table.specs.TopMarks.{MarksFew}
 
 -- ---- demand 1
 
@@ -149,3 +150,18 @@ pub record Demand2 : Type 0 where
   pub tops : (x1 x2 : ℤ) (k : ℕ) (t out map : List ℕ) (r : Answer) (out′ map′ : List ℕ) → OnSound (top x1 x2 k) t out map []
       → TopPost x1 x2 k t out map r out′ map′
       → (given : List PlainSpot) × TopOf x1 x2 k t given × HandedOut given out r out′
+
+-- ---- request 2026-09
+
+-- "on any sound table", so also on one that no history leaves: here y is the rank of the last spot of the list that the paper's definition of Top settles
+pub record LittleReading : Type 0 where
+  pub marks : (x1 x2 : ℤ) (k : ℕ) (t out map : List ℕ) (r : Answer) (out′ map′ : List ℕ) → OnSound (top x1 x2 k) t out map []
+      → TopPost x1 x2 k t out map r out′ map′
+      → r .number ≡ 0
+      → (given : List PlainSpot)
+      → TopOf x1 x2 k t given
+      → MarksFew x1 x2 k given t map′
+  -- "Top's answer and marks follow the second-table rule"
+  pub second : (x1 x2 : ℤ) (k : ℕ) (t u : List ℕ) (e f : Event) → sound t ≡ true → MetBy (top x1 x2 k) t e → e .answer .number ≡ 0
+      → SecondTable (top x1 x2 k) t e u f
+      → SameOnSecond e f

@@ -19,7 +19,8 @@ use Rattle.table.specs.Calls.{Call, format, add, withdraw, report, top, 
 use Rattle.table.specs.Answers.{lengths}
 use Rattle.table.specs.Queries.{ReportPost, TopPost, CountPost, CheckPost}
 use Rattle.table.specs.Updates.{FormatPost, AddPost, WithdrawPost, RebuildPost}
-use Rattle.table.specs.Model.{Plain, begunEmpty, Reply, reply, outputAfter, listed}
+use Rattle.table.specs.Model.{Plain, PlainSpot, begunEmpty, Reply, reply, outputAfter, listed}
+use Rattle.table.specs.TopMarks.{MarksFew}
 
 -- a call as it happened: what it was lent beside the table, what it answered, and all that it left. "Outputs, maps and work areas may be of any length
 -- and hold anything"; what a call isn't lent is of no account.
@@ -104,12 +105,17 @@ MarksExactly c t e =
     (x1 x2 y : ℤ) → c ≡ report x1 x2 y → e .answer .number ≡ 0
     → (b : ℕ) → b < 4096 → (bit (e .readMap′) b ≡ true) ↔ ((b ≡ 0) ⊎ ReadBlock t x1 x2 y b)
 
+-- request 2026-09: "Top shall mark no block that Report over the same places from rank y doesn't mark", with y from the spots that the model gives
+abbrev pub TopMarksFew : Call → List ℕ → List PlainSpot → Event → Type 0
+TopMarksFew c t given e = (x1 x2 : ℤ) (k : ℕ) → c ≡ top x1 x2 k → e .answer .number ≡ 0 → MarksFew x1 x2 k given t (e .readMap′)
+
 -- from the table t and what the model holds, ps, on
 abbrev pub AllAgreed : List ℕ → Plain → List Event → Type 0
 AllAgreed t ps [] = Unit {0}
 AllAgreed t ps (e ∷ es) =
     let r = replyIn (e .call) t ps e in
-    Agreed (e .call) t (r .answer) (outputAfter r (e .output)) e × FullExactly (e .call) t ps e × MarksExactly (e .call) t e × AllAgreed (e .table′) (modelAfter t ps e) es
+    Agreed (e .call) t (r .answer) (outputAfter r (e .output)) e × FullExactly (e .call) t ps e × MarksExactly (e .call) t e × TopMarksFew (e .call) t (r .given) e ×
+    AllAgreed (e .table′) (modelAfter t ps e) es
 
 -- Demand 3, sentence by sentence:
 --   "For every list of calls (..; any arguments, refused ones included)"            `es : List Event`, each with a `Call` whose arguments fit their 32 bits
@@ -123,6 +129,10 @@ AllAgreed t ps (e ∷ es) =
 --   "at most 1, plus 36 for each level of the tree, plus 9 for each whole 16 spots" `Agreed .bounded`
 --   "On a second table of that length, equal in the marked blocks, whatever the     `Agreed .second`: any table u of that length with the same bytes in the
 --    others hold, that call gives the same report and marks."                       marked blocks, sound or not
+-- and of request 2026-09:
+--   "Top shall mark no block that Report over the same places from rank y doesn't   `TopMarksFew`: `MarksFew .within`, y = `rankReached` of the spots that the
+--    mark"; "For k = 0 only block 0 is marked"                                      model gives; `MarksFew .none`
+--   "Top's answer and marks follow the second-table rule"                           `Agreed .second`, which speaks of both queries
 -- "Demand 3 is a single claim about a whole history. The table starts as an accepted Format leaves it, whatever its bytes were"
 abbrev pub Demand3 : Type 0
 Demand3 = (bytes : ℕ) → tableSized bytes ≡ true → (es : List Event) → History (formatted bytes) es → AllAgreed (formatted bytes) begunEmpty es

@@ -4,6 +4,7 @@ pub mod Queries
 pub mod Reports
 pub mod Updates
 pub mod Model
+pub mod TopMarks
 pub mod History
 pub mod NoneGiven
 pub mod TopSizes

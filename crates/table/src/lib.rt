@@ -183,12 +183,13 @@ fn top_count(table: &[u8], read: &mut [u8], q: spot::Query, k: usize) -> Size
     }
 }
 
-// What Top gives, if it is known without a search. For k of an eighth of the table and more a count takes less time than a search; the figure in block 0 only chooses.
+// What Top gives, if it is known without a search: where k is above the figure in block 0, which is never below the number of live spots, all that is in range is
+// asked for, and a count reads what Top reads. On an unsound table the figure only chooses the way.
 fn top_told(table: &[u8], read: &mut [u8], q: spot::Query, k: usize) -> Size
     requires { ⌜ (tableSized (length (now table)) ≡ true) × (now read ≡ replicate 512 0) ⌝ }
     ensures { λ r. ⌜ TopCounted (now (table .entry)) q k (now (read .exit)) r ⌝ }
 {
-    if (k <= 512) | ((k as u64) < block::bound_of(table) / 8) {
+    if (k <= 512) | ((k as u64) <= block::bound_of(table)) {
         return Size {
             ok: false,
             held: false,
