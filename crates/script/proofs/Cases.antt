@@ -20,7 +20,7 @@ use Rattle.block.specs.declared.Answer.{Answer}
 use Rattle.table.specs.Calls.{Call, format, add, withdraw, report, top, count, check, rebuild, kind, takesScratch, mayChange, isQuery, argumentsFit}
 use Rattle.table.specs.Queries.{ReportPost, TopPost, CountPost, CheckPost}
 use Rattle.table.specs.Updates.{FormatPost, AddPost, WithdrawPost, RebuildPost}
-use Rattle.table.specs.History.{Promised}
+use Rattle.demands.specs.History.{Promised}
 use Rattle.script.specs.Script.{callOf, callAt}
 use Rattle.script.specs.Run.{Called, eventOf}
 

@@ -8,8 +8,8 @@ use lib.ListN.{length, take, drop}
 use Rattle.block.specs.declared.Answer.{Answer}
 use Rattle.tree.specs.Sound.{sound}
 use Rattle.table.specs.Calls.{Call, format, add, withdraw, report, top, count, check, rebuild, kind, isQuery, Lengths}
-use Rattle.table.specs.Model.{PlainSpot, Plain, Reply, asBytes, outputAfter, refuse, accept, badTable, badLent, full, ownReply, reply, fourBytes}
-use Rattle.table.specs.History.{Event, History, AllAgreed, replyIn, modelAfter}
+use Rattle.demands.specs.Model.{PlainSpot, Plain, Reply, asBytes, outputAfter, refuse, accept, badTable, badLent, full, ownReply, reply, fourBytes}
+use Rattle.demands.specs.History.{Event, History, AllAgreed, replyIn, modelAfter}
 use Rattle.script.specs.Script.{Step, lentTo, logAfter}
 use Rattle.script.specs.Run.{entry, RunState, heldAfter, passed, outputOf, InTurn, AllInTurn, entries}
 use Rattle.script.proofs.Fronts.{drop-lent}

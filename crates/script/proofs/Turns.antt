@@ -15,9 +15,9 @@ use Rattle.octets.proofs.Order.{stride}
 use Rattle.octets.proofs.Records.{records-more}
 use Rattle.block.specs.declared.Answer.{Answer}
 use Rattle.table.specs.Calls.{Call, Lengths}
-use Rattle.table.specs.Model.{fourBytes}
-use Rattle.table.specs.History.{Event}
-use Rattle.table.proofs.Orders.{four-bytes}
+use Rattle.demands.specs.Model.{fourBytes}
+use Rattle.demands.specs.History.{Event}
+use Rattle.demands.proofs.Orders.{four-bytes}
 use Rattle.script.specs.Script.{Step, callAt, stepAt, stepsOf, lentTo}
 use Rattle.script.specs.Run.{Called, eventOf, eventIn, StepCalled, entry, Turned, RunState, runState, outputOf, passed, heldAfter, InTurn, AllInTurn, entries, Run, runLengths}
 use Rattle.script.proofs.Fronts.{put-back, front-lent, front-left, rest-left}

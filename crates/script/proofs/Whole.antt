@@ -15,9 +15,9 @@ use Rattle.block.specs.Fresh.{formatted}
 use Rattle.tree.specs.Sound.{sound}
 use Rattle.tree.proofs.Fresh.{fresh-sized, fresh-sound}
 use Rattle.table.specs.Calls.{Lengths}
-use Rattle.table.specs.Model.{begunEmpty}
-use Rattle.table.specs.History.{History}
-use Rattle.table.proofs.Demand.{demand3}
+use Rattle.demands.specs.Model.{begunEmpty}
+use Rattle.demands.specs.History.{History}
+use Rattle.demands.proofs.Demand.{demand3}
 use Rattle.script.specs.Script.{callsIn, stepsOf, logPart}
 use Rattle.script.specs.Run.{RunState, runState, Run, runLengths, partIn, Happened, Ran}
 use Rattle.script.proofs.Logs.{history-of, ends-sound, as-model}

@@ -11,8 +11,8 @@ use Rattle.block.specs.Table.{tableSized}
 use Rattle.block.specs.Fresh.{formatted}
 use Rattle.tree.specs.Sound.{sound}
 use Rattle.table.specs.Calls.{Call, kind, takesScratch, isQuery, Lengths, argumentsFit}
-use Rattle.table.specs.Model.{begunEmpty, fourBytes}
-use Rattle.table.specs.History.{Event, MetBy, History, AllAgreed, lengthsIn}
+use Rattle.demands.specs.Model.{begunEmpty, fourBytes}
+use Rattle.demands.specs.History.{Event, MetBy, History, AllAgreed, lengthsIn}
 use Rattle.script.specs.Script.{Step, callsIn, stepsOf, lentTo, logPart, logAfter}
 
 -- an event of its call, what it was lent beside the table, its answer, and what it left

@@ -10,7 +10,7 @@ use mir.Val.{toZ}
 use Rattle.octets.specs.Bytes.{be}
 use Rattle.octets.specs.Lists.{records}
 use Rattle.table.specs.Calls.{Call, format, add, withdraw, report, top, count, check, rebuild, Lengths}
-use Rattle.table.specs.Model.{Plain, reply, outputAfter, fourBytes}
+use Rattle.demands.specs.Model.{Plain, reply, outputAfter, fourBytes}
 
 -- a call is 28 bytes; fewer at the end are no call
 abbrev pub callsIn : List ℕ → ℕ

@@ -1,11 +1,3 @@
-pub mod Orders
-pub mod Keyed
-pub mod Plain
-pub mod Sorted
-pub mod Histories
-pub mod MarksFew
-pub mod Demand
-pub mod Worked
 pub mod Answering
 pub mod Rebuilding
 pub mod Changes
@@ -13,7 +5,3 @@ pub mod Topping
 pub mod Ranked
 pub mod Writing
 pub mod Sizing
-pub mod Alive
-pub mod Demand2
-pub mod Demand1
-pub mod LittleReading

@@ -3,9 +3,5 @@ pub mod Answers
 pub mod Queries
 pub mod Reports
 pub mod Updates
-pub mod Model
-pub mod TopMarks
-pub mod History
 pub mod NoneGiven
 pub mod TopSizes
-pub mod Demands

@@ -20,12 +20,12 @@ use Rattle.spot.proofs.Orders.{report-wants, top-wants}
 use Rattle.block.specs.Answers.{answer}
 use Rattle.block.specs.Table.{sizedFor, tableSized}
 use Rattle.tree.specs.Lookup.{isLive}
 use Rattle.table.specs.Calls.{Call, format, add, withdraw, report, top, count, check, rebuild, Kind, makes, updates, queries, tells, kind, Lengths, argumentsFit}
 use Rattle.revise.specs.Numbers.{addNumber}
 use Rattle.table.specs.Answers.{lent, earlyNumber, spotsAnswer, outputLeft}
-use Rattle.table.specs.Model.{PlainSpot, hasIdentity, placeBefore, topBefore, ofPlaces, ofReport, chosen, insertBy, sortBy, listed, takenOut, broughtIn, highest, fourBytes, complement, asBytes, Plain, begunEmpty, Reply, outputAfter, refuse, accept, badTable, badLent, full, handOut, ownReply, reply}
-use Rattle.table.proofs.Keyed.{KeyReply, keyReply, replyTo, refusedOr, accepted, changed, nextBy, gives}
-use Rattle.table.proofs.Orders.{model-places, model-tops, model-identity, four-bytes, key-bytes}
+use Rattle.demands.specs.Model.{PlainSpot, hasIdentity, placeBefore, topBefore, ofPlaces, ofReport, chosen, insertBy, sortBy, listed, takenOut, broughtIn, highest, fourBytes, complement, asBytes, Plain, begunEmpty, Reply, outputAfter, refuse, accept, badTable, badLent, full, handOut, ownReply, reply}
+use Rattle.demands.proofs.Keyed.{KeyReply, keyReply, replyTo, refusedOr, accepted, changed, nextBy, gives}
+use Rattle.demands.proofs.Orders.{model-places, model-tops, model-identity, four-bytes, key-bytes}
 
 -- a spot of the model as the table's definitions have it
 abbrev pub toKeySpot : PlainSpot → Spot

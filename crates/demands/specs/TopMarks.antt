@@ -10,7 +10,7 @@ use lib.Dec.{eqb}
 use lib.IntN.{ℤ, negsuc}
 use Rattle.octets.specs.Bitmap.{bit}
 use Rattle.tree.specs.Read.{ReadBlock}
-use Rattle.table.specs.Model.{PlainSpot}
+use Rattle.demands.specs.Model.{PlainSpot}
 
 -- "the least 32-bit rank": -2147483648
 abbrev pub leastRank : ℤ

@@ -29,9 +29,9 @@ use Rattle.tree.specs.Lookup.{live}
 use Rattle.tree.specs.Walk.{liveSpots}
 use Rattle.tree.specs.Sound.{sound}
 use Rattle.tree.proofs.Tables.{shaped, live-none, live-rises, live-finds}
-use Rattle.table.specs.Model.{PlainSpot, placeBefore, topBefore}
-use Rattle.table.specs.Demands.{LiveSpot, InOrder, AllLive}
-use Rattle.table.proofs.Plain.{toKeySpot, keyed, SpotFits, AllFit, before-is, top-is}
+use Rattle.demands.specs.Model.{PlainSpot, placeBefore, topBefore}
+use Rattle.demands.specs.Demands.{LiveSpot, InOrder, AllLive}
+use Rattle.demands.proofs.Plain.{toKeySpot, keyed, SpotFits, AllFit, before-is, top-is}
 
 -- ---- a spot of the table in whole numbers
 

@@ -15,12 +15,12 @@ use Rattle.block.specs.Fresh.{formatted}
 use Rattle.tree.specs.ReadMap.{ones}
 use Rattle.tree.specs.Sound.{sound}
 use Rattle.tree.specs.Read.{ReadBlock}
 use Rattle.table.specs.Calls.{Call, format, add, withdraw, report, top, count, check, rebuild, kind, mayChange, isQuery, Lengths, argumentsFit}
 use Rattle.table.specs.Answers.{lengths}
 use Rattle.table.specs.Queries.{ReportPost, TopPost, CountPost, CheckPost}
 use Rattle.table.specs.Updates.{FormatPost, AddPost, WithdrawPost, RebuildPost}
-use Rattle.table.specs.Model.{Plain, PlainSpot, begunEmpty, Reply, reply, outputAfter, listed}
-use Rattle.table.specs.TopMarks.{MarksFew}
+use Rattle.demands.specs.Model.{Plain, PlainSpot, begunEmpty, Reply, reply, outputAfter, listed}
+use Rattle.demands.specs.TopMarks.{MarksFew}
 
 -- a call as it happened: what it was lent beside the table, what it answered, and all that it left. "Outputs, maps and work areas may be of any length
 -- and hold anything"; what a call isn't lent is of no account.

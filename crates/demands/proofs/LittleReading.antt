@@ -8,12 +8,12 @@ use Rattle.spot.specs.Keys.{signed32, unsigned32}
 use Rattle.block.specs.Header.{headOf}
 use Rattle.block.proofs.Facts.{head-facts}
 use Rattle.tree.proofs.Tables.{sound-header}
 use Rattle.table.specs.Calls.{top, argumentsFit}
-use Rattle.table.specs.Demands.{LittleReading}
-use Rattle.table.proofs.Plain.{two-fit}
-use Rattle.table.proofs.Histories.{step}
-use Rattle.table.proofs.Demand.{tree-laws}
-use Rattle.table.proofs.Demand2.{top-little}
+use Rattle.demands.specs.Demands.{LittleReading}
+use Rattle.demands.proofs.Plain.{two-fit}
+use Rattle.demands.proofs.Histories.{step}
+use Rattle.demands.proofs.Demand.{tree-laws}
+use Rattle.demands.proofs.Demand2.{top-little}
 
 pub little-reading : LittleReading
 unfolding argumentsFit

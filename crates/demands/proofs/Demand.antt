@@ -20,16 +20,16 @@ use Rattle.block.specs.declared.Answer.{Answer}
 use Rattle.tree.specs.Sound.{sound}
 use Rattle.tree.specs.Walk.{spots, liveSpots}
 use Rattle.tree.specs.Top.{topTable}
 use Rattle.table.specs.Calls.{Call, report, top, queries, Lengths, argumentsFit}
-use Rattle.table.specs.Model.{Plain, PlainSpot, Reply, begunEmpty, outputAfter, refuse, accept, badTable, badLent, handOut, ownReply, reply, highest}
-use Rattle.table.specs.TopMarks.{MarksFew}
-use Rattle.table.specs.History.{Event, MetBy, History, Agreed, FullExactly, MarksExactly, TopMarksFew, AllAgreed, Demand3, lengthsIn, replyIn, modelAfter}
+use Rattle.demands.specs.Model.{Plain, PlainSpot, Reply, begunEmpty, outputAfter, refuse, accept, badTable, badLent, handOut, ownReply, reply, highest}
+use Rattle.demands.specs.TopMarks.{MarksFew}
+use Rattle.demands.specs.History.{Event, MetBy, History, Agreed, FullExactly, MarksExactly, TopMarksFew, AllAgreed, Demand3, lengthsIn, replyIn, modelAfter}
 use Rattle.tree.proofs.Fresh.{fresh-sized, fresh-sound, fresh-empty}
 use Rattle.octets.proofs.Tests.{and-left, and-right}
-use Rattle.table.proofs.Histories.{TreeLaws, keyReplyIn, map-accepted, step}
-use Rattle.table.proofs.Plain.{keyed, AllFit, Like, like, bad-table, keyed-highest, highest-fit}
-use Rattle.table.proofs.MarksFew.{marks-few}
-use Rattle.table.proofs.Sorted.{stays-held, says-full}
+use Rattle.demands.proofs.Histories.{TreeLaws, keyReplyIn, map-accepted, step}
+use Rattle.demands.proofs.Plain.{keyed, AllFit, Like, like, bad-table, keyed-highest, highest-fit}
+use Rattle.demands.proofs.MarksFew.{marks-few}
+use Rattle.demands.proofs.Sorted.{stays-held, says-full}
 use Rattle.tree.proofs.Tables.{live-rises, live-finds, report-finds, count-finds}
 use Rattle.tree.proofs.Second.{report-second}
 use Rattle.tree.proofs.Tops.{top-finds, top-rises}

@@ -28,12 +28,12 @@ use Rattle.tree.specs.ReadMap.{readMap, ones}
 use Rattle.tree.specs.Sound.{sound}
 use Rattle.tree.specs.Lookup.{live, withKey}
 use Rattle.tree.proofs.Says.{find-replaced, replaced-rises}
 use Rattle.table.specs.Calls.{Call, format, add, withdraw, report, top, count, check, rebuild, isQuery}
 use Rattle.table.specs.Answers.{withScratch, withOutput, earlyNumber, spotsAnswer, outputLeft, unlessRefused, mapLeft}
 use Rattle.table.specs.Queries.{walkAnswer, countAnswer, QueryPost}
 use Rattle.table.specs.Updates.{UpdatePost}
-use Rattle.table.specs.History.{Event, MetBy, lengthsIn, SecondTable, SameOnSecond, Agreed}
-use Rattle.table.proofs.Keyed.{KeyReply, keyReply, replyTo, refusedOr, accepted, changed, nextBy, gives}
+use Rattle.demands.specs.History.{Event, MetBy, lengthsIn, SecondTable, SameOnSecond, Agreed}
+use Rattle.demands.proofs.Keyed.{KeyReply, keyReply, replyTo, refusedOr, accepted, changed, nextBy, gives}
 
 -- what the tree's theorems give of a sound table
 pub record TreeLaws : Type 0 where

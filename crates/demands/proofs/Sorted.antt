@@ -14,10 +14,10 @@ use Rattle.octets.specs.Lists.{every, keep}
 use Rattle.octets.proofs.Tests.{and-left, and-right, and-both, every-mem, every-make, keep-in, keep-length, neither}
 use Rattle.octets.proofs.Order.{less-or-not}
 use Rattle.spot.specs.Keys.{key, signed32, unsigned32}
 use Rattle.table.specs.Calls.{Call, format, add, withdraw, report, top, count, check, rebuild, kind, Lengths, argumentsFit}
-use Rattle.table.specs.Model.{PlainSpot, hasIdentity, placeBefore, ofReport, chosen, insertBy, listed, takenOut, broughtIn, highest, Plain, Reply, refuse, accept, badTable, badLent, full, handOut, ownReply, reply}
-use Rattle.table.specs.Demands.{InOrder}
-use Rattle.table.proofs.Plain.{toKeySpot, SpotFits, AllFit, before-is, identity-key, out-fit, two-fit}
+use Rattle.demands.specs.Model.{PlainSpot, hasIdentity, placeBefore, ofReport, chosen, insertBy, listed, takenOut, broughtIn, highest, Plain, Reply, refuse, accept, badTable, badLent, full, handOut, ownReply, reply}
+use Rattle.demands.specs.Demands.{InOrder}
+use Rattle.demands.proofs.Plain.{toKeySpot, SpotFits, AllFit, before-is, identity-key, out-fit, two-fit}
 
 -- no identity stands twice
 abbrev pub IdentityOnce : List PlainSpot → Type 0

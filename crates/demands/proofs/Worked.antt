@@ -22,11 +22,11 @@ use Rattle.block.specs.Fresh.{formatted}
 use Rattle.tree.specs.Walk.{Walk, spots}
 use Rattle.tree.specs.Sound.{sound}
 use Rattle.tree.proofs.Fresh.{fresh-sized, fresh-walk, fresh-sound, fresh-levels}
 use Rattle.table.specs.Calls.{Call, format, add, withdraw, report, top, count, check, rebuild, Lengths, argumentsFit}
 use Rattle.table.specs.Answers.{withOutput, spotsAnswer, outputLeft}
 use Rattle.table.specs.Queries.{walkAnswer, ReportPost}
-use Rattle.table.specs.Model.{Plain, begunEmpty, eqZ, hasIdentity, placeBefore, topBefore, ofPlaces, ofReport, takenOut, broughtIn, highest, fourBytes, complement, Reply, outputAfter, refuse, accept, badTable, badLent, full, handOut, ownReply, reply}
+use Rattle.demands.specs.Model.{Plain, begunEmpty, eqZ, hasIdentity, placeBefore, topBefore, ofPlaces, ofReport, takenOut, broughtIn, highest, fourBytes, complement, Reply, outputAfter, refuse, accept, badTable, badLent, full, handOut, ownReply, reply}
 use Rattle.table.proofs.Answering.{long-enough}
 
 -- a table of this many blocks, a read map and a work area as they should be, and an output of this many bytes
 abbrev lens : ℕ → ℕ → Lengths

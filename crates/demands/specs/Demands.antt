@@ -16,13 +16,13 @@ use Rattle.spot.specs.Query.{query, topQuery}
 use Rattle.block.specs.declared.Answer.{Answer}
 use Rattle.tree.specs.Lookup.{live}
 use Rattle.tree.specs.Sound.{sound}
 use Rattle.table.specs.Calls.{Call, add, withdraw, report, top, isQuery, argumentsFit}
 use Rattle.table.specs.Answers.{lengths, earlyNumber, spotsAnswer}
 use Rattle.table.specs.Queries.{HandsOut, ReportPost, TopPost}
 use Rattle.table.specs.Updates.{AddPost, WithdrawPost}
-use Rattle.table.specs.Model.{PlainSpot, hasIdentity, placeBefore, topBefore, asBytes}
-use Rattle.table.specs.History.{Event, MetBy, SecondTable, SameOnSecond}
-use Rattle.table.specs.TopMarks.{MarksFew}
+use Rattle.demands.specs.Model.{PlainSpot, hasIdentity, placeBefore, topBefore, asBytes}
+use Rattle.demands.specs.History.{Event, MetBy, SecondTable, SameOnSecond}
+use Rattle.demands.specs.TopMarks.{MarksFew}
 
 -- ---- demand 1
 

@@ -25,9 +25,9 @@ use Rattle.tree.proofs.Marks.{map-bit, read-in, zero-marked}
 use Rattle.tree.proofs.Sources.{read-marked}
 use Rattle.tree.proofs.ReadWords.{marks-exact-words}
 use Rattle.tree.proofs.TopMarks.{top-within, top-within-all, top-zero}
-use Rattle.table.specs.Model.{PlainSpot}
-use Rattle.table.specs.TopMarks.{leastRank, lastRank, rankReached, MarksFew}
-use Rattle.table.proofs.Plain.{toKeySpot, keyed, SpotFits, AllFit, keyed-length}
+use Rattle.demands.specs.Model.{PlainSpot}
+use Rattle.demands.specs.TopMarks.{leastRank, lastRank, rankReached, MarksFew}
+use Rattle.demands.proofs.Plain.{toKeySpot, keyed, SpotFits, AllFit, keyed-length}
 
 -- ---- the last spot of a list
 

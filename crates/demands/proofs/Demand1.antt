@@ -25,13 +25,13 @@ use Rattle.tree.specs.Walk.{Walk, broken, walked, spots, blocksRead, walkTable}
 use Rattle.tree.proofs.Fresh.{fresh-sized}
 use Rattle.tree.proofs.Marks.{zero-marked}
 use Rattle.tree.proofs.Sources.{walk-sources, read-in-table, read-marked}
 use Rattle.table.specs.Calls.{Call, format, add, withdraw, report, top, count, check, rebuild, kind, isQuery, Lengths}
 use Rattle.table.specs.Answers.{ofTable, withScratch, withOutput, lent, earlyNumber, unlessRefused, spotsAnswer, outputLeft, mapLeft, outcomes}
 use Rattle.table.specs.Queries.{walkAnswer, countAnswer, ReportPost, TopPost, HandsOut}
 use Rattle.table.specs.Updates.{UpdatePost}
-use Rattle.table.specs.History.{Event, MetBy}
-use Rattle.table.specs.Demands.{refusals, TurnedDown, OnlyMarked, Demand1}
-use Rattle.table.proofs.Histories.{map-accepted}
+use Rattle.demands.specs.History.{Event, MetBy}
+use Rattle.demands.specs.Demands.{refusals, TurnedDown, OnlyMarked, Demand1}
+use Rattle.demands.proofs.Histories.{map-accepted}
 
 -- ---- the numbers
 

@@ -35,18 +35,18 @@ use Rattle.tree.specs.Sound.{sound}
 use Rattle.tree.proofs.Tables.{live-rises, report-finds, counted, sound-header}
 use Rattle.tree.proofs.Tops.{top-finds, top-rises}
 use Rattle.revise.specs.Numbers.{addNumber}
 use Rattle.table.specs.Calls.{Call, add, withdraw, report, top, argumentsFit}
 use Rattle.table.specs.Answers.{withScratch, withOutput, earlyNumber, unlessRefused, spotsAnswer, outputLeft}
 use Rattle.table.specs.Queries.{walkAnswer, QueryPost, ReportPost, TopPost}
 use Rattle.table.specs.Updates.{AddPost, WithdrawPost}
-use Rattle.table.specs.Model.{PlainSpot, hasIdentity, placeBefore, topBefore, asBytes}
-use Rattle.table.specs.TopMarks.{MarksFew}
-use Rattle.table.specs.Demands.{LiveSpot, OfPlaces, InOrder, AtCapacity, ReportOf, TopOf, HandedOut, AddedTo, WithdrawnFrom, Demand2}
-use Rattle.table.proofs.Plain.{toKeySpot, SpotFits, identity-key, keyed-bytes, two-fit}
+use Rattle.demands.specs.Model.{PlainSpot, hasIdentity, placeBefore, topBefore, asBytes}
+use Rattle.demands.specs.TopMarks.{MarksFew}
+use Rattle.demands.specs.Demands.{LiveSpot, OfPlaces, InOrder, AtCapacity, ReportOf, TopOf, HandedOut, AddedTo, WithdrawnFrom, Demand2}
+use Rattle.demands.proofs.Plain.{toKeySpot, SpotFits, identity-key, keyed-bytes, two-fit}
 use Rattle.table.proofs.Changes.{number-is}
-use Rattle.table.proofs.Histories.{map-accepted}
-use Rattle.table.proofs.MarksFew.{marks-few}
-use Rattle.table.proofs.Alive.{plain, Small, keyed-plain, plain-length, plain-take, plain-fit, plain-mem, mem-plain, rises-in-order, falls-in-order, take-order, take-first, same-order, first-order, before-apart, higher-apart, alive-fits, kept-small, kept-live, live-kept, all-live, live-count}
+use Rattle.demands.proofs.Histories.{map-accepted}
+use Rattle.demands.proofs.MarksFew.{marks-few}
+use Rattle.demands.proofs.Alive.{plain, Small, keyed-plain, plain-length, plain-take, plain-fit, plain-mem, mem-plain, rises-in-order, falls-in-order, take-order, take-first, same-order, first-order, before-apart, higher-apart, alive-fits, kept-small, kept-live, live-kept, all-live, live-count}
 
 -- ---- what a query hands out
 

@@ -16,7 +16,7 @@ use Rattle.spot.specs.Spots.{keyBytes}
 use Rattle.spot.proofs.Signed.{Fits}
 use Rattle.spot.proofs.Orders.{key-place, key-rank, place-order, same-identity}
 use Rattle.spot.proofs.TopKeys.{top-order}
-use Rattle.table.specs.Model.{eqZ, fourBytes, complement}
+use Rattle.demands.specs.Model.{eqZ, fourBytes, complement}
 
 -- the model's equality of whole numbers
 pub eqZ-biased : (x y : ℤ) → Fits x → Fits y → eqZ x y ≡ eqb (biased x) (biased y)

@@ -1,0 +1,4 @@
+pub mod Model
+pub mod TopMarks
+pub mod History
+pub mod Demands
