@@ -51,6 +51,10 @@ int main(void) {
         if (spot_marked(read_map, i)) printf(" %u", (unsigned)i);
     printf("\n");
 
+    n = accepted("report", spot_report(table, sizeof table, 240, -120, 0, output, sizeof output, read_map, sizeof read_map));
+    printf("%" PRIu32 " spots from 240 cm on past the door to -120 cm with rank 0 or more:\n", n);
+    print(n);
+
     n = accepted("top", spot_top(table, sizeof table, INT32_MIN, INT32_MAX, 1, output, sizeof output, read_map, sizeof read_map));
     printf("the best of all:\n");
     print(n);

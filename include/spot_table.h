@@ -134,13 +134,15 @@ uint64_t spot_count(const uint8_t *table, size_t table_len);
 uint64_t spot_check(const uint8_t *table, size_t table_len);
 
 /* All live spots with x1 <= place <= x2 and rank >= y, rising in place order (by place, then by rank), 12 bytes each: place, rank, track, big-endian.
+ * If x1 is greater than x2, the range runs on past the door: the spots of all places from x1 up come first, followed by those of all places up to x2.
  * The read map marks the blocks read. The rest of the output stays as it was. */
 uint64_t spot_report(const uint8_t *table, size_t table_len, int32_t x1, int32_t x2, int32_t y,
                      uint8_t *output, size_t output_len, uint8_t *read_map, size_t read_map_len);
 
 /* Of the live spots with x1 <= place <= x2 the k of highest rank, the highest first; all, if fewer. Of equal ranks the lower place comes first, and stays where k cuts
- * between them. Output as for spot_report. The read map marks the blocks that spot_report over the same places, from the rank of the last of the k spots, marks (from
- * the least rank, if there are fewer than k), and for k = 0 block 0 alone. */
+ * between them. If x1 is greater than x2, the range runs on past the door as for spot_report; the order is the same. Output as for spot_report. The read map marks the
+ * blocks that spot_report over the same places, from the rank of the last of the k spots, marks (from the least rank, if there are fewer than k), and for k = 0 block 0
+ * alone. */
 uint64_t spot_top(const uint8_t *table, size_t table_len, int32_t x1, int32_t x2, uint32_t k,
                   uint8_t *output, size_t output_len, uint8_t *read_map, size_t read_map_len);
 

@@ -95,13 +95,15 @@ pub fn check(table: &[u8]) -> Answer {
     Answer::unpack(unsafe { spot_check(table.as_ptr(), table.len()) })
 }
 
-/// All live spots with x1 ≤ place ≤ x2 and rank ≥ y, rising in place order; the read map marks the blocks read.
+/// All live spots with x1 ≤ place ≤ x2 and rank ≥ y, rising in place order; the read map marks the blocks read. If x1 is greater than x2, the range runs on past the door: the spots
+/// of all places from x1 up come first, followed by those of all places up to x2.
 pub fn report(table: &[u8], x1: i32, x2: i32, y: i32, output: &mut [u8], read_map: &mut [u8]) -> Answer {
     let (t, n) = (table.as_ptr(), table.len());
     Answer::unpack(unsafe { spot_report(t, n, x1, x2, y, output.as_mut_ptr(), output.len(), read_map.as_mut_ptr(), read_map.len()) })
 }
 
 /// Of the live spots with x1 ≤ place ≤ x2 the k of highest rank, the highest first, of equal ranks those of lower places, the lower first; the read map marks the blocks read.
+/// If x1 is greater than x2, the range runs on past the door as for [`report`]; the order is the same.
 pub fn top(table: &[u8], x1: i32, x2: i32, k: u32, output: &mut [u8], read_map: &mut [u8]) -> Answer {
     let (t, n) = (table.as_ptr(), table.len());
     Answer::unpack(unsafe { spot_top(t, n, x1, x2, k, output.as_mut_ptr(), output.len(), read_map.as_mut_ptr(), read_map.len()) })

@@ -57,7 +57,8 @@ impl<B: AsRef<[u8]>> Table<B> {
         raw::check(self.bytes()).result().map(|yes| yes == 1)
     }
 
-    /// All live spots with x1 ≤ place ≤ x2 and rank ≥ y, rising in place order. The output takes 12 bytes each; the map marks the blocks read.
+    /// All live spots with x1 ≤ place ≤ x2 and rank ≥ y, rising in place order. The output takes 12 bytes each; the map marks the blocks read. If x1 is greater than x2, the range
+    /// runs on past the door: the spots of all places from x1 up come first, followed by those of all places up to x2.
     ///
     /// ```
     /// use spot_table::{ReadMap, Refusal, Spot, Table};
@@ -68,6 +69,10 @@ impl<B: AsRef<[u8]>> Table<B> {
     /// let mut map = ReadMap::new();
     /// let refused = table.report(0, 240, 7, &mut [0; 12], &mut map).unwrap_err();
     /// assert_eq!(refused, Refusal::Output { spots: 2 });
+    ///
+    /// let mut output = [0; 24];
+    /// let past_the_door = table.report(240, 0, 7, &mut output, &mut map)?;
+    /// assert_eq!(past_the_door.map(|s| s.place).collect::<Vec<_>>(), [240, 0]);
     /// # Ok::<(), Refusal>(())
     /// ```
     pub fn report<'o>(&self, x1: i32, x2: i32, y: i32, output: &'o mut [u8], map: &mut ReadMap) -> Result<Spots<'o>, Refusal> {
@@ -76,8 +81,8 @@ impl<B: AsRef<[u8]>> Table<B> {
     }
 
     /// Of the live spots with x1 ≤ place ≤ x2 the k of highest rank, the highest first; of equal ranks the lower place comes first, and stays where k cuts between them. All, if
-    /// there are fewer. Output as for `report`; the map marks the blocks that a report from the rank of the last of the k spots marks (from the least rank, if there are fewer), and block 0 alone for
-    /// k = 0.
+    /// there are fewer. If x1 is greater than x2, the range runs on past the door as for `report`; the order is the same. Output as for `report`; the map marks the blocks that a
+    /// report from the rank of the last of the k spots marks (from the least rank, if there are fewer), and block 0 alone for k = 0.
     ///
     /// ```
     /// use spot_table::{ReadMap, Spot, Table};

@@ -72,7 +72,9 @@ fn stack() {
         assert_eq!((table.count(), table.check()), (Ok(2999), Ok(true)));
         let (mut output, mut map) = (vec![0; 65_520 * SPOT], ReadMap::new());
         assert_eq!(table.report(i32::MIN, i32::MAX, i32::MIN, &mut output, &mut map).unwrap().len(), 2999);
+        assert_eq!(table.report(1, 0, i32::MIN, &mut output, &mut map).unwrap().len(), 2999);
         assert_eq!(table.top(i32::MIN, i32::MAX, u32::MAX, &mut output, &mut map).unwrap().len(), 2999);
+        assert_eq!(table.top(1, 0, u32::MAX, &mut output, &mut map).unwrap().len(), 2999);
     };
     std::thread::Builder::new().stack_size(STACK + 16384).spawn(run).unwrap().join().unwrap();
 }

@@ -1,6 +1,6 @@
 //! Report, Count, Check and Format against the plain implementation, on sound tables in many arrangements and on damaged ones.
 
-use spot_reference::{make, read_by_report, some_spots, Random};
+use spot_reference::{make, read_by_report, reported, some_spots, Random};
 use spot_table::*;
 
 fn marks(map: &[u8]) -> Vec<usize> {
@@ -62,6 +62,8 @@ fn reports() {
             let (x1, x2) = match random.below(8) {
                 0 => (i32::MIN, i32::MAX),
                 1 => (x1 + 5, x1),
+                // past the door
+                2 | 3 => (x1 + wide, x1),
                 _ => (x1, x1 + wide),
             };
             let y = match random.below(5) {
@@ -69,12 +71,8 @@ fn reports() {
                 1 => i32::MAX,
                 _ => random.below(4000) as i32 - 2000,
             };
-            let due: Vec<Spot> = made
-                .live
-                .iter()
-                .filter(|(k, _)| x1 <= k.0 && k.0 <= x2 && k.1 >= y)
-                .map(|(k, t)| Spot { place: k.0, rank: k.1, track: *t })
-                .collect();
+            let due = reported(&made.live, x1, x2, y);
+            let due: Vec<Spot> = due.into_iter().map(|(k, t)| Spot { place: k.0, rank: k.1, track: t }).collect();
             let room = 12 * due.len() + random.below(24);
             let (a, out, map) = ask(&made.table, x1, x2, y, room);
             assert_eq!(a, Answer::new(0, due.len() as u32), "round {round}: {x1} {x2} {y}");

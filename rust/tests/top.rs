@@ -1,6 +1,6 @@
 //! Top against the plain list and against the blocks that a Report at the last rank reads, on sound tables with and without waiting changes, and on damaged ones.
 
-use spot_reference::{make, read_by_report, some_spots, top_order, Key, Node, Random};
+use spot_reference::{holds, make, read_by_report, some_spots, top_order, Key, Node, Random};
 use spot_table::*;
 use std::collections::BTreeMap;
 
@@ -16,7 +16,7 @@ fn ask(table: &[u8], x1: i32, x2: i32, k: u32, room: usize) -> (Answer, Vec<u8>,
 
 /// The first k of the range in the order of Top's answers, by a plain sort.
 fn due(live: &BTreeMap<Key, u32>, x1: i32, x2: i32, k: usize) -> Vec<Spot> {
-    let placed = live.iter().filter(|(key, _)| (x1..=x2).contains(&key.0));
+    let placed = live.iter().filter(|(key, _)| holds(x1, x2, key.0));
     let mut all: Vec<Spot> = placed.map(|(key, t)| Spot { place: key.0, rank: key.1, track: *t }).collect();
     all.sort_by_key(|s| top_order((s.place, s.rank)));
     all.truncate(k);
@@ -28,6 +28,8 @@ fn places(random: &mut Random) -> (i32, i32) {
     match random.below(8) {
         0 => (i32::MIN, i32::MAX),
         1 => (x1 + 5, x1),
+        // past the door
+        2 | 3 => (x1 + random.below(5000) as i32, x1),
         _ => (x1, x1 + random.below(5000) as i32),
     }
 }
@@ -103,7 +105,7 @@ fn rows_of_one_rank() {
         }
         let root = Node::read(&table[BLOCK * (table[7] as usize)..][..BLOCK]);
         beside += root.inserts.keys().any(|a| root.points.keys().any(|p| a.1 == p.1 && a.0 < p.0)) as usize;
-        for (x1, x2) in [(i32::MIN, i32::MAX), (-100, 100), (160 - i, 165 - i)] {
+        for (x1, x2) in [(i32::MIN, i32::MAX), (-100, 100), (160 - i, 165 - i), (100, -100)] {
             for k in 0..=live.len() + 1 {
                 let want = due(&live, x1, x2, k);
                 let (a, out, _) = ask(&table, x1, x2, k as u32, 12 * want.len());
@@ -173,7 +175,7 @@ fn damaged() {
                 0 => {
                     assert!(a.detail <= k && map[0] & 1 == 1);
                     for s in spot_table::spots(&out, a.detail as usize) {
-                        assert!(x1 <= s.place && s.place <= x2);
+                        assert!(holds(x1, x2, s.place));
                     }
                     assert!(out[12 * a.detail as usize..].iter().all(|x| *x == 0xEE));
                 }

@@ -34,6 +34,16 @@ Examples:
   spotcard import sheet.csv show.card             add all rows
   spotcard import sheet.csv show.card --replace   exactly the rows of the sheet";
 
+const REPORT_EXAMPLES: &str = "\
+Examples:
+  spotcard report show.card 0 2400 5       the first 24 metres, rank 5 or more
+  spotcard report show.card 9000 300 5     from 90 metres on, past the door, to 3 metres";
+
+const TOP_EXAMPLES: &str = "\
+Examples:
+  spotcard top show.card 0 2400 3          the three best of the first 24 metres
+  spotcard top show.card 9000 300 3        the three best from 90 metres on, past the door, to 3 metres";
+
 #[derive(Parser)]
 #[command(name = "spotcard", version, about = ABOUT, long_about = LONG_ABOUT, after_help = EXIT_CODES)]
 pub struct Cli {
@@ -133,7 +143,9 @@ pub enum Command {
         wait: Wait,
     },
     /// Show the spots between two places with at least a given rank, in place order
-    #[command(after_help = "Example: spotcard report show.card 0 2400 5       the first 24 metres, rank 5 or more")]
+    ///
+    /// If the first place is greater than the last, the range runs on past the door: all places from the first up, followed by all places up to the last.
+    #[command(after_help = REPORT_EXAMPLES)]
     Report {
         /// The card
         card: PathBuf,
@@ -148,7 +160,9 @@ pub enum Command {
     /// Show the spots of highest rank between two places, best first
     ///
     /// Of equal ranks the lower place comes first: a guide takes the cases of a row from the entrance on.
-    #[command(after_help = "Example: spotcard top show.card 0 2400 3          the three best of the first 24 metres")]
+    ///
+    /// If the first place is greater than the last, the range runs on past the door: all places from the first up, and all places up to the last.
+    #[command(after_help = TOP_EXAMPLES)]
     Top {
         /// The card
         card: PathBuf,
@@ -223,9 +237,20 @@ pub struct Range {
     /// First place in centimetres
     #[arg(allow_negative_numbers = true, value_parser = signed)]
     pub x1: i32,
-    /// Last place in centimetres
+    /// Last place in centimetres; if it is less than the first, the range runs on past the door
     #[arg(allow_negative_numbers = true, value_parser = signed)]
     pub x2: i32,
+}
+
+impl Range {
+    pub fn words(&self) -> String {
+        let Range { x1, x2 } = *self;
+        if x1 <= x2 {
+            format!("from {x1} to {x2} cm")
+        } else {
+            format!("from {x1} cm on past the door to {x2} cm")
+        }
+    }
 }
 
 #[derive(Args)]

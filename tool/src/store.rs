@@ -108,12 +108,12 @@ impl Table {
         accepted(spot_table::rebuild(&mut self.bytes, &mut self.work)).map(|_| ())
     }
 
-    /// The live spots from place x1 to x2 with rank y or more, rising in place order.
+    /// The live spots from place x1 to x2 with rank y or more, rising in place order. If x1 is greater, the places from x1 up and then those up to x2.
     pub fn report(&self, x1: i32, x2: i32, y: i32) -> Result<Found, Refusal> {
         self.ask(|table, out, map| spot_table::report(table, x1, x2, y, out, map))
     }
 
-    /// The k of highest rank of the live spots from place x1 to x2, the highest first, of equal ranks the lower place.
+    /// The k of highest rank of the live spots from place x1 to x2, or past the door, the highest first, of equal ranks the lower place.
     pub fn top(&self, x1: i32, x2: i32, k: u32) -> Result<Found, Refusal> {
         self.ask(|table, out, map| spot_table::top(table, x1, x2, k, out, map))
     }

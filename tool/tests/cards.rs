@@ -112,7 +112,29 @@ fn reports_and_tops_are_shown_in_their_order() {
         .says("4 spots from 0 to 300 cm with rank -9 or more")
         .says("2 blocks read of 32: 0 1");
     f.run(&["top", "a.card", "0", "300", "0", "--csv", "--blocks"]).exit(0).complains("1 block read of 32: 0");
-    f.run(&["report", "a.card", "5", "-5", "0"]).exit(0).says("0 spots").complains("no spot is between them");
+}
+
+#[test]
+fn ranges_run_on_past_the_door() {
+    let f = Folder::new();
+    f.card("a.card", 32, &[(-5, 5, 1), (0, 7, 2), (100, 9, 3), (240, 5, 4), (240, 7, 5), (300, 1, 6)]);
+    let report = |x1: &str, x2: &str, y: &str| f.run(&["report", "a.card", x1, x2, y, "--csv"]).exit(0);
+    let ran = report("240", "0", "5");
+    assert_eq!((ran.out, ran.err), (sheet(&[(240, 5, 4), (240, 7, 5), (-5, 5, 1), (0, 7, 2)]), String::new()));
+    assert_eq!(report("241", "-6", "0").out, sheet(&[(300, 1, 6)]));
+    assert_eq!(report("301", "-6", "-9").out, sheet(&[]));
+    assert_eq!(report("1", "0", "7").out, sheet(&[(100, 9, 3), (240, 7, 5), (0, 7, 2)]));
+    assert_eq!(report("2147483647", "-2147483648", "0").out, sheet(&[]));
+    assert_eq!(f.run(&["top", "a.card", "240", "0", "2", "--csv"]).exit(0).out, sheet(&[(0, 7, 2), (240, 7, 5)]));
+    assert_eq!(
+        f.run(&["top", "a.card", "240", "0", "9", "--csv"]).exit(0).out,
+        sheet(&[(0, 7, 2), (240, 7, 5), (-5, 5, 1), (240, 5, 4), (300, 1, 6)])
+    );
+    f.run(&["report", "a.card", "240", "0", "6"]).exit(0).says("2 spots from 240 cm on past the door to 0 cm with rank 6 or more\n");
+    f.run(&["top", "a.card", "300", "-5", "1"]).exit(0).says("the best 1 spot from 300 cm on past the door to -5 cm\n");
+    for command in ["report", "top"] {
+        f.run(&["help", command]).exit(0).says("runs on past the door");
+    }
 }
 
 #[test]
@@ -129,12 +151,13 @@ fn agree_with_a_plain_list(f: &Folder, card: &str, mut all: Vec<(i32, i32, u32)>
     all.sort();
     let mut random = common::Random(77);
     for _ in 0..25 {
+        // every other range runs on past the door, on average
         let (x1, x2) = (random.below(100_000) as i32, random.below(100_000) as i32);
-        let (x1, x2) = (x1.min(x2), x1.max(x2));
         let (y, k) = (random.below(1000) as i32, random.below(60) as usize);
-        let inside = || all.iter().copied().filter(|s| x1 <= s.0 && s.0 <= x2);
-        let report: Vec<_> = inside().filter(|s| s.1 >= y).collect();
-        let mut top: Vec<_> = inside().collect();
+        let stretches = if x1 <= x2 { vec![(x1, x2)] } else { vec![(x1, i32::MAX), (i32::MIN, x2)] };
+        let held = |(first, last): (i32, i32)| all.iter().copied().filter(move |s| first <= s.0 && s.0 <= last);
+        let mut top: Vec<_> = stretches.into_iter().flat_map(held).collect();
+        let report: Vec<_> = top.iter().copied().filter(|s| s.1 >= y).collect();
         top.sort_by_key(|s| (std::cmp::Reverse(s.1), s.0));
         top.truncate(k);
         let [x1, x2, y, k] = [x1.to_string(), x2.to_string(), y.to_string(), k.to_string()];
@@ -299,6 +322,34 @@ fn pictures_are_drawn_for_few_and_for_many() {
     f.run(&["new", "none.card", "--blocks", "9"]).exit(0);
     f.run(&["picture", "none.card", "-o", "none.svg"]).exit(0);
     assert!(f.text("none.svg").contains("no spots on this card"));
+}
+
+#[test]
+fn a_picture_shows_both_stretches_past_the_door() {
+    let f = Folder::new();
+    let all: Vec<_> = (0..100).map(|i| (100 * i, i % 10, i as u32)).collect();
+    f.card("a.card", 32, &all);
+    let draw = |query: [&str; 4]| {
+        let [what, x1, x2, y] = query;
+        f.run(&["picture", "a.card", what, x1, x2, y, "-o", "a.svg"]).exit(0);
+        f.text("a.svg")
+    };
+    let shaded = |svg: &str| svg.matches("fill-opacity=\"0.06\"").count();
+    let ringed = |svg: &str| svg.matches("fill=\"none\" stroke=\"#000\"").count();
+    let ring = draw(["--report", "9000", "990", "5"]);
+    assert_eq!((shaded(&ring), ringed(&ring)), (2, 10));
+    assert_eq!(ring.matches("class=\"query fine\"").count(), 2);
+    assert!(ring.contains("report past the door<") && ring.contains("places 9000 on to 990<") && ring.contains("10 spots found"));
+    let best = draw(["--top", "9000", "990", "3"]);
+    assert_eq!((shaded(&best), ringed(&best)), (2, 3));
+    assert!(best.contains("top past the door<") && !best.contains("outside this picture"));
+    let plain = draw(["--report", "990", "9000", "5"]);
+    assert!(shaded(&plain) == 1 && plain.contains(">report<") && plain.contains("places 990 to 9000<"));
+    // one stretch alone is shown, or none
+    let behind = draw(["--report", "9000", "-70000", "5"]);
+    assert!(shaded(&behind) == 1 && !behind.contains("outside this picture"));
+    let outside = draw(["--report", "70000", "-70000", "5"]);
+    assert!(shaded(&outside) == 0 && outside.contains("it lies outside this picture"));
 }
 
 #[test]

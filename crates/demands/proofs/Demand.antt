@@ -17,6 +17,7 @@ use Rattle.spot.specs.Spots.{byTop}
 use Rattle.spot.specs.Query.{topQuery, wants}
 use Rattle.spot.proofs.Signed.{signed-fits}
 use Rattle.block.specs.declared.Answer.{Answer}
+use Rattle.tree.specs.ReadMap.{readMap}
 use Rattle.tree.specs.Sound.{sound}
 use Rattle.tree.specs.Walk.{spots, liveSpots}
 use Rattle.tree.specs.Top.{topTable}
@@ -29,6 +30,7 @@ use Rattle.octets.proofs.Tests.{and-left, and-right}
 use Rattle.demands.proofs.Histories.{TreeLaws, keyReplyIn, map-accepted, step}
 use Rattle.demands.proofs.Plain.{keyed, AllFit, Like, like, bad-table, keyed-highest, highest-fit}
 use Rattle.demands.proofs.MarksFew.{marks-few}
+use Rattle.table.proofs.Reports.{report-blocks}
 use Rattle.demands.proofs.Sorted.{stays-held, says-full}
 use Rattle.tree.proofs.Tables.{live-rises, live-finds, report-finds, count-finds}
 use Rattle.tree.proofs.Second.{report-second}
@@ -75,7 +77,7 @@ marks-exactly c t e s a p x1 x2 y q z b l =
     let m : MetBy (report x1 x2 y) t e = subst (λ (d : Call). MetBy d t e) q p in
     let fits : signed32 x1 && signed32 x2 && signed32 y ≡ true = ap argumentsFit (sym q) ∙ a in
     let f = and-left (signed32 x1 && signed32 x2) (signed32 y) fits in
-    rw (m .promised .marks ∙ map-accepted _ _ _ z)
+    rw (m .promised .marks ∙ map-accepted _ _ _ z ∙ ap readMap (report-blocks t x1 x2 y))
     (marks-exact-words t x1 x2 y s (and-left (signed32 x1) (signed32 x2) f) (and-right (signed32 x1) (signed32 x2) f)
     (and-right (signed32 x1 && signed32 x2) (signed32 y) fits)
     b

@@ -3,7 +3,7 @@
 use mathlib.Core.Path.{_≡_, refl, ap, sym, subst, _∙_}
 use mathlib.Core.Logic.{⊎-elim}
 use mathlib.Core.Bool.{Bool, true, false, cond, _||_, false≢true}
-use mathlib.Core.List.{List, [], _∷_}
+use mathlib.Core.List.{List, [], _∷_, List·Memᴰ}
 use mathlib.Core.Option.{Option}
 use Prim.Native.Nat.{ℕ, zero, suc, _/_}
 use native.Mathlib.Omega.{arith}
@@ -13,15 +13,19 @@ use lib.ListN.{length}
 use borrow.Author.Tests.{ne-eqb, eqb-true}
 use Rattle.octets.specs.Lists.{every, has}
 use Rattle.octets.specs.Bitmap.{bit}
+use Rattle.octets.proofs.Lists.{mem-same}
 use Rattle.octets.proofs.Order.{same-or-not}
 use Rattle.octets.proofs.Sets.{has-mem}
 use Rattle.octets.proofs.Tests.{every-mem, every-make, or-left, or-right}
+use Rattle.spot.specs.declared.Spot.{Spot}
 use Rattle.spot.specs.Query.{query, wants}
 use Rattle.block.specs.declared.Answer.{Answer}
 use Rattle.block.specs.Answers.{answer}
 use Rattle.block.specs.Table.{tableSized}
 use Rattle.block.specs.Fresh.{formatted}
 use Rattle.tree.specs.Walk.{Walk, broken, walked, spots, blocksRead, walkTable}
+use Rattle.tree.specs.ReadMap.{readMap}
+use Rattle.tree.specs.Report.{reportTable}
 use Rattle.tree.proofs.Fresh.{fresh-sized}
 use Rattle.tree.proofs.Marks.{zero-marked}
 use Rattle.tree.proofs.Sources.{walk-sources, read-in-table, read-marked}
@@ -32,6 +36,8 @@ use Rattle.table.specs.Updates.{UpdatePost}
 use Rattle.demands.specs.History.{Event, MetBy}
 use Rattle.demands.specs.Demands.{refusals, TurnedDown, OnlyMarked, Demand1}
 use Rattle.demands.proofs.Histories.{map-accepted}
+use Rattle.table.proofs.Reports.{report-spots, report-blocks}
+use Rattle.demands.proofs.Onward.{from-on-mem}
 
 -- ---- the numbers
 
@@ -126,7 +132,7 @@ still-down c t e r same q z =
 module _ (x1 x2 y : ℤ) (t : List ℕ) (e : Event) (same : e .table′ ≡ t) (p : ReportPost x1 x2 y t (e .output) (e .readMap) (e .answer) (e .output′) (e .readMap′)) where
   report-refusal : Refusal (e .answer)
   report-refusal =
-      subst Refusal (sym (p .answered)) (refusal-lengths _ _ (by-lengths (withOutput t (e .output) (e .readMap)) (report x1 x2 y)) (refusal-walk (length (e .output)) (walkTable t (query x1 x2 y))))
+      subst Refusal (sym (p .answered)) (refusal-lengths _ _ (by-lengths (withOutput t (e .output) (e .readMap)) (report x1 x2 y)) (refusal-walk (length (e .output)) (reportTable t x1 x2 y)))
 
   report-down : (e .answer .number ≡ 0 → ⊥) → TurnedDown (report x1 x2 y) t e
   unfolding outputLeft mapLeft
@@ -139,11 +145,11 @@ module _ (x1 x2 y : ℤ) (t : List ℕ) (e : Event) (same : e .table′ ≡ t) (
         readMap = λ i. p .marks ∙ map (e .answer .number) z;
       }
     where
-      out : (n : ℕ) → (n ≡ 0 → ⊥) → outputLeft n (spots (walkTable t (query x1 x2 y))) (e .output) ≡ e .output
+      out : (n : ℕ) → (n ≡ 0 → ⊥) → outputLeft n (spots (reportTable t x1 x2 y)) (e .output) ≡ e .output
       out zero h = absurd (h refl)
       out (suc n) h = refl
 
-      map : (n : ℕ) → (n ≡ 0 → ⊥) → mapLeft n (blocksRead (walkTable t (query x1 x2 y))) (e .readMap) ≡ e .readMap
+      map : (n : ℕ) → (n ≡ 0 → ⊥) → mapLeft n (blocksRead (reportTable t x1 x2 y)) (e .readMap) ≡ e .readMap
       map zero h = absurd (h refl)
       map (suc n) h = refl
 
@@ -154,17 +160,20 @@ module _ (x1 x2 y : ℤ) (t : List ℕ) (e : Event) (same : e .table′ ≡ t) (
   report-detail zero (walked found blocks) a z = ap (λ (x : Answer). x .detail) a
   report-detail (suc n) v a z = let h : suc n ≡ 0 = sym (ap (λ (x : Answer). x .number) a) ∙ z in let y : ⊥ = omega arith in absurd y
 
+  walk-spot : (s : Spot) → List·Memᴰ s (spots (reportTable t x1 x2 y)) → List·Memᴰ s (spots (walkTable t (query x1 x2 y)))
+  walk-spot s i = from-on-mem _ (spots (walkTable t (query x1 x2 y))) (mem-same (report-spots t x1 x2 y) i)
+
   report-out : e .answer .number ≡ 0 → HandsOut (query x1 x2 y) t (e .output) (e .answer) (e .output′) (e .readMap′)
   report-out z =
       let q = query x1 x2 y in
-      let marks : e .readMap′ ≡ _ = p .marks ∙ map-accepted _ _ _ z in
+      let marks : e .readMap′ ≡ readMap (blocksRead (walkTable t q)) = p .marks ∙ map-accepted _ _ _ z ∙ ap readMap (report-blocks t x1 x2 y) in
       record {
-        given = spots (walkTable t q);
-        output = p .output ∙ ap (λ (n : ℕ). outputLeft n (spots (walkTable t q)) (e .output)) z;
-        detail = report-detail _ (walkTable t q) (p .answered) z;
-        wanted = every-make (wants q) (spots (walkTable t q)) (λ s i. walk-sources t q s i .0);
+        given = spots (reportTable t x1 x2 y);
+        output = p .output ∙ ap (λ (n : ℕ). outputLeft n (spots (reportTable t x1 x2 y)) (e .output)) z;
+        detail = report-detail _ (reportTable t x1 x2 y) (p .answered) z;
+        wanted = every-make (wants q) (spots (reportTable t x1 x2 y)) (λ s i. walk-sources t q s (walk-spot s i) .0);
         marked = λ s i.
-            let r = walk-sources t q s i .1 in
+            let r = walk-sources t q s (walk-spot s i) .1 in
             (r .0, ap (λ (m : List ℕ). bit m (r .0)) marks ∙ read-marked t q (r .0) (r .1), r .2, λ n. omega (arith, read-in-table t q (r .0) (r .1) .some));
         header = ap (λ (m : List ℕ). bit m 0) marks ∙ zero-marked (blocksRead (walkTable t q));
       }

@@ -19,8 +19,9 @@ use Rattle.octets.proofs.Tests.{and-left, and-right, and-both, refuted}
 use Rattle.octets.proofs.Order.{less-or-not}
 use Rattle.spot.specs.declared.Spot.{Spot}
 use Rattle.spot.specs.Keys.{key, signed32, unsigned32}
-use Rattle.spot.specs.Spots.{spotsBytes, byTop}
-use Rattle.spot.specs.Query.{query, topQuery, wants}
+use Rattle.spot.specs.Spots.{spotsBytes, byTop, fromOn}
+use Rattle.spot.specs.Range.{ofRange}
+use Rattle.spot.specs.Query.{query, topQuery, fromOf, wants}
 use Rattle.spot.proofs.Signed.{Fits, signed-fits, fits-signed}
 use Rattle.spot.proofs.Orders.{key-inj, report-wants, top-wants}
 use Rattle.spot.proofs.Ranks.{byTop-from, byTop-in}
@@ -29,7 +30,8 @@ use Rattle.block.specs.declared.Answer.{Answer}
 use Rattle.block.specs.Header.{headOf}
 use Rattle.block.proofs.Facts.{head-facts}
 use Rattle.tree.specs.Lookup.{live, isLive, withKey}
-use Rattle.tree.specs.Walk.{Walk, spots, Finds, liveSpots, liveCount, walkTable}
+use Rattle.tree.specs.Walk.{Walk, spots, Finds, liveSpots, liveCount}
+use Rattle.tree.specs.Report.{reportTable}
 use Rattle.tree.specs.Top.{topTable}
 use Rattle.tree.specs.Sound.{sound}
 use Rattle.tree.proofs.Tables.{live-rises, report-finds, counted, sound-header}
@@ -39,14 +41,16 @@ use Rattle.table.specs.Calls.{Call, add, withdraw, report, top, argumentsFit}
 use Rattle.table.specs.Answers.{withScratch, withOutput, earlyNumber, unlessRefused, spotsAnswer, outputLeft}
 use Rattle.table.specs.Queries.{walkAnswer, QueryPost, ReportPost, TopPost}
 use Rattle.table.specs.Updates.{AddPost, WithdrawPost}
-use Rattle.demands.specs.Model.{PlainSpot, hasIdentity, placeBefore, topBefore, asBytes}
+use Rattle.demands.specs.Model.{PlainSpot, hasIdentity, topBefore, asBytes}
 use Rattle.demands.specs.TopMarks.{MarksFew}
-use Rattle.demands.specs.Demands.{LiveSpot, OfPlaces, InOrder, AtCapacity, ReportOf, TopOf, HandedOut, AddedTo, WithdrawnFrom, Demand2}
+use Rattle.demands.specs.Demands.{LiveSpot, OfPlaces, InOrder, reportBefore, AtCapacity, ReportOf, TopOf, HandedOut, AddedTo, WithdrawnFrom, Demand2}
 use Rattle.demands.proofs.Plain.{toKeySpot, SpotFits, identity-key, keyed-bytes, two-fit}
 use Rattle.table.proofs.Changes.{number-is}
 use Rattle.demands.proofs.Histories.{map-accepted}
 use Rattle.demands.proofs.MarksFew.{marks-few}
-use Rattle.demands.proofs.Alive.{plain, Small, keyed-plain, plain-length, plain-take, plain-fit, plain-mem, mem-plain, rises-in-order, falls-in-order, take-order, take-first, same-order, first-order, before-apart, higher-apart, alive-fits, kept-small, kept-live, live-kept, all-live, live-count}
+use Rattle.table.proofs.Reports.{report-turned}
+use Rattle.demands.proofs.Onward.{from-on-mem, mem-from-on, report-apart, turned-small, turned-in-order}
+use Rattle.demands.proofs.Alive.{plain, Small, keyed-plain, plain-length, plain-take, plain-fit, plain-mem, mem-plain, falls-in-order, take-order, take-first, same-order, first-order, higher-apart, alive-fits, kept-small, kept-live, live-kept, all-live, live-count}
 
 -- ---- what a query hands out
 
@@ -81,41 +85,49 @@ module _ (c : Call) (w : Walk) (found : List Spot) (whole : Finds w found) (smal
 
 module _ (t : List ℕ) (g : sound t ≡ true) where
   module _ (x1 x2 y : ℤ) (f1 : Fits x1) (f2 : Fits x2) (fy : Fits y) where
-    found : List Spot
-    found = keep (wants (query x1 x2 y)) (liveSpots t)
+    kept : List Spot
+    kept = keep (wants (query x1 x2 y)) (liveSpots t)
 
-    asked : (s : PlainSpot) → SpotFits s → leZ x1 (s .place) && leZ (s .place) x2 && leZ y (s .rank) ≡ wants (query x1 x2 y) (toKeySpot s)
-    asked s f = report-wants (s .place) (s .rank) x1 x2 (f .place) (f .rank) f1 f2 y fy
+    found : List Spot
+    found = fromOn (fromOf (query x1 x2 y)) kept
+
+    kept-few : Small kept
+    unfolding kept
+    kept-few = kept-small t g (wants (query x1 x2 y))
+
+    found-few : Small found
+    unfolding found
+    found-few = turned-small (fromOf (query x1 x2 y)) kept kept-few
+
+    asked : (s : PlainSpot) → SpotFits s → ofRange x1 x2 (s .place) && leZ y (s .rank) ≡ wants (query x1 x2 y) (toKeySpot s)
+    asked s f = report-wants x1 x2 f1 f2 (s .place) (s .rank) (f .place) (f .rank) y fy
 
     to : (s : PlainSpot) → List·Memᴰ s (plain found) → OfPlaces x1 x2 t s × (leZ y (s .rank) ≡ true)
-    unfolding found
+    unfolding kept found
     to s i =
-        let m = plain-mem found (kept-small t g (wants (query x1 x2 y))) s i in
-        let l = kept-live t g (wants (query x1 x2 y)) s m in
+        let m = plain-mem found found-few s i in
+        let l = kept-live t g (wants (query x1 x2 y)) s (m .0, from-on-mem (fromOf (query x1 x2 y)) kept (m .1)) in
         let a = asked s (m .0) ∙ l .1 in
-        let b = and-left (leZ x1 (s .place) && leZ (s .place) x2) (leZ y (s .rank)) a in (
-          record { alive = l .0; low = and-left (leZ x1 (s .place)) (leZ (s .place) x2) b; high = and-right (leZ x1 (s .place)) (leZ (s .place) x2) b },
-          and-right (leZ x1 (s .place) && leZ (s .place) x2) (leZ y (s .rank)) a,
-        )
+        (record { alive = l .0; of = and-left (ofRange x1 x2 (s .place)) (leZ y (s .rank)) a }, and-right (ofRange x1 x2 (s .place)) (leZ y (s .rank)) a)
 
     from : (s : PlainSpot) → OfPlaces x1 x2 t s × (leZ y (s .rank) ≡ true) → List·Memᴰ s (plain found)
-    unfolding found
+    unfolding kept found
     from s h =
         let f = alive-fits t s (h .0 .alive) in
-        let a = and-both (leZ x1 (s .place) && leZ (s .place) x2) (leZ y (s .rank)) (and-both (leZ x1 (s .place)) (leZ (s .place) x2) (h .0 .low) (h .0 .high)) (h .1) in
-        mem-plain found s f (live-kept t g (wants (query x1 x2 y)) s (h .0 .alive) (sym (asked s f) ∙ a))
+        let a = and-both (ofRange x1 x2 (s .place)) (leZ y (s .rank)) (h .0 .of) (h .1) in
+        mem-plain found s f (mem-from-on (fromOf (query x1 x2 y)) kept (live-kept t g (wants (query x1 x2 y)) s (h .0 .alive) (sym (asked s f) ∙ a)))
 
     report-of : ReportOf x1 x2 y t (plain found)
-    unfolding found
+    unfolding kept found
     report-of =
         record {
-          rise = rises-in-order found (kept-small t g (wants (query x1 x2 y))) (keep-rises (wants (query x1 x2 y)) 0 (liveSpots t) (live-rises t g));
+          rise = turned-in-order x1 x2 y f1 kept kept-few (keep-rises (wants (query x1 x2 y)) 0 (liveSpots t) (live-rises t g));
           each = λ s. (to s, from s);
         }
 
     is-found : (given : List PlainSpot) → ReportOf x1 x2 y t given → given ≡ plain found
     is-found given h =
-        same-order placeBefore SpotFits before-apart given (plain found) (h .rise) (report-of .rise)
+        same-order (reportBefore x1) SpotFits (report-apart x1 x2 y f1) given (plain found) (h .rise) (report-of .rise)
         (λ s i. let l = h .each s .0 i in (report-of .each s .1 l, alive-fits t s (l .0 .alive)))
         (λ s i. h .each s .1 (report-of .each s .0 i))
 
@@ -125,11 +137,11 @@ module _ (t : List ℕ) (g : sound t ≡ true) where
 
     report-given : (out map : List ℕ) (r : Answer) (out′ map′ : List ℕ) → earlyNumber (withOutput t out map) (report x1 x2 y) ≡ 0 → ReportPost x1 x2 y t out map r out′ map′
         → (given : List PlainSpot) × ReportOf x1 x2 y t given × HandedOut given out r out′
-    unfolding found
+    unfolding kept found
     report-given out map r out′ map′ l p = (
       plain found,
       report-of,
-      handed-out (report x1 x2 y) (walkTable t (query x1 x2 y)) found (report-finds t g (query x1 x2 y)) (kept-small t g (wants (query x1 x2 y))) t out map r out′ map′ l p,
+      handed-out (report x1 x2 y) (reportTable t x1 x2 y) found (report-turned t x1 x2 y kept (report-finds t g (query x1 x2 y))) found-few t out map r out′ map′ l p,
     )
 
   -- ---- Top
@@ -148,23 +160,21 @@ module _ (t : List ℕ) (g : sound t ≡ true) where
     few-ranked : Small (byTop of-places)
     few-ranked s i = few s (byTop-from of-places i)
 
-    asked-places : (s : PlainSpot) → SpotFits s → leZ x1 (s .place) && leZ (s .place) x2 ≡ wants (topQuery x1 x2 0) (toKeySpot s)
-    asked-places s f = top-wants (s .place) (s .rank) x1 x2 (f .place) (f .rank) f1 f2
+    asked-places : (s : PlainSpot) → SpotFits s → ofRange x1 x2 (s .place) ≡ wants (topQuery x1 x2 0) (toKeySpot s)
+    asked-places s f = top-wants x1 x2 f1 f2 (s .place) (s .rank) (f .place) (f .rank)
 
     to-places : (s : PlainSpot) → List·Memᴰ s ranked → OfPlaces x1 x2 t s
     unfolding of-places ranked
     to-places s i =
         let m = plain-mem (byTop of-places) few-ranked s i in
         let l = kept-live t g (wants (topQuery x1 x2 0)) s (m .0, byTop-from of-places (m .1)) in
-        let a = asked-places s (m .0) ∙ l .1 in
-        record { alive = l .0; low = and-left (leZ x1 (s .place)) (leZ (s .place) x2) a; high = and-right (leZ x1 (s .place)) (leZ (s .place) x2) a }
+        record { alive = l .0; of = asked-places s (m .0) ∙ l .1 }
 
     from-places : (s : PlainSpot) → OfPlaces x1 x2 t s → List·Memᴰ s ranked
     unfolding of-places ranked
     from-places s h =
         let f = alive-fits t s (h .alive) in
-        let a = and-both (leZ x1 (s .place)) (leZ (s .place) x2) (h .low) (h .high) in
-        mem-plain (byTop of-places) s f (byTop-in of-places (live-kept t g (wants (topQuery x1 x2 0)) s (h .alive) (sym (asked-places s f) ∙ a)))
+        mem-plain (byTop of-places) s f (byTop-in of-places (live-kept t g (wants (topQuery x1 x2 0)) s (h .alive) (sym (asked-places s f) ∙ h .of)))
 
     falls : InOrder topBefore ranked
     unfolding of-places ranked

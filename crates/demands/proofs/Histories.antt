@@ -23,6 +23,7 @@ use Rattle.block.specs.Header.{headOf}
 use Rattle.block.specs.Fresh.{formatted}
 use Rattle.block.specs.declared.Answer.{Answer}
 use Rattle.tree.specs.Walk.{Finds, Walk, walked, spots, blocksRead, walkTable, liveSpots, liveCount}
+use Rattle.tree.specs.Report.{reportTable}
 use Rattle.tree.specs.Top.{topWalk, topTable}
 use Rattle.tree.specs.ReadMap.{readMap, ones}
 use Rattle.tree.specs.Sound.{sound}
@@ -34,6 +35,7 @@ use Rattle.table.specs.Queries.{walkAnswer, countAnswer, QueryPost}
 use Rattle.table.specs.Updates.{UpdatePost}
 use Rattle.demands.specs.History.{Event, MetBy, lengthsIn, SecondTable, SameOnSecond, Agreed}
 use Rattle.demands.proofs.Keyed.{KeyReply, keyReply, replyTo, refusedOr, accepted, changed, nextBy, gives}
+use Rattle.table.proofs.Reports.{report-blocks, report-length, report-turned, report-same}
 
 -- what the tree's theorems give of a sound table
 pub record TreeLaws : Type 0 where
@@ -274,9 +276,13 @@ module _ (laws : TreeLaws) where
       (without-found t s (key place rank))
       refl
   step (report x1 x2 y) t e z s p =
-      query-kept (report x1 x2 y) (walkTable t (query x1 x2 y)) _ t e s (p .unchanged refl) (laws .reports t s (query x1 x2 y)) (p .promised) refl
-      (λ a b d q. laws .bound t s (query x1 x2 y))
-      (λ u f h m. (walkTable u (query x1 x2 y), h .met .promised, laws .second t u s (query x1 x2 y) (h .bytes) m))
+      query-kept (report x1 x2 y) (reportTable t x1 x2 y) _ t e s (p .unchanged refl) (report-turned t x1 x2 y _ (laws .reports t s (query x1 x2 y))) (p .promised) refl
+      (λ a b d q. rw (report-blocks t x1 x2 y, report-length t x1 x2 y) (laws .bound t s (query x1 x2 y)))
+      (λ u f h m. (
+        reportTable u x1 x2 y,
+        h .met .promised,
+        report-same t x1 x2 y u (laws .second t u s (query x1 x2 y) (h .bytes) (λ b i. m b (rw (report-blocks t x1 x2 y) i))),
+      ))
   step (top x1 x2 k) t e z s p =
       query-kept (top x1 x2 k) (topTable t x1 x2 k) _ t e s (p .unchanged refl) (laws .tops t s x1 x2 k) (p .promised .exact (laws .top-rises t s x1 x2 k)) refl
       (λ a b d q. let z : _≡_ {A = ℕ} 0 1 = cc in omega arith)

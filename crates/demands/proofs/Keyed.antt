@@ -6,8 +6,8 @@ use lib.ListN.{length, take}
 use Rattle.octets.specs.Lists.{keep}
 use Rattle.spot.specs.declared.Spot.{Spot}
 use Rattle.spot.specs.Keys.{key}
-use Rattle.spot.specs.Spots.{without, find, put, byTop}
-use Rattle.spot.specs.Query.{query, topQuery, wants}
+use Rattle.spot.specs.Spots.{without, find, put, byTop, fromOn}
+use Rattle.spot.specs.Query.{query, topQuery, fromOf, wants}
 use Rattle.block.specs.declared.Answer.{Answer}
 use Rattle.block.specs.Answers.{answer}
 use Rattle.tree.specs.Lookup.{isLive}
@@ -49,7 +49,7 @@ replyTo l (add place rank track) ss =
     changed (answer (addNumber (l .table) (length ss) (isLive (find (key place rank) ss))) 0) ss
     (put (record { key = key place rank; track = track }) (without (key place rank) ss))
 replyTo l (withdraw place rank) ss = changed (answer 0 0) ss (without (key place rank) ss)
-replyTo l (report x1 x2 y) ss = gives (l .output) (keep (wants (query x1 x2 y)) ss) ss
+replyTo l (report x1 x2 y) ss = gives (l .output) (fromOn (fromOf (query x1 x2 y)) (keep (wants (query x1 x2 y)) ss)) ss
 replyTo l (top x1 x2 k) ss = gives (l .output) (take k (byTop (keep (wants (topQuery x1 x2 0)) ss))) ss
 replyTo l count ss = accepted (length ss) ss
 replyTo l check ss = accepted 1 ss

@@ -1,12 +1,13 @@
 pub mod Orders
 pub mod Keyed
 pub mod Plain
+pub mod Alive
+pub mod Onward
 pub mod Sorted
 pub mod Histories
 pub mod MarksFew
 pub mod Demand
 pub mod Worked
-pub mod Alive
 pub mod Demand2
 pub mod Demand1
 pub mod LittleReading

@@ -5,16 +5,17 @@ use mathlib.Core.Bool.{_&&_, _||_}
 use mathlib.Core.List.{List, _++_}
 use Prim.Native.Nat.{ℕ, suc, _+_, _-_, _/_, _%_}
 use native.Mathlib.Omega.{arith}
-use lib.Dec.{ltb, eqb}
+use lib.Dec.{leb, ltb, eqb}
 use borrow.Author.Tests.{ne-eqb}
 use lib.IntN.{ℤ, pos, negsuc}
-use lib.Signed.{ltZ}
+use lib.Signed.{leZ, ltZ}
 use Rattle.octets.specs.Bytes.{bytesOf}
 use Rattle.octets.proofs.Order.{eqb-same}
 use Rattle.spot.specs.Keys.{biased, key, topKey, turned}
 use Rattle.spot.specs.Spots.{keyBytes}
+use Rattle.spot.specs.Query.{query, fromOf}
 use Rattle.spot.proofs.Signed.{Fits}
-use Rattle.spot.proofs.Orders.{key-place, key-rank, place-order, same-identity}
+use Rattle.spot.proofs.Orders.{key-place, key-rank, place-order, same-identity, from-words, under-words}
 use Rattle.spot.proofs.TopKeys.{top-order}
 use Rattle.demands.specs.Model.{eqZ, fourBytes, complement}
 
@@ -39,6 +40,16 @@ module _ (p r q s : ℤ) (fp : Fits p) (fr : Fits r) (fq : Fits q) (fs : Fits s)
   -- one identity, one key
   pub model-identity : eqZ p q && eqZ r s ≡ eqb (key p r) (key q s)
   model-identity = rw (eqZ-biased p q fp fq, eqZ-biased r s fr fs) (same-identity p r q s fp fr fq fs)
+
+-- the places from x1 up, and the others, are the keys from the first of a query up, and the others
+module _ (x1 x2 y p r : ℤ) (f1 : Fits x1) (fp : Fits p) (fr : Fits r) where
+  pub model-from : leZ x1 p ≡ leb (fromOf (query x1 x2 y)) (key p r)
+  unfolding query fromOf
+  model-from = from-words x1 p r f1 fp fr
+
+  pub model-under : ltZ p x1 ≡ ltb (key p r) (fromOf (query x1 x2 y))
+  unfolding query fromOf
+  model-under = under-words x1 p r f1 fp fr
 
 -- ---- bytes
 

@@ -8,13 +8,15 @@ use Prim.Native.Nat.{ℕ, zero, suc, _*_, _/_, _%_}
 use lib.ListN.{length, take, drop}
 use lib.Dec.{leb, ltb, eqb}
 use lib.IntN.{ℤ}
+use lib.Signed.{leZ, ltZ}
 use Rattle.octets.specs.Lists.{all, keep}
 use Rattle.octets.proofs.Tests.{and-left, and-right, cond-not}
 use Rattle.octets.proofs.Order.{eqb-flip, not-leb}
 use Rattle.spot.specs.declared.Spot.{Spot}
 use Rattle.spot.specs.Keys.{key, topKey, signed32, unsigned32}
-use Rattle.spot.specs.Spots.{spotBytes, spotsBytes, find, put, putTop, byTop, without}
-use Rattle.spot.specs.Query.{query, topQuery, wants}
+use Rattle.spot.specs.Spots.{spotBytes, spotsBytes, find, put, putTop, byTop, fromOn, without}
+use Rattle.spot.specs.Range.{ofRange}
+use Rattle.spot.specs.Query.{query, topQuery, fromOf, wants}
 use Rattle.spot.proofs.Signed.{Fits, signed-fits}
 use Rattle.spot.proofs.Orders.{report-wants, top-wants}
 use Rattle.block.specs.Answers.{answer}
@@ -23,9 +25,9 @@ use Rattle.tree.specs.Lookup.{isLive}
 use Rattle.table.specs.Calls.{Call, format, add, withdraw, report, top, count, check, rebuild, Kind, makes, updates, queries, tells, kind, Lengths, argumentsFit}
 use Rattle.revise.specs.Numbers.{addNumber}
 use Rattle.table.specs.Answers.{lent, earlyNumber, spotsAnswer, outputLeft}
-use Rattle.demands.specs.Model.{PlainSpot, hasIdentity, placeBefore, topBefore, ofPlaces, ofReport, chosen, insertBy, sortBy, listed, takenOut, broughtIn, highest, fourBytes, complement, asBytes, Plain, begunEmpty, Reply, outputAfter, refuse, accept, badTable, badLent, full, handOut, ownReply, reply}
+use Rattle.demands.specs.Model.{PlainSpot, hasIdentity, placeBefore, topBefore, ofPlaces, ofReport, chosen, fromOnward, insertBy, sortBy, listed, takenOut, broughtIn, highest, fourBytes, complement, asBytes, Plain, begunEmpty, Reply, outputAfter, refuse, accept, badTable, badLent, full, handOut, ownReply, reply}
 use Rattle.demands.proofs.Keyed.{KeyReply, keyReply, replyTo, refusedOr, accepted, changed, nextBy, gives}
-use Rattle.demands.proofs.Orders.{model-places, model-tops, model-identity, four-bytes, key-bytes}
+use Rattle.demands.proofs.Orders.{model-places, model-tops, model-identity, model-from, model-under, four-bytes, key-bytes}
 
 -- a spot of the model as the table's definitions have it
 abbrev pub toKeySpot : PlainSpot → Spot
@@ -61,6 +63,14 @@ take-fit : (k : ℕ) (ss : List PlainSpot) → AllFit ss → AllFit (take k ss)
 take-fit zero ss f = tt
 take-fit (suc k) [] f = tt
 take-fit (suc k) (s ∷ ss) f = (f .0, take-fit k ss (f .1))
+
+keyed-append : (xs ys : List PlainSpot) → keyed (xs ++ ys) ≡ keyed xs ++ keyed ys
+keyed-append [] ys = refl
+keyed-append (x ∷ xs) ys = ap (λ (l : List Spot). toKeySpot x ∷ l) (keyed-append xs ys)
+
+append-fit : (xs ys : List PlainSpot) → AllFit xs → AllFit ys → AllFit (xs ++ ys)
+append-fit [] ys f g = g
+append-fit (x ∷ xs) ys f g = (f .0, append-fit xs ys (f .1) g)
 
 keyed-cond : (b : Bool) (xs ys : List PlainSpot) → keyed (cond b xs ys) ≡ cond b (keyed xs) (keyed ys)
 keyed-cond true xs ys = refl
@@ -176,23 +186,39 @@ module _ (place rank : ℤ) (fp : Fits place) (fr : Fits rank) where
     in-fit ss h = insert-fit placeBefore new (takenOut place rank ss) (record { place = fp; rank = fr }) (out-fit ss h)
 
 module _ (x1 x2 : ℤ) (f1 : Fits x1) (f2 : Fits x2) where
-  keyed-report : (y : ℤ) → Fits y → (ss : List PlainSpot) → AllFit ss → keyed (chosen (ofReport x1 x2 y) ss) ≡ keep (wants (query x1 x2 y)) (keyed ss)
-  unfolding ofReport ofPlaces
+  -- the spots from x1 up first
+  keyed-onward : (y : ℤ) (ss : List PlainSpot) → AllFit ss → keyed (fromOnward x1 ss) ≡ fromOn (fromOf (query x1 x2 y)) (keyed ss)
+  unfolding fromOnward fromOn
+  keyed-onward y ss h =
+      keyed-append (chosen (λ s. leZ x1 (s .place)) ss) (chosen (λ s. ltZ (s .place) x1) ss) ∙
+      ap₂ (λ (l m : List Spot). l ++ m)
+      (keyed-chosen _ (λ s. leb (fromOf (query x1 x2 y)) (s .key)) (λ s f. model-from x1 x2 y (s .place) (s .rank) f1 (f .place) (f .rank)) ss h)
+      (keyed-chosen _ (λ s. ltb (s .key) (fromOf (query x1 x2 y))) (λ s f. model-under x1 x2 y (s .place) (s .rank) f1 (f .place) (f .rank)) ss h)
+
+  keyed-report : (y : ℤ) → Fits y → (ss : List PlainSpot) → AllFit ss
+      → keyed (fromOnward x1 (chosen (ofReport x1 x2 y) ss))
+      ≡ fromOn (fromOf (query x1 x2 y)) (keep (wants (query x1 x2 y)) (keyed ss))
+  unfolding ofReport ofPlaces ofRange
   keyed-report y fy ss h =
-      keyed-chosen (ofReport x1 x2 y) (wants (query x1 x2 y))
-      (λ s f. report-wants (s .place) (s .rank) x1 x2 (f .place) (f .rank) f1 f2 y fy)
-      ss
-      h
+      keyed-onward y (chosen (ofReport x1 x2 y) ss) (chosen-fit (ofReport x1 x2 y) ss h) ∙
+      ap (fromOn (fromOf (query x1 x2 y)))
+      (keyed-chosen (ofReport x1 x2 y) (wants (query x1 x2 y)) (λ s f. report-wants x1 x2 f1 f2 (s .place) (s .rank) (f .place) (f .rank) y fy) ss h)
+
+  report-fit : (y : ℤ) (ss : List PlainSpot) → AllFit ss → AllFit (fromOnward x1 (chosen (ofReport x1 x2 y) ss))
+  unfolding fromOnward
+  report-fit y ss h =
+      let f = chosen-fit (ofReport x1 x2 y) ss h in
+      append-fit (chosen (λ s. leZ x1 (s .place)) (chosen (ofReport x1 x2 y) ss)) _ (chosen-fit _ (chosen (ofReport x1 x2 y) ss) f) (chosen-fit _ (chosen (ofReport x1 x2 y) ss) f)
 
   -- what Top gives, and that it fits
   pub keyed-highest : (k : ℕ) (ss : List PlainSpot) → AllFit ss → keyed (highest x1 x2 k ss) ≡ take k (byTop (keep (wants (topQuery x1 x2 0)) (keyed ss)))
-  unfolding highest ofPlaces
+  unfolding highest ofPlaces ofRange
   keyed-highest k ss h =
       keyed-take k (sortBy topBefore (chosen (ofPlaces x1 x2) ss)) ∙
       ap (take k)
       (keyed-sort (chosen (ofPlaces x1 x2) ss) (chosen-fit (ofPlaces x1 x2) ss h) ∙
       ap byTop
-      (keyed-chosen (ofPlaces x1 x2) (wants (topQuery x1 x2 0)) (λ s f. top-wants (s .place) (s .rank) x1 x2 (f .place) (f .rank) f1 f2) ss h))
+      (keyed-chosen (ofPlaces x1 x2) (wants (topQuery x1 x2 0)) (λ s f. top-wants x1 x2 f1 f2 (s .place) (s .rank) (f .place) (f .rank)) ss h))
 
   pub highest-fit : (k : ℕ) (ss : List PlainSpot) → AllFit ss → AllFit (highest x1 x2 k ss)
   unfolding highest
@@ -307,7 +333,7 @@ like-own l (withdraw place rank) ps a h =
 like-own l (report x1 x2 y) ps a h =
     let f = two-fit x1 x2 (and-left (signed32 x1 && signed32 x2) (signed32 y) a) in
     let fy = signed-fits y (and-right (signed32 x1 && signed32 x2) (signed32 y) a) in
-    like-given ps h (l .output) (chosen (ofReport x1 x2 y) (ps .spots)) _ (chosen-fit (ofReport x1 x2 y) (ps .spots) h)
+    like-given ps h (l .output) (fromOnward x1 (chosen (ofReport x1 x2 y) (ps .spots))) _ (report-fit x1 x2 (f .0) (f .1) y (ps .spots) h)
     (keyed-report x1 x2 (f .0) (f .1) y fy (ps .spots) h)
 like-own l (top x1 x2 k) ps a h =
     let f = two-fit x1 x2 (and-left (signed32 x1 && signed32 x2) (unsigned32 k) a) in

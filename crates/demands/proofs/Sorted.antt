@@ -15,7 +15,7 @@ use Rattle.octets.proofs.Tests.{and-left, and-right, and-both, every-mem, every
 use Rattle.octets.proofs.Order.{less-or-not}
 use Rattle.spot.specs.Keys.{key, signed32, unsigned32}
 use Rattle.table.specs.Calls.{Call, format, add, withdraw, report, top, count, check, rebuild, kind, Lengths, argumentsFit}
-use Rattle.demands.specs.Model.{PlainSpot, hasIdentity, placeBefore, ofReport, chosen, insertBy, listed, takenOut, broughtIn, highest, Plain, Reply, refuse, accept, badTable, badLent, full, handOut, ownReply, reply}
+use Rattle.demands.specs.Model.{PlainSpot, hasIdentity, placeBefore, ofReport, chosen, fromOnward, insertBy, listed, takenOut, broughtIn, highest, Plain, Reply, refuse, accept, badTable, badLent, full, handOut, ownReply, reply}
 use Rattle.demands.specs.Demands.{InOrder}
 use Rattle.demands.proofs.Plain.{toKeySpot, SpotFits, AllFit, before-is, identity-key, out-fit, two-fit}
 
@@ -149,7 +149,7 @@ module _ (P : List PlainSpot → Type 0) (l : Lengths) (ps : Plain) (kept : P (p
     after-call format a = none
     after-call (add place rank track) a = refused-or (full (l .table) place rank (ps .spots)) 4 0 _ (added place rank track a)
     after-call (withdraw place rank) a = withdrawn place rank
-    after-call (report x1 x2 y) a = refused-or (ltb (l .output / 12) (length (chosen (ofReport x1 x2 y) (ps .spots)))) 5 _ _ (λ z. kept)
+    after-call (report x1 x2 y) a = refused-or (ltb (l .output / 12) (length (fromOnward x1 (chosen (ofReport x1 x2 y) (ps .spots))))) 5 _ _ (λ z. kept)
     after-call (top x1 x2 k) a = refused-or (ltb (l .output / 12) (length (highest x1 x2 k (ps .spots)))) 5 _ _ (λ z. kept)
     after-call count a = kept
     after-call check a = kept

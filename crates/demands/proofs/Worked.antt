@@ -1,5 +1,5 @@
--- The marked cases M1 to M8 of the paper and those of a full table, of lengths and of the ends of 32 bits, as rows of one table: a test that antt computes
--- over all of them, and one law that turns it into the equations. A row asks the model, but for M1's, which is of the table's bytes.
+-- The marked cases M1 to M8 of the paper and those of rings, of a full table, of lengths and of the ends of 32 bits, as rows of one table: a test that antt
+-- computes over all of them, and one law that turns it into the equations. A row asks the model, but for M1's, which is of the table's bytes.
 -- Assumes nothing.
 use mathlib.Core.Path.{_≡_, refl, ap, ap₂, _∙_}
 use mathlib.Core.Bool.{Bool, true, cond}
@@ -13,19 +13,21 @@ use lib.IntN.{ℤ, pos, negsuc}
 use Rattle.octets.specs.Lists.{all, every, sameList}
 use Rattle.octets.proofs.Tests.{all-at, every-at, same-lists}
 use Rattle.spot.specs.Keys.{signed32, unsigned32}
-use Rattle.spot.specs.Query.{query}
+use Rattle.spot.specs.Spots.{fromOn}
+use Rattle.spot.specs.Query.{query, fromOf}
 use Rattle.block.specs.declared.Answer.{Answer}
 use Rattle.block.specs.Answers.{answer}
 use Rattle.block.specs.Table.{sizedFor, tableSized, capacity}
 use Rattle.block.specs.Header.{headOf}
 use Rattle.block.specs.Fresh.{formatted}
-use Rattle.tree.specs.Walk.{Walk, spots}
+use Rattle.tree.specs.Walk.{Walk, walked, mapSpots, spots}
+use Rattle.tree.specs.Report.{reportTable}
 use Rattle.tree.specs.Sound.{sound}
 use Rattle.tree.proofs.Fresh.{fresh-sized, fresh-walk, fresh-sound, fresh-levels}
 use Rattle.table.specs.Calls.{Call, format, add, withdraw, report, top, count, check, rebuild, Lengths, argumentsFit}
 use Rattle.table.specs.Answers.{withOutput, spotsAnswer, outputLeft}
 use Rattle.table.specs.Queries.{walkAnswer, ReportPost}
-use Rattle.demands.specs.Model.{Plain, begunEmpty, eqZ, hasIdentity, placeBefore, topBefore, ofPlaces, ofReport, takenOut, broughtIn, highest, fourBytes, complement, Reply, outputAfter, refuse, accept, badTable, badLent, full, handOut, ownReply, reply}
+use Rattle.demands.specs.Model.{Plain, begunEmpty, eqZ, hasIdentity, placeBefore, topBefore, ofPlaces, ofReport, fromOnward, takenOut, broughtIn, highest, fourBytes, complement, Reply, outputAfter, refuse, accept, badTable, badLent, full, handOut, ownReply, reply}
 use Rattle.table.proofs.Answering.{long-enough}
 
 -- a table of this many blocks, a read map and a work area as they should be, and an output of this many bytes
@@ -114,8 +116,22 @@ rows =
     asks (record { before = row; call = top (negsuc 2) (pos 240) 3; lent = room 36; number = 0; detail = 3; front = 0 ∷ 0 ∷ 0 ∷ 100 ∷ 0 ∷ 0 ∷ 0 ∷ 8 ∷ 0 ∷ 0 ∷ 0 ∷ 4 ∷ 255 ∷ 255 ∷ 255 ∷ 253 ∷ 0 ∷ 0 ∷ 0 ∷ 7 ∷ 0 ∷ 0 ∷ 0 ∷ 3 ∷ 0 ∷ 0 ∷ 0 ∷ 0 ∷ 0 ∷ 0 ∷ 0 ∷ 7 ∷ 0 ∷ 0 ∷ 0 ∷ 1 ∷ [] }) ∷
     asks (record { before = row; call = top (negsuc 2) (pos 240) 4; lent = room 48; number = 0; detail = 4; front = 0 ∷ 0 ∷ 0 ∷ 100 ∷ 0 ∷ 0 ∷ 0 ∷ 8 ∷ 0 ∷ 0 ∷ 0 ∷ 4 ∷ 255 ∷ 255 ∷ 255 ∷ 253 ∷ 0 ∷ 0 ∷ 0 ∷ 7 ∷ 0 ∷ 0 ∷ 0 ∷ 3 ∷ 0 ∷ 0 ∷ 0 ∷ 0 ∷ 0 ∷ 0 ∷ 0 ∷ 7 ∷ 0 ∷ 0 ∷ 0 ∷ 1 ∷ 0 ∷ 0 ∷ 0 ∷ 240 ∷ 0 ∷ 0 ∷ 0 ∷ 7 ∷ 0 ∷ 0 ∷ 0 ∷ 2 ∷ [] }) ∷
     asks (record { before = row; call = top (negsuc 1) (pos 99) 1; lent = room 12; number = 0; detail = 1; front = 0 ∷ 0 ∷ 0 ∷ 0 ∷ 0 ∷ 0 ∷ 0 ∷ 7 ∷ 0 ∷ 0 ∷ 0 ∷ 1 ∷ [] }) ∷
-    -- M5
-    asks (record { before = two; call = report (pos 240) (pos 0) (pos 7); lent = room 24; number = 0; detail = 0; front = [] }) ∷
+    -- M5: "gives both spots, place 240 first"
+    asks (record { before = two; call = report (pos 240) (pos 0) (pos 7); lent = room 24; number = 0; detail = 2; front = 0 ∷ 0 ∷ 0 ∷ 240 ∷ 0 ∷ 0 ∷ 0 ∷ 7 ∷ 0 ∷ 0 ∷ 0 ∷ 2 ∷ 0 ∷ 0 ∷ 0 ∷ 0 ∷ 0 ∷ 0 ∷ 0 ∷ 7 ∷ 0 ∷ 0 ∷ 0 ∷ 1 ∷ [] }) ∷
+    -- x1 just above x2: every place, begun at x1. Top of such a range: its order stays.
+    asks (record {
+      before = row;
+      call = report (pos 101) (pos 100) least;
+      lent = room 48;
+      number = 0;
+      detail = 4;
+      front =
+          0 ∷ 0 ∷ 0 ∷ 240 ∷ 0 ∷ 0 ∷ 0 ∷ 7 ∷ 0 ∷ 0 ∷ 0 ∷ 2 ∷
+          255 ∷ 255 ∷ 255 ∷ 253 ∷ 0 ∷ 0 ∷ 0 ∷ 7 ∷ 0 ∷ 0 ∷ 0 ∷ 3 ∷
+          0 ∷ 0 ∷ 0 ∷ 0 ∷ 0 ∷ 0 ∷ 0 ∷ 7 ∷ 0 ∷ 0 ∷ 0 ∷ 1 ∷
+          0 ∷ 0 ∷ 0 ∷ 100 ∷ 0 ∷ 0 ∷ 0 ∷ 8 ∷ 0 ∷ 0 ∷ 0 ∷ 4 ∷ [];
+    }) ∷
+    asks (record { before = row; call = top (pos 101) (negsuc 2) 3; lent = room 24; number = 0; detail = 2; front = 255 ∷ 255 ∷ 255 ∷ 253 ∷ 0 ∷ 0 ∷ 0 ∷ 7 ∷ 0 ∷ 0 ∷ 0 ∷ 3 ∷ 0 ∷ 0 ∷ 0 ∷ 240 ∷ 0 ∷ 0 ∷ 0 ∷ 7 ∷ 0 ∷ 0 ∷ 0 ∷ 2 ∷ [] }) ∷
     -- M6
     asks (record { before = add (pos 0) most 1 ∷ []; call = report (pos 0) (pos 0) most; lent = room 12; number = 0; detail = 1; front = 0 ∷ 0 ∷ 0 ∷ 0 ∷ 127 ∷ 255 ∷ 255 ∷ 255 ∷ 0 ∷ 0 ∷ 0 ∷ 1 ∷ [] }) ∷
     asks (record { before = add (pos 0) most 1 ∷ add (pos 0) least 2 ∷ add (negsuc 0) most 3 ∷ []; call = report (pos 0) (pos 0) least; lent = room 24; number = 0; detail = 2; front = 0 ∷ 0 ∷ 0 ∷ 0 ∷ 128 ∷ 0 ∷ 0 ∷ 0 ∷ 0 ∷ 0 ∷ 0 ∷ 2 ∷ 0 ∷ 0 ∷ 0 ∷ 0 ∷ 127 ∷ 255 ∷ 255 ∷ 255 ∷ 0 ∷ 0 ∷ 0 ∷ 1 ∷ [] }) ∷
@@ -141,7 +157,7 @@ rows =
     asks (record { before = two; call = add (pos 0) (pos 8) 3; lent = record { table = 18432; output = 0; readMap = 0; scratch = 18432 }; number = 0; detail = 0; front = [] }) ∷
     asks (record { before = two; call = withdraw (pos 0) (pos 7); lent = record { table = 18432; output = 0; readMap = 0; scratch = 18432 }; number = 0; detail = 0; front = [] }) ∷
     asks (record { before = two; call = rebuild; lent = record { table = 18432; output = 0; readMap = 0; scratch = 18432 }; number = 0; detail = 0; front = [] }) ∷
-    asks (record { before = two; call = report (pos 240) (pos 0) (pos 7); lent = record { table = 18432; output = 0; readMap = 512; scratch = 0 }; number = 0; detail = 0; front = [] }) ∷
+    asks (record { before = two; call = report (pos 1) (pos 239) (pos 7); lent = record { table = 18432; output = 0; readMap = 512; scratch = 0 }; number = 0; detail = 0; front = [] }) ∷
     asks (record { before = two; call = top (pos 0) (pos 240) 0; lent = record { table = 18432; output = 0; readMap = 512; scratch = 0 }; number = 0; detail = 0; front = [] }) ∷
     asks (record { before = two; call = format; lent = record { table = 18432; output = 0; readMap = 0; scratch = 0 }; number = 0; detail = 0; front = [] }) ∷
     asks (record { before = two; call = count; lent = record { table = 18432; output = 0; readMap = 0; scratch = 0 }; number = 0; detail = 2; front = [] }) ∷
@@ -184,7 +200,18 @@ rows =
           127 ∷ 255 ∷ 255 ∷ 255 ∷ 128 ∷ 0 ∷ 0 ∷ 0 ∷ 0 ∷ 0 ∷ 0 ∷ 4 ∷ [];
     }) ∷
     asks (record { before = corners; call = report least least most; lent = room 12; number = 0; detail = 1; front = 128 ∷ 0 ∷ 0 ∷ 0 ∷ 127 ∷ 255 ∷ 255 ∷ 255 ∷ 0 ∷ 0 ∷ 0 ∷ 3 ∷ [] }) ∷
-    asks (record { before = corners; call = report most least least; lent = room 12; number = 0; detail = 0; front = [] }) ∷
+    asks (record {
+      before = corners;
+      call = report most least least;
+      lent = room 48;
+      number = 0;
+      detail = 4;
+      front =
+          127 ∷ 255 ∷ 255 ∷ 255 ∷ 128 ∷ 0 ∷ 0 ∷ 0 ∷ 0 ∷ 0 ∷ 0 ∷ 4 ∷
+          127 ∷ 255 ∷ 255 ∷ 255 ∷ 127 ∷ 255 ∷ 255 ∷ 255 ∷ 0 ∷ 0 ∷ 0 ∷ 1 ∷
+          128 ∷ 0 ∷ 0 ∷ 0 ∷ 128 ∷ 0 ∷ 0 ∷ 0 ∷ 0 ∷ 0 ∷ 0 ∷ 2 ∷
+          128 ∷ 0 ∷ 0 ∷ 0 ∷ 127 ∷ 255 ∷ 255 ∷ 255 ∷ 0 ∷ 0 ∷ 0 ∷ 3 ∷ [];
+    }) ∷
     []
 
 -- what a row says, as equations
@@ -207,6 +234,10 @@ abbrev pub Says : Row → Type 0
 Says (asks r) = AskSays r
 Says (fresh blocks levels held) = FreshSays blocks levels held
 
+fresh-report : (n : ℕ) → tableSized n ≡ true → (x1 x2 y : ℤ) → reportTable (formatted n) x1 x2 y ≡ walked [] (1 ∷ [])
+unfolding reportTable fromOn
+fresh-report n z x1 x2 y = ap (mapSpots (fromOn (fromOf (query x1 x2 y)))) (fresh-walk n z (query x1 x2 y))
+
 report-none : (n : ℕ) → tableSized n ≡ true → (x1 x2 y : ℤ) (out map : List ℕ) (r : Answer) (out′ map′ : List ℕ) → length map ≡ 512
     → ReportPost x1 x2 y (formatted n) out map r out′ map′
     → (r ≡ answer 0 0) × (out′ ≡ out)
@@ -215,9 +246,9 @@ report-none n z x1 x2 y out map r out′ map′ m p =
     let e : r ≡ answer 0 0 =
     p .answered ∙
     long-enough (withOutput (formatted n) out map) (report x1 x2 y) _ (ap tableSized (fresh-sized n z) ∙ z) (eq-eqb (length map) 512 m) ∙
-    ap (walkAnswer (length out)) (fresh-walk n z (query x1 x2 y)) ∙
+    ap (walkAnswer (length out)) (fresh-report n z x1 x2 y) ∙
     ap (λ (b : Bool). answer (cond b 5 0) 0) (le-ltb (length out / 12) 0 (omega arith)) in
-    (e, p .output ∙ ap₂ (λ (a : Answer) (w : Walk). outputLeft (a .number) (spots w) out) e (fresh-walk n z (query x1 x2 y)))
+    (e, p .output ∙ ap₂ (λ (a : Answer) (w : Walk). outputLeft (a .number) (spots w) out) e (fresh-report n z x1 x2 y))
 
 says : (r : Row) → right r ≡ true → Says r
 unfolding right
@@ -237,7 +268,7 @@ pub some-row : Row
 some-row = asks (record { before = []; call = count; lent = room 0; number = 0; detail = 0; front = [] })
 
 all-right : every right rows ≡ true
-unfolding all right rows found after filling sizedFor signed32 unsigned32 argumentsFit eqZ hasIdentity placeBefore topBefore ofPlaces ofReport takenOut broughtIn highest fourBytes complement outputAfter refuse accept badTable badLent full handOut ownReply reply
+unfolding all right rows found after filling sizedFor signed32 unsigned32 argumentsFit eqZ hasIdentity placeBefore topBefore ofPlaces ofReport fromOnward takenOut broughtIn highest fourBytes complement outputAfter refuse accept badTable badLent full handOut ownReply reply
 all-right = refl
 
 -- every row of the table says what the definitions give

@@ -4,14 +4,15 @@
 use mathlib.Core.Path.{_≡_}
 use mathlib.Core.Logic.{_⊎_, _↔_}
 use Prim.Native.Nat.{ℕ, _-_, _*_, _/_, _≤_, _<_}
-use mathlib.Core.Bool.{Bool, true, false}
+use mathlib.Core.Bool.{Bool, true, false, cond, _&&_, _||_}
 use mathlib.Core.List.{List, [], _∷_, _++_, List·Memᴰ}
 use mathlib.Core.Option.{some}
 use lib.ListN.{length, drop}
 use lib.IntN.{ℤ}
-use lib.Signed.{leZ}
+use lib.Signed.{leZ, ltZ}
 use Rattle.octets.specs.Lists.{every, has}
 use Rattle.spot.specs.Keys.{key, signed32}
+use Rattle.spot.specs.Range.{ofRange}
 use Rattle.spot.specs.Query.{query, topQuery}
 use Rattle.block.specs.declared.Answer.{Answer}
 use Rattle.tree.specs.Lookup.{live}
@@ -68,26 +69,30 @@ pub record LiveSpot (t : List ℕ) (s : PlainSpot) : Type 0 where
   pub rankFits : signed32 (s .rank) ≡ true
   pub there : live t (key (s .place) (s .rank)) ≡ some (s .track)
 
--- "of the live spots with x1 ≤ place ≤ x2". No test bounds the rank from above: "none shall be added"
+-- "of the live spots with x1 ≤ place ≤ x2"; of a ring "all places from x1 up, followed by all places up to x2". No test bounds the rank from above: "none shall
+-- be added"
 pub record OfPlaces (x1 x2 : ℤ) (t : List ℕ) (s : PlainSpot) : Type 0 where
   pub alive : LiveSpot t s
-  pub low : leZ x1 (s .place) ≡ true
-  pub high : leZ (s .place) x2 ≡ true
+  pub of : ofRange x1 x2 (s .place) ≡ true
 
 -- each comes before all that follow it: in order, and none twice
 abbrev pub InOrder : (PlainSpot → PlainSpot → Bool) → List PlainSpot → Type 0
 InOrder before [] = Unit {0}
 InOrder before (s ∷ ss) = (every (before s) ss ≡ true) × InOrder before ss
 
+-- "Report's order is from x1 onward": of two spots that lie both from x1 up, or both below it, the one before in place order comes first, else the one from x1 up
+unfoldable pub reportBefore : ℤ → PlainSpot → PlainSpot → Bool
+reportBefore x1 s r = cond (leZ x1 (s .place)) (ltZ (r .place) x1 || placeBefore s r) (ltZ (r .place) x1 && placeBefore s r)
+
 -- all live spots, each once
 pub record AllLive (t : List ℕ) (ss : List PlainSpot) : Type 0 where
   pub rise : InOrder placeBefore ss
   pub each : (s : PlainSpot) → List·Memᴰ s ss ↔ LiveSpot t s
 
--- "Report(x1, x2, y) gives all live spots with x1 ≤ place ≤ x2 and rank ≥ y, rising in place order"; it "holds each live spot of its range once, and
--- nothing else"
+-- "Report(x1, x2, y) gives all live spots with x1 ≤ place ≤ x2 and rank ≥ y, rising in place order"; of a ring "from x1 onward"; it "holds each live spot of its
+-- range once, and nothing else"
 pub record ReportOf (x1 x2 y : ℤ) (t : List ℕ) (given : List PlainSpot) : Type 0 where
-  pub rise : InOrder placeBefore given
+  pub rise : InOrder (reportBefore x1) given
   pub each : (s : PlainSpot) → List·Memᴰ s given ↔ (OfPlaces x1 x2 t s × (leZ y (s .rank) ≡ true))
 
 -- "Top(x1, x2, k) gives, of the live spots with x1 ≤ place ≤ x2, the k highest in rank order (all, if fewer), highest first"; and "Among equal ranks Top

@@ -35,11 +35,11 @@ placeBefore s r = ltZ (s .place) (r .place) || (eqZ (s .place) (r .place) && ltZ
 unfoldable pub topBefore : PlainSpot → PlainSpot → Bool
 topBefore s r = ltZ (r .rank) (s .rank) || (eqZ (r .rank) (s .rank) && ltZ (s .place) (r .place))
 
--- "x1 ≤ place ≤ x2"
+-- "x1 ≤ place ≤ x2"; "A range whose first place is greater than its last now runs on past the door: all places from x1 up, followed by all places up to x2"
 unfoldable pub ofPlaces : ℤ → ℤ → PlainSpot → Bool
-ofPlaces x1 x2 s = leZ x1 (s .place) && leZ (s .place) x2
+ofPlaces x1 x2 s = cond (ltZ x2 x1) (leZ x1 (s .place) || leZ (s .place) x2) (leZ x1 (s .place) && leZ (s .place) x2)
 
--- "x1 ≤ place ≤ x2 and rank ≥ y"
+-- "and rank ≥ y"
 unfoldable pub ofReport : ℤ → ℤ → ℤ → PlainSpot → Bool
 ofReport x1 x2 y s = ofPlaces x1 x2 s && leZ y (s .rank)
 
@@ -47,6 +47,10 @@ ofReport x1 x2 y s = ofPlaces x1 x2 s && leZ y (s .rank)
 abbrev pub chosen : (PlainSpot → Bool) → List PlainSpot → List PlainSpot
 chosen f [] = []
 chosen f (s ∷ ss) = cond (f s) (s ∷ chosen f ss) (chosen f ss)
+
+-- "Report's order is from x1 onward": the spots from x1 up, followed by the others
+unfoldable pub fromOnward : ℤ → List PlainSpot → List PlainSpot
+fromOnward x1 ss = chosen (λ s. leZ x1 (s .place)) ss ++ chosen (λ s. ltZ (s .place) x1) ss
 
 -- a spot put behind the spots that come before it
 abbrev pub insertBy : (PlainSpot → PlainSpot → Bool) → PlainSpot → List PlainSpot → List PlainSpot
@@ -139,7 +143,7 @@ ownReply l (add place rank track) ps =
     cond (full (l .table) place rank (ps .spots)) (refuse 4 0 ps)
     (accept 0 [] (record { spots = broughtIn (record { place = place; rank = rank; track = track }) (ps .spots) }))
 ownReply l (withdraw place rank) ps = accept 0 [] (record { spots = takenOut place rank (ps .spots) })
-ownReply l (report x1 x2 y) ps = handOut (l .output) (chosen (ofReport x1 x2 y) (ps .spots)) ps
+ownReply l (report x1 x2 y) ps = handOut (l .output) (fromOnward x1 (chosen (ofReport x1 x2 y) (ps .spots))) ps
 ownReply l (top x1 x2 k) ps = handOut (l .output) (highest x1 x2 k (ps .spots)) ps
 ownReply l count ps = accept (length (ps .spots)) [] ps
 ownReply l check ps = accept 1 [] ps

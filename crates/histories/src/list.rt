@@ -64,10 +64,21 @@ pub fn highest(list: &[u64; 9568]) -> usize {
     best
 }
 
-// Whether a slot has a spot with a place from x1 to x2 that does not come behind `last` in the order of Top's answers.
+fn between(place: i32, a: i32, b: i32) -> bool {
+    (a <= place) & (place <= b)
+}
+
+// Whether a place is in range from x1 to x2. Where x1 is greater, there are two stretches: the places from x1 up, and past the door those up to x2.
+pub fn lies(place: i32, x1: i32, x2: i32) -> bool {
+    if x2 < x1 {
+        return between(place, x1, 2147483647) | between(place, -2147483648, x2);
+    }
+    between(place, x1, x2)
+}
+
+// Whether a slot has a spot with a place in range that does not come behind `last` in the order of Top's answers.
 fn counts(id: u64, track: u64, x1: i32, x2: i32, last: u64) -> bool {
-    let place = place_of(id);
-    (track != NONE) & (x1 <= place) & (place <= x2) & !top_before(last, id)
+    (track != NONE) & lies(place_of(id), x1, x2) & !top_before(last, id)
 }
 
 // The number of such spots.
@@ -82,7 +93,7 @@ pub fn count(list: &[u64; 9568], x1: i32, x2: i32, last: u64) -> u64 {
     n
 }
 
-// The number of spots with a place from x1 to x2 and a rank of at least y.
+// The number of spots with a place in range and a rank of at least y.
 pub fn report_count(list: &[u64; 9568], x1: i32, x2: i32, y: i32) -> u64 {
     count(list, x1, x2, spot::key_of(2147483647, y))
 }
@@ -101,7 +112,7 @@ fn taken(step: u64, b: bool) -> u64
     0
 }
 
-// The rank of the last of the k spots that Top gives, where there are k from place x1 to x2, else the least rank: the highest rank from which on k are found.
+// The rank of the last of the k spots that Top gives, where there are k in range, else the least rank: the highest rank from which on k are found.
 pub fn last_rank(list: &[u64; 9568], x1: i32, x2: i32, k: u64) -> i32 {
     let mut low = 0;
     let mut step = 2147483648;

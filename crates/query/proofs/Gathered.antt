@@ -115,7 +115,7 @@ module _ (t : List ℕ) (q : Query) (h : isBroken (walkTable t q) ≡ false) whe
 
 module _ {t : List ℕ} {q : Query} {out out' : List ℕ} where
   pub table-none : {r : Sum} → length out' ≡ length out → r .ok ≡ false → TableHeld t q out out' r
-  table-none l f = record { sized = l; front = λ h. absurd (false≢true (sym f ∙ h)) }
+  table-none l f = record { sized = l; front = λ h. absurd (false≢true (sym f ∙ h)); spots = λ h. absurd (false≢true (sym f ∙ h)) }
 
   pub table-held : {map' : List ℕ} {root level : ℕ} {y r all : Sum} (span : Span) (path : Path) → root ≡ headOf t .root → level ≡ headOf t .levels → span .lo ≡ 0 → endOf span ≡ allKeys
       → path .n ≡ 0 → above path ≡ [] → ((k : ℕ) → getD out' k 0 < 256) → y .tally .spots ≡ 0
@@ -124,13 +124,19 @@ module _ {t : List ℕ} {q : Query} {out out' : List ℕ} where
   table-held {map'} {root} {level} {y} {r} {all} span path p l lo hi n none bytes z h o e c =
       record {
         sized = h .sized;
-        front = λ k room.
-            let same : r .tally .spots ≡ all .tally .spots = omega (arith, e) in
-            let f = subst (λ (j : ℕ). Collected out out' j (gains (suc (level - 1)) (storeOf t) q (namedAbove t path) (partOf root (Root root) span) (spotsIn out j)) (r .tally .spots)) z
-            (h .front o (omega (arith, e))) in
-            root-collected t q (not-true _ (sym (c .ok) ∙ k)) span path p l lo hi n none out (omega (arith, c .spots k)) bytes f .1
-            ∙ ap (λ (j : ℕ). spotsBytes (spots (walkTable t q)) ++ drop (12 * j) out) same;
+        front = λ k room. collected k room .1 ∙ ap (λ (j : ℕ). spotsBytes (spots (walkTable t q)) ++ drop (12 * j) out) same;
+        spots = λ k room. ap (spotsIn out') (sym same) ∙ collected k room .2;
       }
+    where
+      same : r .tally .spots ≡ all .tally .spots
+      same = omega (arith, e)
+
+      collected : all .ok ≡ true → 12 * all .tally .spots ≤ length out
+          → (r .tally .spots ≡ length (spots (walkTable t q))) × (out' ≡ spotsBytes (spots (walkTable t q)) ++ drop (12 * r .tally .spots) out) × (spotsIn out' (r .tally .spots) ≡ spots (walkTable t q))
+      collected k room =
+          root-collected t q (not-true _ (sym (c .ok) ∙ k)) span path p l lo hi n none out (omega (arith, c .spots k)) bytes
+          (subst (λ (j : ℕ). Collected out out' j (gains (suc (level - 1)) (storeOf t) q (namedAbove t path) (partOf root (Root root) span) (spotsIn out j)) (r .tally .spots)) z
+          (h .front o (omega (arith, same))))
 
 -- a query that the code has made
 pub held-as : {t out out' : List ℕ} {p q : Query} {r : Sum} → q ≡ p → TableHeld t q out out' r → TableHeld t p out out' r

@@ -1,4 +1,5 @@
 pub mod Puts
+pub mod Ordered
 pub mod Raw
 pub mod Outputs
 pub mod Shifting

@@ -2,11 +2,10 @@
 -- Assumes nothing.
 use mathlib.Core.Path.{_≡_}
 use Prim.Native.Nat.{ℕ, suc, _+_, _*_, _^_, _≤_, _<_}
-use mathlib.Core.Bool.{Bool, true, not, _&&_}
-use mathlib.Core.List.{List, [], _∷_, _++_}
+use mathlib.Core.Bool.{true, not, _&&_}
+use mathlib.Core.List.{List, _++_}
 use lib.ListN.{length, drop}
-use lib.Dec.{leb}
-use Rattle.octets.specs.Lists.{rising}
+use Rattle.octets.specs.Lists.{rising, ascends}
 use Rattle.octets.specs.Bitmap.{bit, setBit, onesBelow}
 use Rattle.spot.specs.Spots.{keys, putAll, spotsBytes, spotsIn}
 use Rattle.spot.specs.declared.Spot.{Spot}
@@ -45,11 +44,6 @@ pub record Counted (t map map′ : List ℕ) (l : ℕ) (q : Query) (path : Path)
   pub spots : r .ok ≡ true → r .tally .spots ≡ y .tally .spots + tally l (storeOf t) q (namedAbove t path) p
   pub seen : r .ok ≡ true → map′ ≡ marked map (visits l (storeOf t) q p)
   pub tallied : r .ok ≡ true → Tallied map′ (r .tally)
-
--- each number is at least the one before it
-abbrev pub ascends : ℕ → List ℕ → Bool
-ascends a [] = true
-ascends a (x ∷ xs) = leb a x && ascends x xs
 
 -- the spots `found` are put among the first n of the output: r are there then, in place order, and the rest is as it was
 pub record Collected (out out′ : List ℕ) (n : ℕ) (after : List Spot) (r : ℕ) : Type 0 where
@@ -117,3 +111,4 @@ pub record TableCounted (t : List ℕ) (q : Query) (map′ : List ℕ) (r : Sum)
 pub record TableHeld (t : List ℕ) (q : Query) (out out′ : List ℕ) (r : Sum) : Type 0 where
   pub sized : length out′ ≡ length out
   pub front : r .ok ≡ true → 12 * r .tally .spots ≤ length out → out′ ≡ spotsBytes (spots (walkTable t q)) ++ drop (12 * r .tally .spots) out
+  pub spots : r .ok ≡ true → 12 * r .tally .spots ≤ length out → spotsIn out′ (r .tally .spots) ≡ spots (walkTable t q)

@@ -8,7 +8,7 @@ use lib.ListN.{replicate}
 use lib.IntN.{pos, negsuc}
 use Rattle.octets.specs.Bytes.{be}
 use Rattle.table.specs.Calls.{Call, add, report, count, Lengths}
-use Rattle.demands.specs.Model.{begunEmpty, eqZ, hasIdentity, placeBefore, ofPlaces, ofReport, takenOut, broughtIn, fourBytes, complement, outputAfter, refuse, accept, badTable, badLent, full, handOut, ownReply, reply}
+use Rattle.demands.specs.Model.{begunEmpty, eqZ, hasIdentity, placeBefore, ofPlaces, ofReport, fromOnward, takenOut, broughtIn, fourBytes, complement, outputAfter, refuse, accept, badTable, badLent, full, handOut, ownReply, reply}
 use Rattle.script.specs.Script.{Step, callsIn, callOf, callAt, stepAt, stepsOf, logPart, logAfter}
 
 -- 65,536 bytes are more than the run has of anything
@@ -66,5 +66,5 @@ model-log : logAfter sizes steps begunEmpty (replicate 151 1)
     ++ replicate 17 1
     ++ (0 ∷ 0 ∷ 0 ∷ 0 ∷ 0 ∷ 0 ∷ 0 ∷ 1 ∷ [])
     ++ replicate 18 1
-unfolding sizes step steps eqZ hasIdentity placeBefore ofPlaces ofReport takenOut broughtIn fourBytes complement outputAfter refuse accept badTable badLent full handOut ownReply reply
+unfolding sizes step steps eqZ hasIdentity placeBefore ofPlaces ofReport fromOnward takenOut broughtIn fourBytes complement outputAfter refuse accept badTable badLent full handOut ownReply reply
 model-log = refl

@@ -3,8 +3,8 @@
 -- Assumes nothing.
 use mathlib.Core.Path.{_≡_, refl, sym, ap, ap₂, subst, _∙_}
 use mathlib.Core.Logic.{_⊎_, inl, inr, ⊎-elim, _↔_}
-use mathlib.Core.Bool.{Bool, true, false, _&&_, _||_, and-true}
-use mathlib.Core.List.{List, [], _∷_}
+use mathlib.Core.Bool.{Bool, false, _&&_, _||_, and-true}
+use mathlib.Core.List.{List}
 use Prim.Native.Nat.{ℕ, _+_, _*_, _/_, _%_, _<_}
 use native.Mathlib.Nat.{div-add-mod'}
 use native.Mathlib.Omega.{arith}
@@ -20,11 +20,12 @@ use borrow.Author.Tests.{le-leb}
 use Rattle.octets.specs.Lists.{all}
 use Rattle.octets.specs.Bytes.{be}
 use Rattle.octets.proofs.Bytes.{be-lt}
-use Rattle.octets.proofs.Order.{leb-same}
+use Rattle.octets.proofs.Order.{leb-same, ltb-same}
 use Rattle.spot.specs.declared.Query.{Query}
 use Rattle.spot.specs.Keys.{word, allKeys, biased, unbiased, turned, key, placeOf, rankIn, rankKey, rankOf}
 use Rattle.spot.specs.Spots.{keyAt}
-use Rattle.spot.specs.Query.{query, topQuery, fromOf, lastOf, leastOf, wantsKey, placed, wanted}
+use Rattle.spot.specs.Range.{ofRange}
+use Rattle.spot.specs.Query.{query, topQuery, fromOf, lastOf, leastOf, isRing, ends, wantsKey, placed, wanted}
 use Rattle.spot.proofs.Signed.{Fits, biased-lt, biased-inj, unbiased-biased, biased-unbiased, unbiased-fits, turned-lt, toZ-turned, leZ-biased, ltZ-biased}
 use Rattle.spot.proofs.Halves.{high, low, lex-to, lex-from, pair-lt, pair-eq, rank-is}
 
@@ -112,48 +113,69 @@ module _ (p r q s : ℤ) (fp : Fits p) (fr : Fits r) (fq : Fits q) (fs : Fits s)
 
 -- ---- queries
 
-places-of : (p r x1 x2 : ℕ) → r < word
-    → leb x1 p && leb p x2 ≡ leb (x1 * word) (p * word + r) && leb (p * word + r) (x2 * word + 4294967295)
-places-of p r x1 x2 h =
-    ap₂ (λ (a b : Bool). a && b) (leb-same x1 p (x1 * word) (p * word + r) (λ l. omega arith) (λ l. omega arith))
-    (leb-same p x2 (p * word + r) (x2 * word + 4294967295) (λ l. omega arith) (λ l. omega arith))
+-- a place against an end of a range, as numbers and as keys
+module _ (x p r : ℤ) (fx : Fits x) (fp : Fits p) (fr : Fits r) where
+  pub from-words : leZ x p ≡ leb (biased x * word) (key p r)
+  from-words =
+      let h = biased-lt r fr in
+      leZ-biased x p fx fp ∙ leb-same (biased x) (biased p) (biased x * word) (key p r) (λ l. omega arith) (λ l. omega (arith, h))
 
-all-three : (a b c : Bool) → a && b && c ≡ all (all (a ∷ b ∷ []) ∷ c ∷ [])
-unfolding all
-all-three true true true = refl
-all-three true true false = refl
-all-three true false c = refl
-all-three false b c = refl
+  pub under-words : ltZ p x ≡ ltb (key p r) (biased x * word)
+  under-words =
+      let h = biased-lt r fr in
+      ltZ-biased p x fp fx ∙ ltb-same (biased p) (biased x) (key p r) (biased x * word) (λ l. omega (arith, h)) (λ l. omega arith)
 
-module _ (p r x1 x2 : ℤ) (fp : Fits p) (fr : Fits r) (f1 : Fits x1) (f2 : Fits x2) where
-  in-places : leZ x1 p && leZ p x2
-      ≡ leb (biased x1 * word) (biased p * word + biased r) && leb (biased p * word + biased r) (biased x2 * word + 4294967295)
-  in-places = rw (leZ-biased x1 p f1 fp, leZ-biased p x2 fp f2) (places-of (biased p) (biased r) (biased x1) (biased x2) (biased-lt r fr))
+  to-words : leZ p x ≡ leb (key p r) (biased x * word + 4294967295)
+  to-words =
+      let h = biased-lt r fr in
+      leZ-biased p x fp fx ∙ leb-same (biased p) (biased x) (key p r) (biased x * word + 4294967295) (λ l. omega (arith, h)) (λ l. omega arith)
 
-  -- "x1 ≤ place ≤ x2 and rank ≥ y"
-  pub report-wants : (y : ℤ) → Fits y → wanted p r x1 x2 y ≡ wantsKey (query x1 x2 y) (key p r)
-  unfolding wantsKey placed query fromOf lastOf leastOf
-  report-wants y fy =
-      ap₂ (λ (a b : Bool). a && b) in-places (leZ-biased y r fy fr ∙ ap (leb (biased y)) (sym (rank-of p r fr fp))) ∙
-      all-three _ _ _
+module _ (x1 x2 : ℤ) (f1 : Fits x1) (f2 : Fits x2) where
+  -- "A range whose first place is greater than its last"
+  pub ring-words : ltZ x2 x1 ≡ ltb (biased x2 * word + 4294967295) (biased x1 * word)
+  ring-words =
+      ltZ-biased x2 x1 f2 f1 ∙ ltb-same (biased x2) (biased x1) (biased x2 * word + 4294967295) (biased x1 * word) (λ l. omega arith) (λ l. omega arith)
 
-  -- "x1 ≤ place ≤ x2"
-  pub top-wants : leZ x1 p && leZ p x2 ≡ wantsKey (topQuery x1 x2 0) (key p r)
-  unfolding wantsKey placed topQuery fromOf lastOf leastOf
-  top-wants =
-      sym (and-true _) ∙
-      ap₂ (λ (a b : Bool). a && b) in-places (sym (le-leb (biased (unbiased 0)) (rankOf (key p r)) (omega (arith, biased-unbiased 0)))) ∙
-      all-three _ _ _
+  module _ (p r : ℤ) (fp : Fits p) (fr : Fits r) where
+    -- the places of a report, as numbers and as keys
+    pub range-placed : (y : ℤ) → ofRange x1 x2 p ≡ placed (query x1 x2 y) (key p r)
+    unfolding ofRange placed ends isRing query fromOf lastOf
+    range-placed y = rw (ring-words, from-words x1 p r f1 fp fr, to-words x2 p r f2 fp fr)
+
+    -- "and rank ≥ y"
+    pub report-wants : (y : ℤ) → Fits y → ofRange x1 x2 p && leZ y r ≡ wantsKey (query x1 x2 y) (key p r)
+    unfolding wantsKey query leastOf all
+    report-wants y fy =
+        ap₂ (λ (a b : Bool). a && b) (range-placed y) (leZ-biased y r fy fr ∙ ap (leb (biased y)) (sym (rank-of p r fr fp)) ∙ sym (and-true _))
+
+    pub top-wants : ofRange x1 x2 p ≡ wantsKey (topQuery x1 x2 0) (key p r)
+    unfolding wantsKey topQuery query leastOf all
+    top-wants =
+        sym (and-true _) ∙
+        ap₂ (λ (a b : Bool). a && b) (range-placed (unbiased 0))
+        (sym (le-leb (biased (unbiased 0)) (rankOf (key p r)) (omega (arith, biased-unbiased 0))) ∙ sym (and-true _))
+
+-- the code's test for a ring
+pub ring-is : (q : Query) → Fits (q .x1) → Fits (q .x2) → ltZ (q .x2) (q .x1) ≡ isRing q
+unfolding isRing fromOf lastOf
+ring-is q f1 f2 = ring-words (q .x1) (q .x2) f1 f2
 
 -- the same of a spot on the card, whose place and rank are read as they are
-module _ (q : Query) (s : List ℕ) (i : ℕ) (f1 : Fits (q .x1)) (f2 : Fits (q .x2)) (fy : Fits (q .y)) (bytes : (j : ℕ) → getD s j 0 < 256) where
+module _ (q : Query) (s : List ℕ) (i : ℕ) (f1 : Fits (q .x1)) (f2 : Fits (q .x2)) (fy : Fits (q .y)) (bytes : (j : ℕ) → getD s j 0 < 256)
+    (plain : isRing q ≡ false) where
+  -- of a range that is no ring
+  between : (p r : ℤ) → wanted p r (q .x1) (q .x2) (q .y) ≡ ofRange (q .x1) (q .x2) p && leZ (q .y) r
+  unfolding ofRange
+  between p r = rw (ring-is q f1 f2 ∙ plain) refl
+
   pub card-wants : wanted (toZ w32 (be 4 s i)) (toZ w32 (be 4 s (i + 4))) (q .x1) (q .x2) (q .y) ≡ wantsKey q (keyAt s i)
   unfolding keyAt query
   card-wants =
       let u : ℕ = turned (be 4 s i) in
       let v : ℕ = turned (be 4 s (i + 4)) in
       ap₂ (λ (p r : ℤ). wanted p r (q .x1) (q .x2) (q .y)) (toZ-turned (be 4 s i) (be-lt 4 s i bytes)) (toZ-turned (be 4 s (i + 4)) (be-lt 4 s (i + 4) bytes)) ∙
-      report-wants (unbiased u) (unbiased v) (q .x1) (q .x2) (unbiased-fits u (turned-lt (be 4 s i))) (unbiased-fits v (turned-lt (be 4 s (i + 4)))) f1 f2 (q .y) fy ∙
+      between (unbiased u) (unbiased v) ∙
+      report-wants (q .x1) (q .x2) f1 f2 (unbiased u) (unbiased v) (unbiased-fits u (turned-lt (be 4 s i))) (unbiased-fits v (turned-lt (be 4 s (i + 4)))) (q .y) fy ∙
       ap (wantsKey q) (ap₂ (λ (x y : ℕ). x * word + y) (biased-unbiased u) (biased-unbiased v))
 
   -- as the code asks it: each number comes back from its bits

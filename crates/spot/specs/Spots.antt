@@ -4,7 +4,7 @@ use Prim.Native.Nat.{ℕ, _+_, _*_, _/_, _%_}
 use mathlib.Core.Bool.{cond, not}
 use mathlib.Core.List.{List, [], _∷_, _++_}
 use mathlib.Core.Option.{Option, none, some}
-use lib.Dec.{leb, eqb}
+use lib.Dec.{ltb, leb, eqb}
 use Rattle.octets.specs.Lists.{keep, records}
 use Rattle.octets.specs.Bytes.{be, bytesOf, putBe}
 use Rattle.spot.specs.Keys.{word, turned, topKey}
@@ -74,6 +74,10 @@ putTop s (x ∷ xs) = cond (leb (topKey (x .key)) (topKey (s .key))) (s ∷ x �
 abbrev pub byTop : List Spot → List Spot
 byTop [] = []
 byTop (s ∷ ss) = putTop s (byTop ss)
+
+-- "Report's order is from x1 onward": the spots from the key k on, followed by the others
+unfoldable pub fromOn : ℕ → List Spot → List Spot
+fromOn k ss = keep (λ s. leb k (s .key)) ss ++ keep (λ s. ltb (s .key) k) ss
 
 -- the spots but the one with this key
 unfoldable pub without : ℕ → List Spot → List Spot

@@ -8,7 +8,7 @@ ghost use mir.Val.{toZ};
 ghost use Rattle.octets.specs.Bytes.{be};
 ghost use Rattle.spot.specs.Keys.{biased, unbiased, turned, key, rankKey, turnLow, topKey, keyOfTop};
 ghost use Rattle.spot.specs.Spots.{keyAt, spotAt, putKey, putSpot};
-ghost use Rattle.spot.specs.Query.{query, topQuery, everything, fromOf, lastOf, leastOf, placed, wantsKey, wanted};
+ghost use Rattle.spot.specs.Query.{query, topQuery, allPlaces, everything, fromOf, lastOf, leastOf, lowestOf, highestOf, isRing, ends, placed, wantsKey, wanted};
 
 // The bytes of a spot and of a key on the card.
 pub const SPOT_BYTES: usize = 12;
@@ -21,7 +21,8 @@ pub struct Spot {
     pub track: u32,
 }
 
-// The spots asked for: those with a place from x1 to x2 and a rank of at least y.
+// The spots asked for: those with a place from x1 to x2 and a rank of at least y. If x1 is greater than x2, the places run on past the door: from x1 up, and then
+// up to x2.
 pub struct Query {
     pub x1: i32,
     pub x2: i32,
@@ -148,18 +149,25 @@ pub fn top_query(x1: i32, x2: i32, least: u64) -> Query
     Query { x1, x2, y }
 }
 
-// Asks for every spot: the two ends of 32 bits.
-pub fn everything() -> Query
-    ensures { λ r. ⌜ r ≡ everything ⌝ }
+// Asks for every place, with a least rank: the two ends of 32 bits.
+pub fn all_places(y: i32) -> Query
+    ensures { λ r. ⌜ r ≡ allPlaces y ⌝ }
 {
     Query {
         x1: -2147483648,
         x2: 2147483647,
-        y: -2147483648,
+        y,
     }
 }
 
-// The lowest key of the query's places, and the highest.
+// Asks for every spot.
+pub fn everything() -> Query
+    ensures { λ r. ⌜ r ≡ everything ⌝ }
+{
+    all_places(-2147483648)
+}
+
+// The key at which the query's places begin, and the one at which they end.
 pub fn from_key(q: Query) -> u64
     ensures { λ r. ⌜ r ≡ fromOf q ⌝ }
 {
@@ -172,6 +180,39 @@ pub fn last_key(q: Query) -> u64
     bias(q.x2) * 4294967296 + 4294967295
 }
 
+// The places run on past the door.
+pub fn is_ring(q: Query) -> bool
+    ensures { λ r. ⌜ r ≡ isRing q ⌝ }
+{
+    q.x2 < q.x1
+}
+
+// A test against the first end of the places and one against the last: both are asked for, of a ring one of them. No branch depends on it: it is asked of each child.
+pub fn ends(q: Query, first: bool, last: bool) -> bool
+    ensures { λ r. ⌜ r ≡ ends q first last ⌝ }
+{
+    (first & last) | (is_ring(q) & (first | last))
+}
+
+// No key of the query's places is below this one, and none is above the other. The places of a ring lie on both sides of the door.
+pub fn lowest_key(q: Query) -> u64
+    ensures { λ r. ⌜ r ≡ lowestOf q ⌝ }
+{
+    if is_ring(q) {
+        return 0;
+    }
+    from_key(q)
+}
+
+pub fn highest_key(q: Query) -> u64
+    ensures { λ r. ⌜ r ≡ highestOf q ⌝ }
+{
+    if is_ring(q) {
+        return 18446744073709551615;
+    }
+    last_key(q)
+}
+
 // The least rank, moved up as in a key.
 pub fn least_of(q: Query) -> u64
     ensures { λ r. ⌜ r ≡ leastOf q ⌝ }
@@ -179,10 +220,12 @@ pub fn least_of(q: Query) -> u64
     bias(q.y)
 }
 
+// Both keys are counted from the first key of the places on, past the last key of all on from 0: so one test serves every range.
 pub fn placed(q: Query, k: u64) -> bool
     ensures { λ r. ⌜ r ≡ placed q k ⌝ }
 {
-    (from_key(q) <= k) & (k <= last_key(q))
+    let from = from_key(q);
+    std::num::wrapping_sub_u64(k, from) <= std::num::wrapping_sub_u64(last_key(q), from)
 }
 
 pub fn wants(q: Query, k: u64) -> bool
@@ -191,7 +234,7 @@ pub fn wants(q: Query, k: u64) -> bool
     placed(q, k) & (least_of(q) <= k % 4294967296)
 }
 
-// The same of a place and a rank as they are.
+// The same of a place and a rank as they are, for a range that is no ring.
 pub fn wanted(place: i32, rank: i32, x1: i32, x2: i32, y: i32) -> bool
     ensures { λ r. ⌜ r ≡ wanted place rank x1 x2 y ⌝ }
 {

@@ -6,27 +6,26 @@ use mathlib.Core.List.{List, _++_}
 use Prim.Native.Nat.{ℕ, zero, suc, _*_, _/_, _≤_, _<_}
 use native.Mathlib.Omega.{arith}
 use lib.ListN.{length, take, drop}
-use lib.Seq.{take-all, take-at}
+use lib.Seq.{take-all}
 use lib.IntN.{ℤ}
 use borrow.Author.Tests.{eq-eqb, lt-ltb, le-ltb, not-true, not-false}
 use Rattle.octets.proofs.Lists.{over-all}
 use Rattle.spot.specs.Spots.{spotsBytes}
 use Rattle.spot.specs.Query.{query, everything}
-use Rattle.spot.specs.declared.Spot.{Spot}
 use Rattle.spot.specs.declared.Query.{Query}
-use Rattle.spot.proofs.Stored.{length-spotsBytes}
 use Rattle.block.specs.declared.Answer.{Answer}
 use Rattle.block.specs.Answers.{answer}
 use Rattle.block.specs.Table.{tableSized}
 use Rattle.block.specs.Fresh.{formatted}
 use Rattle.tree.specs.Walk.{Walk, broken, walked, isBroken, spots, blocksRead, walkTable}
 use Rattle.tree.specs.ReadMap.{readMap}
+use Rattle.tree.specs.Report.{reportTable}
 use Rattle.tree.specs.Sound.{sound}
 use Rattle.table.specs.Calls.{Call, format, report, count, check, kind, Lengths}
 use Rattle.table.specs.Answers.{ofTable, withOutput, lent, earlyNumber, unlessRefused, spotsAnswer, outputLeft, mapLeft}
-use Rattle.table.specs.Reports.{Reportable, Reported}
 use Rattle.table.specs.Queries.{walkAnswer, QueryPost, ReportPost, countAnswer, CountPost, CheckPost}
 use Rattle.table.specs.Updates.{FormatPost}
+use Rattle.table.proofs.Reports.{report-blocks, report-whole, report-length}
 
 -- refused by the lengths: 1, then 2; else the call's own answer
 pub short-table : (l : Lengths) (c : Call) (a : Answer) → tableSized (l .table) ≡ false → unlessRefused (earlyNumber l c) a ≡ answer 1 0
@@ -146,63 +145,51 @@ told-broken ok t q e h = not-false (isBroken (walkTable t q)) (sym e ∙ h)
 pub told-whole : (ok : Bool) (t : List ℕ) (q : Query) → ok ≡ not (isBroken (walkTable t q)) → ok ≡ true → isBroken (walkTable t q) ≡ false
 told-whole ok t q e h = not-true (isBroken (walkTable t q)) (sym e ∙ h)
 
--- Report, whose query the code has made
-module _ (x1 x2 y : ℤ) (q : Query) (same : q ≡ query x1 x2 y) (t out map : List ℕ) where
-  made : (r : Answer) (out′ map′ : List ℕ) → QueryPost (report x1 x2 y) (walkTable t q) t out map r out′ map′ → ReportPost x1 x2 y t out map r out′ map′
-  made r out′ map′ p = subst (λ (p : Query). QueryPost (report x1 x2 y) (walkTable t p) t out map r out′ map′) same p
+-- Report, whose arguments the code has as the machine holds them
+module _ (x1 x2 y a b c : ℤ) (same1 : a ≡ x1) (same2 : b ≡ x2) (same3 : c ≡ y) (t out map : List ℕ) where
+  same : reportTable t a b c ≡ reportTable t x1 x2 y
+  same = rw (same1, same2, same3)
 
-  pub report-broken : (r : Answer) (ok : Bool) → tableSized (length t) ≡ true → length map ≡ 512 → ok ≡ not (isBroken (walkTable t q)) → ok ≡ false → r ≡ answer 3 0
-      → ReportPost x1 x2 y t out map r out map
-  report-broken r ok e f k h a = made r out map (query-broken (report x1 x2 y) (walkTable t q) t out map e (eq-eqb (length map) 512 f) r (told-broken ok t q k h) a)
+  made : (r : Answer) (out′ map′ : List ℕ) → QueryPost (report x1 x2 y) (reportTable t a b c) t out map r out′ map′ → ReportPost x1 x2 y t out map r out′ map′
+  made r out′ map′ p = subst (λ (w : Walk). QueryPost (report x1 x2 y) w t out map r out′ map′) same p
 
-  pub report-many : (r : Answer) (ok : Bool) (n : ℕ) → tableSized (length t) ≡ true → length map ≡ 512 → ok ≡ not (isBroken (walkTable t q)) → ok ≡ true
-      → n ≡ length (spots (walkTable t q)) → length out / 12 < n → r ≡ answer 5 n
+  pub report-broken : (r : Answer) (ok : Bool) → tableSized (length t) ≡ true → length map ≡ 512 → ok ≡ not (isBroken (walkTable t (query a b c))) → ok ≡ false → r ≡ answer 3 0
       → ReportPost x1 x2 y t out map r out map
-  report-many r ok n e f k h z l a =
+  report-broken r ok e f k h g =
       made r out map
-      (query-many (report x1 x2 y) (walkTable t q) t out map e (eq-eqb (length map) 512 f) r (told-whole ok t q k h) (subst (λ (i : ℕ). length out / 12 < i) z l)
-      (a ∙ ap (answer 5) z))
+      (query-broken (report x1 x2 y) (reportTable t a b c) t out map e (eq-eqb (length map) 512 f) r (report-whole t a b c ∙ told-broken ok t (query a b c) k h) g)
 
-  pub report-given : (r : Answer) (ok : Bool) (n : ℕ) (out′ map′ : List ℕ) → tableSized (length t) ≡ true → length map ≡ 512 → ok ≡ not (isBroken (walkTable t q)) → ok ≡ true
-      → n ≡ length (spots (walkTable t q)) → n ≤ length out / 12 → r ≡ answer 0 n
-      → out′ ≡ outputLeft 0 (spots (walkTable t q)) out
-      → map′ ≡ readMap (blocksRead (walkTable t q))
+  pub report-many : (r : Answer) (ok : Bool) (n : ℕ) → tableSized (length t) ≡ true → length map ≡ 512 → ok ≡ not (isBroken (walkTable t (query a b c))) → ok ≡ true
+      → n ≡ length (spots (walkTable t (query a b c))) → length out / 12 < n → r ≡ answer 5 n
+      → ReportPost x1 x2 y t out map r out map
+  report-many r ok n e f k h z l g =
+      let many : n ≡ length (spots (reportTable t a b c)) = z ∙ sym (report-length t a b c) in
+      made r out map
+      (query-many (report x1 x2 y) (reportTable t a b c) t out map e (eq-eqb (length map) 512 f) r (report-whole t a b c ∙ told-whole ok t (query a b c) k h)
+      (subst (λ (i : ℕ). length out / 12 < i) many l)
+      (g ∙ ap (answer 5) many))
+
+  pub report-given : (r : Answer) (ok : Bool) (n : ℕ) (out′ map′ : List ℕ) → tableSized (length t) ≡ true → length map ≡ 512 → ok ≡ not (isBroken (walkTable t (query a b c)))
+      → ok ≡ true
+      → n ≡ length (spots (walkTable t (query a b c))) → n ≤ length out / 12 → r ≡ answer 0 n
+      → out′ ≡ outputLeft 0 (spots (reportTable t a b c)) out
+      → map′ ≡ readMap (blocksRead (walkTable t (query a b c)))
       → ReportPost x1 x2 y t out map r out′ map′
   unfolding outputLeft
-  report-given r ok n out′ map′ e f k h z l a o m =
+  report-given r ok n out′ map′ e f k h z l g o m =
+      let many : n ≡ length (spots (reportTable t a b c)) = z ∙ sym (report-length t a b c) in
       made r out′ map′
-      (query-given (report x1 x2 y) (walkTable t q) t out map e (eq-eqb (length map) 512 f) r out′ map′ (told-whole ok t q k h) (subst (λ (i : ℕ). i ≤ length out / 12) z l)
-      (a ∙ ap (answer 0) z)
+      (query-given (report x1 x2 y) (reportTable t a b c) t out map e (eq-eqb (length map) 512 f) r out′ map′ (report-whole t a b c ∙ told-whole ok t (query a b c) k h)
+      (subst (λ (i : ℕ). i ≤ length out / 12) many l)
+      (g ∙ ap (answer 0) many)
       o
-      m)
+      (m ∙ sym (ap readMap (report-blocks t a b c))))
 
 -- a query made of numbers as the machine holds them
 pub query-same : (x1 x2 y a b d : ℤ) (q : Query) → a ≡ x1 → b ≡ x2 → d ≡ y → q ≡ query a b d → q ≡ query x1 x2 y
 query-same x1 x2 y a b d q e f g h = rw (e, f, g) at h
 
--- the output and the map that an accepted Report leaves
-pub output-is : (ss : List Spot) (out out′ : List ℕ) (n : ℕ) → n ≡ length ss → out′ ≡ spotsBytes ss ++ drop (12 * n) out → out′ ≡ spotsBytes ss ++ drop (12 * length ss) out
-output-is ss out out′ n e h = h ∙ ap (λ (i : ℕ). spotsBytes ss ++ drop (12 * i) out) e
-
+-- the map that an accepted Report leaves
 pub map-is : (from to to′ due : List ℕ) → length from ≡ 512 → length to ≡ 512 → from ≡ due → to′ ≡ take 512 from ++ drop 512 to → to′ ≡ due
 map-is from to to′ due f t e h =
     h ∙ over-all (take 512 from) to 512 (omega arith) ∙ take-all 512 from (omega arith) ∙ e
-
--- spots that were gathered in a small buffer, copied
-pub few-are : (ss : List Spot) (base few out out′ : List ℕ) (n : ℕ) → n ≡ length ss → few ≡ spotsBytes ss ++ drop (12 * n) base → out′ ≡ take (12 * n) few ++ drop (12 * n) out
-    → out′ ≡ outputLeft 0 ss out
-unfolding outputLeft
-few-are ss base few out out′ n c f h =
-    output-is ss out out′ n c
-    (h ∙ ap (λ (x : List ℕ). x ++ drop (12 * n) out)
-    (ap (take (12 * n)) f ∙ take-at (spotsBytes ss) (drop (12 * n) base) (12 * n) (length-spotsBytes ss ∙ ap (λ (i : ℕ). 12 * i) (sym c))))
-
--- the second half of a Report, by the name that its promise has for the query
-pub reportable-as : {t out : List ℕ} {p q : Query} → q ≡ p → Reportable p t out → Reportable q t out
-reportable-as {t} {out} e = subst (λ (x : Query). Reportable x t out) (sym e)
-
-pub reported-as : {t out out′ : List ℕ} {p q : Query} {n : ℕ} → q ≡ p → n ≡ length (spots (walkTable t q)) → out′ ≡ spotsBytes (spots (walkTable t q)) ++ drop (12 * n) out
-    → Reported p t out out′ n
-unfolding outputLeft
-reported-as {t} {out} {out′} {p} {q} {n} e c o =
-    subst (λ (x : Query). Reported x t out out′ n) e (record { count = c; output = output-is (spots (walkTable t q)) out out′ n c o })

@@ -1,4 +1,6 @@
+pub mod Reports
 pub mod Answering
+pub mod Reporting
 pub mod Rebuilding
 pub mod Changes
 pub mod Topping

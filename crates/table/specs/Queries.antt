@@ -10,7 +10,7 @@ use lib.IntN.{ℤ}
 use Rattle.octets.specs.Lists.{has, every, rising}
 use Rattle.octets.specs.Bitmap.{bit}
 use Rattle.spot.specs.Spots.{keys}
-use Rattle.spot.specs.Query.{query, topQuery, everything, wants}
+use Rattle.spot.specs.Query.{topQuery, everything, wants}
 use Rattle.spot.specs.declared.Spot.{Spot}
 use Rattle.spot.specs.declared.Query.{Query}
 use Rattle.block.specs.Answers.{answer}
@@ -18,6 +18,7 @@ use Rattle.block.specs.declared.Answer.{Answer}
 use Rattle.block.specs.Node.{storeOf}
 use Rattle.tree.specs.Walk.{Walk, broken, walked, spots, blocksRead, walkTable}
 use Rattle.tree.specs.Sound.{sound}
+use Rattle.tree.specs.Report.{reportTable}
 use Rattle.tree.specs.Top.{topWalk, topTable}
 use Rattle.table.specs.Calls.{Call, report, top, count, check}
 use Rattle.table.specs.Answers.{ofTable, withOutput, earlyNumber, unlessRefused, spotsAnswer, outputLeft, mapLeft, outcomes}
@@ -33,9 +34,10 @@ pub record QueryPost (c : Call) (w : Walk) (t out map : List ℕ) (r : Answer) (
   pub output : out′ ≡ outputLeft (r .number) (spots w) out
   pub marks : map′ ≡ mapLeft (r .number) (blocksRead w) map
 
--- "Report(x1, x2, y), all signed 32-bit, gives all live spots with x1 ≤ place ≤ x2 and rank ≥ y, rising in place order"
+-- "Report(x1, x2, y), all signed 32-bit, gives all live spots with x1 ≤ place ≤ x2 and rank ≥ y, rising in place order"; "A range whose first place is greater
+-- than its last now runs on past the door"; "Report's order is from x1 onward"
 abbrev pub ReportPost : ℤ → ℤ → ℤ → List ℕ → List ℕ → List ℕ → Answer → List ℕ → List ℕ → Type 0
-ReportPost x1 x2 y t = QueryPost (report x1 x2 y) (walkTable t (query x1 x2 y)) t
+ReportPost x1 x2 y t = QueryPost (report x1 x2 y) (reportTable t x1 x2 y) t
 
 -- "On an unsound table a call that isn't refused still hands out only spots of its range from blocks marked read": spots that stand in P or I of such a block, a
 -- node's and not block 0

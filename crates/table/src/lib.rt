@@ -2,11 +2,13 @@
 ghost use mathlib.Core.Path.{_≡_};
 ghost use mathlib.Core.Bool.{true};
 ghost use lib.ListN.{length, replicate};
-ghost use Rattle.spot.specs.Query.{query};
+ghost use Rattle.spot.specs.Spots.{spotsIn, fromOn};
+ghost use Rattle.spot.specs.Query.{query, fromOf};
 ghost use Rattle.block.specs.Answers.{answer};
 ghost use Rattle.block.specs.Table.{tableSized};
 ghost use Rattle.query.specs.Walks.{TableCounted, TableHeld};
-ghost use Rattle.table.specs.Reports.{Reportable, Reported};
+ghost use Rattle.table.specs.Answers.{outputLeft};
+ghost use Rattle.table.specs.Reports.{Reportable, Reported, Turnable};
 ghost use Rattle.table.specs.Queries.{ReportPost, TopPost, CountPost, CheckPost};
 ghost use Rattle.table.specs.Updates.{FormatPost, AddPost, WithdrawPost, RebuildPost};
 ghost use Rattle.table.specs.NoneGiven.{NoneGiven};
@@ -78,15 +80,29 @@ fn report_size(
     query::gather_table(table, seen, spot::make_query(x1, x2, y), few)
 }
 
-// A Report written that was counted, is whole and has room: its spots at the front of the output, which may be a part of a caller's.
+// A Report written that was counted, is whole and has room: its spots at the front of the output, which may be a part of a caller's, from x1 onward. Of a plain
+// range nothing is below x1, and nothing moves.
 fn report_into(table: &[u8], x1: i32, x2: i32, y: i32, output: &mut [u8]) -> usize
     requires { ⌜ Reportable (query x1 x2 y) (now table) (now output) ⌝ }
-    ensures { λ r. ⌜ Reported (query x1 x2 y) (now (table .entry)) (now (output .entry)) (now (output .exit)) r ⌝ }
+    ensures { λ r. ⌜ Reported x1 x2 y (now (table .entry)) (now (output .entry)) (now (output .exit)) r ⌝ }
 {
-    query::collect_table(table, output, spot::make_query(x1, x2, y))
+    let q = spot::make_query(x1, x2, y);
+    let n = query::collect_table(table, output, q);
+    sort::from_on(output, n, spot::from_key(q));
+    n
 }
 
-// All live spots with x1 ≤ place ≤ x2 and rank ≥ y, rising in place order; the read map marks the blocks read.
+// The same of n spots that a buffer holds in place order.
+fn report_held(few: &[u8], n: usize, x1: i32, x2: i32, y: i32, output: &mut [u8])
+    requires { ⌜ Turnable (now few) (now output) n ⌝ }
+    ensures { λ _. ⌜ now (output .exit) ≡ outputLeft 0 (fromOn (fromOf (query x1 x2 y)) (spotsIn (now (few .entry)) n)) (now (output .entry)) ⌝ }
+{
+    octets::copy(few, output, 12 * n);
+    sort::from_on(output, n, spot::from_key(spot::make_query(x1, x2, y)));
+}
+
+// All live spots with x1 ≤ place ≤ x2 and rank ≥ y, rising in place order. If x1 is greater than x2, the range runs on past the door: all places from x1 up, followed
+// by all places up to x2; the report begins at x1. The read map marks the blocks read.
 pub fn report(
     table: &[u8],
     x1: i32,
@@ -117,7 +133,7 @@ pub fn report(
         };
     }
     if all.tally.spots <= 128 {
-        octets::copy(&few, output, 12 * all.tally.spots);
+        report_held(&few, all.tally.spots, x1, x2, y, output);
     } else {
         report_into(table, x1, x2, y, output);
     }
@@ -255,8 +271,8 @@ fn top_write(
     top::top_run(table, read, q, k, output, n);
 }
 
-// Of the live spots with x1 ≤ place ≤ x2, the k of the highest ranks, the highest first and of equal ranks the lower place first; the read map marks the blocks
-// read.
+// Of the live spots with x1 ≤ place ≤ x2, the k of the highest ranks, the highest first and of equal ranks the lower place first. If x1 is greater than x2, the
+// range runs on past the door, as a report's; the order stays. The read map marks the blocks read.
 pub fn top(
     table: &[u8],
     x1: i32,

@@ -18,7 +18,7 @@ use Rattle.spot.specs.declared.Spot.{Spot}
 use Rattle.spot.specs.declared.Query.{Query}
 use Rattle.spot.specs.Keys.{word, allKeys, rankKey, rankOf}
 use Rattle.spot.specs.Spots.{keyAt, keys}
-use Rattle.spot.specs.Query.{topQuery, fromOf, lastOf, meets, wants}
+use Rattle.spot.specs.Query.{topQuery, fromOf, lastOf, isRing, ends, meets, wants}
 use Rattle.spot.proofs.Card.{keyAt-lt}
 use Rattle.spot.proofs.Halves.{rank-of-low}
 use Rattle.spot.proofs.Places.{top-least}
@@ -63,7 +63,7 @@ module _ (x1 x2 : ℤ) (y : ℕ) where
       go false b = refl
 
   admits-rank : y ≤ word → (c : Part) → admits (topQuery x1 x2 y) c ≡ admits (topQuery x1 x2 0) c && leb y (promise (c .asked))
-  unfolding admits all topQuery meets fromOf lastOf
+  unfolding admits all topQuery meets ends isRing fromOf lastOf
   admits-rank h c = rw (topped-rank h (c .asked)) (go (topped (topQuery x1 x2 0) (c .asked)) (leb y (promise (c .asked))) (meets (topQuery x1 x2 0) (c .lo) (c .hi)))
     where
       go : (a b d : Bool) → (a && b) && (d && true) ≡ (a && (d && true)) && b

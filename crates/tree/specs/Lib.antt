@@ -6,6 +6,7 @@ pub mod Trace
 pub mod ReadMap
 pub mod Sound
 pub mod Read
+pub mod Report
 pub mod Top
 pub mod BestFirst
 pub mod Rules

@@ -9,6 +9,7 @@ use lib.IntN.{ℤ}
 use lib.Signed.{leZ}
 use Rattle.octets.specs.Lists.{every}
 use Rattle.spot.specs.Keys.{signed32, key, rankIn, rankKey, within}
+use Rattle.spot.specs.Range.{ofRange}
 use Rattle.spot.specs.declared.Spot.{Spot}
 use Rattle.block.specs.Header.{headOf}
 use Rattle.block.specs.Node.{Node, Store, storeOf}
@@ -28,8 +29,7 @@ pub record HoldsPlace (x1 x2 : ℤ) (lo hi : ℕ) : Type 0 where
   pub placeFits : signed32 place ≡ true
   pub rankFits : signed32 rank ≡ true
   pub inside : within lo hi (key place rank) ≡ true
-  pub from : leZ x1 place ≡ true
-  pub to : leZ place x2 ≡ true
+  pub of : ofRange x1 x2 place ≡ true
 
 -- "the root, and those children of nodes read where P isn't empty, the highest identity of P has a rank of at least y, and the range holds an identity with
 -- a place of the report": c is read if p is

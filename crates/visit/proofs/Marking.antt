@@ -2,16 +2,17 @@
 -- Assumes nothing.
 use mathlib.Core.Path.{_≡_, refl, sym, ap, ap₂, subst, _∙_}
 use mathlib.Core.Logic.{_⊎_, inl, inr, ⊎-elim}
-use mathlib.Core.Bool.{Bool, true, false, cond, not, _&&_, _||_, and-true, and-false, and-assoc, or-false}
+use mathlib.Core.Bool.{Bool, true, false, cond, not, _&&_, _||_, and-true, and-assoc, or-false}
 use mathlib.Core.List.{List, [], _∷_, _++_, List·Memᴰ}
 use Prim.Native.Nat.{ℕ, zero, suc, _+_, _-_, _*_, _≤_, _<_}
 use native.Mathlib.Numerals.{add-one}
 use native.Mathlib.Nat.{mul-suc, mul-zero}
 use native.Mathlib.Omega.{arith}
 use lib.Dec.{eqb, leb}
+use lib.IntN.{ℤ}
 use lib.ListN.{length, take, getD, set, replicate, length-append, length-set, length-replicate, getD-replicate, List·getD-eq-default}
 use lib.Seq.{take-suc, take-all, getD-set-same, getD-set-other, getD-take}
-use borrow.Author.Tests.{ne-eqb, eqb-true, leb-true, lt-leb}
+use borrow.Author.Tests.{ne-eqb, eqb-true}
 use Rattle.octets.specs.Lists.{has, keep, records, rising}
 use Rattle.octets.proofs.Order.{same-or-not, less-or-not}
 use Rattle.octets.proofs.Records.{left, left-cons, length-records, records-at, records-append, records-more}
@@ -19,16 +20,16 @@ use Rattle.octets.proofs.Rising.{rising-rest, rising-make, rising-least, rising
 use Rattle.octets.proofs.Sets.{has-append, has-not}
 use Rattle.octets.proofs.Tests.{keep-append, and-left, and-right}
 use Rattle.spot.specs.Spots.{keyAt, spotAt}
-use Rattle.spot.specs.Keys.{rankOf}
-use Rattle.spot.specs.Query.{everything, fromOf, lastOf, leastOf, placed, wantsKey}
+use Rattle.spot.specs.Query.{allPlaces, everything, fromOf, lastOf, leastOf, lowestOf, highestOf, isRing, ends, placed, wantsKey}
 use Rattle.spot.specs.declared.Spot.{Spot}
 use Rattle.spot.specs.declared.Query.{Query}
-use Rattle.spot.proofs.Places.{placed-yes, wants-yes}
+use Rattle.spot.proofs.Places.{placed-yes, placed-up, placed-down, placed-gap, covered, lowest-flat, highest-flat, unplaced-low, unplaced-high, all-placed, same-rank, unwanted, wants-yes}
+use Rattle.spot.proofs.Card.{keyAt-lt}
 use Rattle.block.specs.Node.{storeOf}
 use Rattle.block.proofs.Shut.{all2}
 use Rattle.tree.specs.Walk.{takes, takesKey}
 use Rattle.visit.specs.declared.Path.{Path}
-use Rattle.visit.specs.Visit.{above, waiting, waitingBy, waitingAbove, keysFrom, belowIn, taken, chosen, marksIn, AllWanted, RangeMarks, Through, Wanted, Blank, Struck, Marks, WaitsGathered}
+use Rattle.visit.specs.Visit.{above, waiting, waitingBy, waitingAbove, keysFrom, belowIn, taken, chosen, marksIn, AllWanted, RangeMarks, Unmarked, Through, Wanted, Blank, Struck, Marks, WaitsGathered}
 use Rattle.visit.proofs.Counts.{spot-key}
 use Rattle.visit.proofs.Paths.{waiting-append, path-length}
 use Rattle.visit.proofs.Search.{below-rises, run-up, run-down, run-at, run-rises}
@@ -99,60 +100,78 @@ range-end {m} a e i v h (inr s) =
       behind = λ j l. ⊎-elim (λ (g : a ≤ j). v .behind j (omega arith)) (λ (g : j < a). v .before j g) (less-or-not a j);
     }
 
+-- ---- marks taken away from a range
+
+pub unmarked-none : {m : List Bool} (a : ℕ) → Unmarked a a m m
+unmarked-none a = record { sized = refl; inside = λ i h l. absurd (let z : ⊥ = omega arith in z); outside = λ i o. refl }
+
+pub unmarked-more : {m m′ : List Bool} (a i : ℕ) → Unmarked a i m m′ → a ≤ i → i < length m → Unmarked a (i + 1) m (set m′ i false)
+unmarked-more {m} {m′} a i v f l =
+    record {
+      sized = length-set m′ i false ∙ v .sized;
+      inside = λ j g h.
+          ⊎-elim (λ (s : j ≡ i). ap (λ (y : ℕ). getD (set m′ i false) y false) s ∙ getD-set-same m′ i false false (omega (arith, v .sized)))
+          (λ (d : j ≡ i → ⊥). getD-set-other m′ i j false false d ∙ v .inside j g (omega arith))
+          (same-or-not j i);
+      outside = λ j o.
+          getD-set-other m′ i j false false (λ s. ⊎-elim (λ (h : j < a). omega arith) (λ (h : i + 1 ≤ j). omega arith) o) ∙
+          v .outside j (⊎-elim (λ (h : j < a). inl h) (λ (h : i + 1 ≤ j). inr (omega arith)) o);
+    }
+
+-- a range that ends before it begins has none
+pub unmarked-end : {m m′ : List Bool} (a e i : ℕ) → Unmarked a i m m′ → e ≤ i → (i ≤ e) ⊎ (i ≡ a) → Unmarked a e m m′
+unmarked-end {m} {m′} a e i v h (inl l) = let s : i ≡ e = omega arith in subst (λ (j : ℕ). Unmarked a j m m′) s v
+unmarked-end {m} {m′} a e i v h (inr s) =
+    record {
+      sized = v .sized;
+      inside = λ j g l. absurd (let z : ⊥ = omega arith in z);
+      outside = λ j o. v .outside j (⊎-elim (λ (g : a ≤ j). inr (omega arith)) (λ (g : j < a). inl g) (less-or-not a j));
+    }
+
 pub first-wanted : {t : List ℕ} {at n : ℕ} {q : Query} {m : List Bool} → RangeMarks 0 n m → AllWanted t at n q → Wanted t at n q m
 first-wanted v w = record { sized = v .sized; takes = λ i h. v .inside i (omega arith) h ∙ sym (w i h); rest = v .behind }
 
--- keys that rise from one of the query's places to another
-pub all-wanted : (t : List ℕ) (at n : ℕ) (q : Query) {lo hi least from last : ℕ} → 0 < n → rising (keysFrom t 12 n at) ≡ true → lo ≡ keyAt t at
-    → hi ≡ keyAt t (at + 12 * (n - 1)) → least ≡ leastOf q → from ≡ fromOf q → last ≡ lastOf q
-    → (eqb least 0 && leb from lo) && leb hi last ≡ true → AllWanted t at n q
-all-wanted t at n q {lo} {hi} {least} {from} {last} some p e g y f l h i j =
+-- keys that rise from one that passes the test at the query's first end to one that passes the test at the last
+pub all-wanted : (t : List ℕ) (at n : ℕ) (q : Query) {lo hi least from last : ℕ} {r : Bool} → 0 < n → rising (keysFrom t 12 n at) ≡ true → lo ≡ keyAt t at
+    → hi ≡ keyAt t (at + 12 * (n - 1)) → least ≡ leastOf q → from ≡ fromOf q → last ≡ lastOf q → r ≡ ends q (leb from lo) (leb hi last)
+    → eqb least 0 && r ≡ true → AllWanted t at n q
+all-wanted t at n q {lo} {hi} {least} {from} {last} {r} some p e g y f l d h i j =
     let k : ℕ = keyAt t (at + 12 * i) in
-    let b : eqb least 0 && leb from lo ≡ true = and-left (eqb least 0 && leb from lo) (leb hi last) h in
-    let z : least ≡ 0 = eqb-true least 0 (and-left (eqb least 0) (leb from lo) b) in
-    let u : from ≤ lo = leb-true from lo (and-right (eqb least 0) (leb from lo) b) in
-    let s : hi ≤ last = leb-true hi last (and-right (eqb least 0 && leb from lo) (leb hi last) h) in
+    let z : least ≡ 0 = eqb-true least 0 (and-left (eqb least 0) r h) in
     let o : at + 12 * 0 ≡ at = omega arith in
     let a : keyAt t at ≤ k = subst (λ (x : ℕ). keyAt t x ≤ k) o (run-rises t 12 n at p 0 i (omega arith) j) in
     let c : k ≤ keyAt t (at + 12 * (n - 1)) = run-rises t 12 n at p i (n - 1) (omega arith) (omega arith) in
-    wants-yes q k (placed-yes q k (omega arith) (omega arith)) (omega arith)
+    let inside : ends q (leb (fromOf q) lo) (leb hi (lastOf q)) ≡ true =
+    sym (d ∙ ap₂ (λ (x u : ℕ). ends q (leb x lo) (leb hi u)) f l) ∙ and-right (eqb least 0) r h in
+    wants-yes q k (covered q lo hi inside k (omega arith) (omega arith)) (omega arith)
 
 -- ---- where there may be marks
 
-unwanted : (q : Query) (k : ℕ) → (k < fromOf q) ⊎ (lastOf q < k) → wantsKey q k ≡ false
-unfolding wantsKey placed
-unwanted q k o =
-    let place : placed q k ≡ false =
-    all2 (leb (fromOf q) k) (leb k (lastOf q))
-    ∙ ⊎-elim (λ (l : k < fromOf q). ap (λ (b : Bool). b && leb k (lastOf q)) (lt-leb (fromOf q) k l))
-    (λ (l : lastOf q < k). ap (λ (b : Bool). leb (fromOf q) k && b) (lt-leb k (lastOf q) l) ∙ and-false (leb (fromOf q) k))
-    o
-    in
-    all2 (placed q k) (leb (leastOf q) (rankOf k)) ∙ ap (λ (b : Bool). b && leb (leastOf q) (rankOf k)) place
-
--- none before the query's first place or the run's, nor behind the last
+-- none before the query's lowest key or the run's, nor behind the highest
 module _ (t : List ℕ) (at n : ℕ) (q : Query) (some : 0 < n) (p : rising (keysFrom t 12 n at) ≡ true) where
-  before-lo : (i : ℕ) {lo from first : ℕ} → i < n → from ≡ fromOf q → first ≡ keyAt t at → (lo ≡ from) ⊎ (lo ≡ first) → keyAt t (at + 12 * i) < lo → keyAt t (at + 12 * i) < fromOf q
+  before-lo : (i : ℕ) {lo from first : ℕ} → i < n → from ≡ lowestOf q → first ≡ keyAt t at → (lo ≡ from) ⊎ (lo ≡ first) → keyAt t (at + 12 * i) < lo → keyAt t (at + 12 * i) < lowestOf q
   before-lo i l d e o h =
       let z : at + 12 * 0 ≡ at = omega arith in
       let a : keyAt t at ≤ keyAt t (at + 12 * i) = subst (λ (x : ℕ). keyAt t x ≤ keyAt t (at + 12 * i)) z (run-rises t 12 n at p 0 i (omega arith) l) in
       ⊎-elim (λ f. omega arith) (λ f. absurd (omega arith)) o
 
-  behind-hi : (i : ℕ) {hi to last : ℕ} → i < n → to ≡ lastOf q → last ≡ keyAt t (at + 12 * (n - 1)) → (hi ≡ to) ⊎ (hi ≡ last) → hi < keyAt t (at + 12 * i) → lastOf q < keyAt t (at + 12 * i)
+  behind-hi : (i : ℕ) {hi to last : ℕ} → i < n → to ≡ highestOf q → last ≡ keyAt t (at + 12 * (n - 1)) → (hi ≡ to) ⊎ (hi ≡ last) → hi < keyAt t (at + 12 * i) → highestOf q < keyAt t (at + 12 * i)
   behind-hi i l d e o h =
       let a : keyAt t (at + 12 * i) ≤ keyAt t (at + 12 * (n - 1)) = run-rises t 12 n at p i (n - 1) (omega arith) (omega arith) in
       ⊎-elim (λ f. omega arith) (λ f. absurd (omega arith)) o
 
-  pub wanted-blank : {lo hi from to first last : ℕ} {m : List Bool} → from ≡ fromOf q → to ≡ lastOf q → first ≡ keyAt t at → last ≡ keyAt t (at + 12 * (n - 1)) → (lo ≡ from) ⊎ (lo ≡ first) → (hi ≡ to) ⊎ (hi ≡ last)
+  pub wanted-blank : {lo hi from to first last : ℕ} {m : List Bool} → from ≡ lowestOf q → to ≡ highestOf q → first ≡ keyAt t at → last ≡ keyAt t (at + 12 * (n - 1)) → (lo ≡ from) ⊎ (lo ≡ first) → (hi ≡ to) ⊎ (hi ≡ last)
       → Wanted t at n q m → Blank t at n lo hi m
   wanted-blank c d e g a b v i l o =
-      v .takes i l ∙ unwanted q (keyAt t (at + 12 * i)) (⊎-elim (λ h. inl (before-lo i l c e a h)) (λ h. inr (behind-hi i l d g b h)) o)
+      let k : ℕ = keyAt t (at + 12 * i) in
+      v .takes i l
+      ∙ unwanted q k (⊎-elim (λ h. unplaced-low q k (before-lo i l c e a h)) (λ h. unplaced-high q k (keyAt-lt t (at + 12 * i)) (behind-hi i l d g b h)) o)
 
--- ---- those of the query's places, where it asks for no rank
+-- ---- those of the query's places, where it asks for no rank and is no ring
 
-pub placed-wanted : (t : List ℕ) (at n : ℕ) (q : Query) {a e from last : ℕ} {m : List Bool} → rising (keysFrom t 12 n at) ≡ true → leastOf q ≡ 0 → from ≡ fromOf q → last ≡ lastOf q
+pub placed-wanted : (t : List ℕ) (at n : ℕ) (q : Query) {a e from last : ℕ} {m : List Bool} → rising (keysFrom t 12 n at) ≡ true → leastOf q ≡ 0 → isRing q ≡ false → from ≡ fromOf q → last ≡ lastOf q
     → a ≡ belowIn from (keysFrom t 12 n at) → Through t at n last e → RangeMarks a e m → Wanted t at n q m
-placed-wanted t at n q {a} {e} {from} {last} {m} p z f l below through v =
+placed-wanted t at n q {a} {e} {from} {last} {m} p z r f l below through v =
     record {
       sized = v .sized;
       takes = each;
@@ -162,12 +181,46 @@ placed-wanted t at n q {a} {e} {from} {last} {m} p z f l below through v =
     each : (i : ℕ) → i < n → getD m i false ≡ wantsKey q (keyAt t (at + 12 * i))
     each i h =
         let k : ℕ = keyAt t (at + 12 * i) in
+        let low = lowest-flat q r in
+        let high = highest-flat q r in
         ⊎-elim
         (λ (o : from ≤ k). ⊎-elim
         (λ (u : k ≤ last). v .inside i (omega (arith, run-down t 12 n at p from i h o)) (through .under i h u) ∙ sym (wants-yes q k (placed-yes q k (omega arith) (omega arith)) (omega arith)))
-        (λ (u : last < k). v .behind i (through .over i h u) ∙ sym (unwanted q k (inr (omega arith))))
+        (λ (u : last < k). v .behind i (through .over i h u) ∙ sym (unwanted q k (unplaced-high q k (keyAt-lt t (at + 12 * i)) (omega arith))))
         (less-or-not k last))
-        (λ (o : k < from). v .before i (omega (arith, run-up t 12 n at p from i h o)) ∙ sym (unwanted q k (inl (omega arith))))
+        (λ (o : k < from). v .before i (omega (arith, run-up t 12 n at p from i h o)) ∙ sym (unwanted q k (unplaced-low q k (omega arith))))
+        (less-or-not from k)
+
+-- ---- those of a ring
+
+-- where no rank is asked for, every place is wanted
+pub all-of-them : (t : List ℕ) (at n : ℕ) (y : ℤ) → leastOf (allPlaces y) ≡ 0 → AllWanted t at n (allPlaces y)
+all-of-them t at n y z i h =
+    let k : ℕ = keyAt t (at + 12 * i) in wants-yes (allPlaces y) k (all-placed y k (keyAt-lt t (at + 12 * i))) (omega (arith, z))
+
+same-least : (q : Query) → leastOf (allPlaces (q .y)) ≡ leastOf q
+unfolding leastOf
+same-least q = refl
+
+pub ring-wanted : (t : List ℕ) (at n : ℕ) (q : Query) {a e from last : ℕ} {m m′ : List Bool} → rising (keysFrom t 12 n at) ≡ true → isRing q ≡ true → from ≡ fromOf q → last ≡ lastOf q
+    → Wanted t at n (allPlaces (q .y)) m → Through t at n last a → e ≡ belowIn from (keysFrom t 12 n at) → e ≤ n → Unmarked a e m m′ → Wanted t at n q m′
+ring-wanted t at n q {a} {e} {from} {last} {m} {m′} p r f l w through below few v =
+    record {
+      sized = v .sized ∙ w .sized;
+      takes = each;
+      rest = λ i h. v .outside i (inr (omega (arith, few))) ∙ w .rest i h;
+    }
+  where
+    each : (i : ℕ) → i < n → getD m′ i false ≡ wantsKey q (keyAt t (at + 12 * i))
+    each i h =
+        let k : ℕ = keyAt t (at + 12 * i) in
+        let small = keyAt-lt t (at + 12 * i) in
+        let same : placed q k ≡ true → getD m i false ≡ wantsKey q k = λ x. w .takes i h ∙ same-rank (allPlaces (q .y)) q k (all-placed (q .y) k small) x (same-least q) in
+        ⊎-elim
+        (λ (o : from ≤ k). v .outside i (inr (omega (arith, run-down t 12 n at p from i h o))) ∙ same (placed-up q k r (omega (arith, o, f))))
+        (λ (o : k < from). ⊎-elim (λ (u : k ≤ last). v .outside i (inl (through .under i h u)) ∙ same (placed-down q k r (omega (arith, u, l))))
+        (λ (u : last < k). v .inside i (through .over i h u) (omega (arith, run-up t 12 n at p from i h o)) ∙ sym (unwanted q k (placed-gap q k r (omega (arith, u, l)) (omega (arith, o, f)))))
+        (less-or-not k last))
         (less-or-not from k)
 
 -- how many have a key up to k

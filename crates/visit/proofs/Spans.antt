@@ -14,13 +14,13 @@ use Rattle.octets.specs.Lists.{all, isEmpty}
 use Rattle.octets.specs.Bytes.{be}
 use Rattle.spot.specs.Keys.{word, allKeys, rankKey}
 use Rattle.spot.specs.Spots.{keyAt}
-use Rattle.spot.specs.Query.{fromOf, lastOf, leastOf, meets}
+use Rattle.spot.specs.Query.{fromOf, lastOf, leastOf, ends, meets}
 use Rattle.spot.specs.declared.Query.{Query}
 use Rattle.block.specs.declared.Entry.{Entry}
 use Rattle.block.specs.declared.Asked.the-variants.{Child}
 use Rattle.block.specs.Node.{nodeOf, nodeFrom}
 use Rattle.block.specs.Access.{frontOf, entryOf}
-use Rattle.block.proofs.Shut.{all2, all4}
+use Rattle.block.proofs.Shut.{all2}
 use Rattle.block.proofs.Reading.{entries-count, entry-is}
 use Rattle.tree.specs.Part.{nextLow}
 use Rattle.tree.specs.Walk.{topped, admits}
@@ -34,14 +34,13 @@ pub before-end : (endless : Bool) (x hi : ℕ) → x < allKeys → endless || lt
 before-end true x hi h = sym (lt-ltb x allKeys h)
 before-end false x hi h = refl
 
-pub meets-is : (q : Query) (s : Span) {from last : ℕ} → from ≡ fromOf q → last ≡ lastOf q → s .lo < allKeys → from < allKeys
-    → (((s .endless || ltb (s .lo) (s .hi)) && leb from last) && leb (s .lo) last) && (s .endless || ltb from (s .hi))
-    ≡ meets q (s .lo) (endOf s)
+pub meets-is : (q : Query) (s : Span) {from last : ℕ} {r : Bool} → from ≡ fromOf q → last ≡ lastOf q → s .lo < allKeys → from < allKeys
+    → r ≡ ends q (s .endless || ltb from (s .hi)) (leb (s .lo) last) → (s .endless || ltb (s .lo) (s .hi)) && r ≡ meets q (s .lo) (endOf s)
 unfolding meets
-meets-is q s {from} {last} f l g h =
-    ap₂ (λ (a b : Bool). ((a && leb from last) && leb (s .lo) last) && b) (before-end (s .endless) (s .lo) (s .hi) g) (before-end (s .endless) from (s .hi) h)
-    ∙ sym (all4 (ltb (s .lo) (endOf s)) (leb from last) (leb (s .lo) last) (ltb from (endOf s)))
-    ∙ ap₂ (λ (x y : ℕ). all (ltb (s .lo) (endOf s) ∷ leb x y ∷ leb (s .lo) y ∷ ltb x (endOf s) ∷ [])) f l
+meets-is q s {from} f l g h e =
+    ap₂ _&&_ (before-end (s .endless) (s .lo) (s .hi) g)
+    (e ∙ ap₂ (ends q) (before-end (s .endless) from (s .hi) h ∙ ap (λ (x : ℕ). ltb x (endOf s)) f) (ap (leb (s .lo)) l))
+    ∙ sym (all2 (ltb (s .lo) (endOf s)) (ends q (ltb (fromOf q) (endOf s)) (leb (s .lo) (lastOf q))))
 
 pub admits-is : (q : Query) (e : Entry) (s : Span)
     → (not (eqb (e .size) 0) && leb (leastOf q) (rankKey (e .top) / word)) && meets q (s .lo) (endOf s) ≡ admits q (partOf (e .block) (Child e) s)

@@ -113,6 +113,12 @@ pub record RangeMarks (a e : ℕ) (m : List Bool) : Type 0 where
   pub before : (i : ℕ) → i < a → getD m i false ≡ false
   pub behind : (i : ℕ) → e ≤ i → getD m i false ≡ false
 
+-- those from a on, before e, have none, and the others are as they were
+pub record Unmarked (a e : ℕ) (m m′ : List Bool) : Type 0 where
+  pub sized : length m′ ≡ length m
+  pub inside : (i : ℕ) → a ≤ i → i < e → getD m′ i false ≡ false
+  pub outside : (i : ℕ) → (i < a) ⊎ (e ≤ i) → getD m′ i false ≡ getD m i false
+
 -- of the n spots from at on the first r have a key up to k
 pub record Through (t : List ℕ) (at n k r : ℕ) : Type 0 where
   pub few : r ≤ n

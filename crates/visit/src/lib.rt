@@ -1,18 +1,18 @@
 // Reading one node during a walk: which of its spots a query takes, given what waits in the nodes above, and which children it reads.
 ghost use mathlib.Core.Path.{_≡_};
-ghost use mathlib.Core.Bool.{true};
+ghost use mathlib.Core.Bool.{true, false};
 ghost use mathlib.Core.Logic.{_⊎_};
 ghost use mathlib.Core.List.{_∷_, [], _++_};
 ghost use Prim.Native.Nat.{_+_, _*_, _≤_, _<_};
 ghost use lib.ListN.{length, take};
 ghost use Rattle.octets.specs.Lists.{has, rising};
 ghost use Rattle.octets.specs.Bytes.{be};
-ghost use Rattle.spot.specs.Query.{meets, leastOf};
+ghost use Rattle.spot.specs.Query.{meets, leastOf, isRing, allPlaces};
 ghost use Rattle.block.specs.Node.{storeOf};
 ghost use Rattle.block.specs.NodeRules.{ValidBlock};
 ghost use Rattle.block.specs.declared.Asked.the-variants.{Child};
 ghost use Rattle.tree.specs.Walk.{admits};
-ghost use Rattle.visit.specs.Visit.{endOf, partOf, above, waiting, waitingAbove, ValidPath, WaitsGathered, KeysKept, keysFrom, Ready, AllWanted, RangeMarks, Through, Wanted, Blank, Struck, Marks, marksIn, belowIn, taken, childSpan, entriesIn};
+ghost use Rattle.visit.specs.Visit.{endOf, partOf, above, waiting, waitingAbove, ValidPath, WaitsGathered, KeysKept, keysFrom, Ready, AllWanted, RangeMarks, Unmarked, Through, Wanted, Blank, Struck, Marks, marksIn, belowIn, taken, childSpan, entriesIn};
 
 // A range of keys, from lo up to, and without, hi, or to the end.
 pub struct Span {
@@ -35,9 +35,9 @@ pub struct Path {
 pub fn meets_span(q: spot::Query, s: Span) -> bool
     ensures { λ r. ⌜ r ≡ meets q (s .lo) (endOf s) ⌝ }
 {
-    let from = spot::from_key(q);
-    let last = spot::last_key(q);
-    (s.endless | (s.lo < s.hi)) & (from <= last) & (s.lo <= last) & (s.endless | (from < s.hi))
+    let first = s.endless | (spot::from_key(q) < s.hi);
+    let last = s.lo <= spot::last_key(q);
+    (s.endless | (s.lo < s.hi)) & spot::ends(q, first, last)
 }
 
 // The child that an entry leads to is read.
@@ -101,7 +101,8 @@ pub fn has_key(t: &[u8], at: usize, w: usize, n: usize, k: u64) -> bool
     spot::read_key(t, at + w * i) == k
 }
 
-// The query wants each of the n spots from at on, which rise: it asks for no rank, and the first and the last are of its places.
+// The query wants each of the n spots from at on, which rise: it asks for no rank, and what lies between two keys that pass the tests at the ends is of its
+// places; of a ring that is a run wholly on one side.
 fn wants_all(t: &[u8], at: usize, n: usize, q: spot::Query) -> bool
     requires { ⌜ Ready (now t) at 12 n ⌝ }
     ensures { λ r. ⌜ (r ≡ true → AllWanted (now (t .entry)) at n q) ⌝ }
@@ -111,7 +112,7 @@ fn wants_all(t: &[u8], at: usize, n: usize, q: spot::Query) -> bool
     }
     let first = spot::read_key(t, at);
     let last = spot::read_key(t, at + 12 * (n - 1));
-    (spot::least_of(q) == 0) & (spot::from_key(q) <= first) & (last <= spot::last_key(q))
+    (spot::least_of(q) == 0) & spot::ends(q, spot::from_key(q) <= first, last <= spot::last_key(q))
 }
 
 // Marks from a on, before e.
@@ -128,9 +129,23 @@ fn range_marks(a: usize, e: usize) -> [bool; 64]
     m
 }
 
-// Marks those of the n spots from at on that the query wants, each tested.
+// Takes the marks away from a on, before e.
+fn unmarked(m: [bool; 64], a: usize, e: usize) -> [bool; 64]
+    requires { ⌜ (e ≤ 64) × (length m ≡ 64) ⌝ }
+    ensures { λ r. ⌜ Unmarked a e m r ⌝ }
+{
+    let mut left = m;
+    let mut i = a;
+    while i < e {
+        left[i] = false;
+        i += 1;
+    }
+    left
+}
+
+// Marks those of the n spots from at on that the query wants, each tested; it is no ring.
 fn wanted_each(t: &[u8], at: usize, n: usize, q: spot::Query) -> [bool; 64]
-    requires { ⌜ (n ≤ 64) × (at + 12 * n ≤ length (now t)) ⌝ }
+    requires { ⌜ (n ≤ 64) × (at + 12 * n ≤ length (now t)) × (isRing q ≡ false) ⌝ }
     ensures { λ r. ⌜ Wanted (now (t .entry)) at n q r ⌝ }
 {
     let mut m = [false; 64];
@@ -158,14 +173,37 @@ fn through(t: &[u8], at: usize, n: usize, k: u64) -> usize
     below(t, at, 12, n, k + 1)
 }
 
-// Marks those of the n spots from at on, which rise, that are of the query's places; it asks for no rank.
+// Marks those of the n spots from at on, which rise, that are of the query's places; it asks for no rank, and is no ring.
 fn placed_marks(t: &[u8], at: usize, n: usize, q: spot::Query) -> [bool; 64]
-    requires { ⌜ Ready (now t) at 12 n × (leastOf q ≡ 0) ⌝ }
+    requires { ⌜ Ready (now t) at 12 n × (leastOf q ≡ 0) × (isRing q ≡ false) ⌝ }
     ensures { λ r. ⌜ Wanted (now (t .entry)) at n q r ⌝ }
 {
     let a = below(t, at, 12, n, spot::from_key(q));
     let e = through(t, at, n, spot::last_key(q));
     range_marks(a, e)
+}
+
+// Marks those of the n spots from at on that have a rank of at least y.
+fn ranked_marks(t: &[u8], at: usize, n: usize, y: i32) -> [bool; 64]
+    requires { ⌜ (n ≤ 64) × (at + 12 * n ≤ length (now t)) ⌝ }
+    ensures { λ r. ⌜ Wanted (now (t .entry)) at n (allPlaces y) r ⌝ }
+{
+    let q = spot::all_places(y);
+    if spot::least_of(q) == 0 {
+        return range_marks(0, n);
+    }
+    wanted_each(t, at, n, q)
+}
+
+// Marks those of the n spots from at on, which rise, that a ring wants: those in the gap stand together.
+fn ring_marks(t: &[u8], at: usize, n: usize, q: spot::Query) -> [bool; 64]
+    requires { ⌜ Ready (now t) at 12 n × (isRing q ≡ true) ⌝ }
+    ensures { λ r. ⌜ Wanted (now (t .entry)) at n q r ⌝ }
+{
+    let m = ranked_marks(t, at, n, q.y);
+    let a = through(t, at, n, spot::last_key(q));
+    let e = below(t, at, 12, n, spot::from_key(q));
+    unmarked(m, a, e)
 }
 
 // Marks those of the n spots from at on, which rise, that the query wants.
@@ -175,6 +213,9 @@ fn wanted(t: &[u8], at: usize, n: usize, q: spot::Query) -> [bool; 64]
 {
     if wants_all(t, at, n, q) {
         return range_marks(0, n);
+    }
+    if spot::is_ring(q) {
+        return ring_marks(t, at, n, q);
     }
     if spot::least_of(q) == 0 {
         return placed_marks(t, at, n, q);
@@ -324,8 +365,8 @@ pub fn marks(t: &[u8], at: usize, n: usize, q: spot::Query, p: Path, ws: &[u64])
     if n == 0 {
         return m;
     }
-    let lo = later(spot::from_key(q), spot::read_key(t, at));
-    let hi = earlier(spot::last_key(q), spot::read_key(t, at + 12 * (n - 1)));
+    let lo = later(spot::lowest_key(q), spot::read_key(t, at));
+    let hi = earlier(spot::highest_key(q), spot::read_key(t, at + 12 * (n - 1)));
     if (p.lo <= lo) & (hi <= p.last) {
         strike_keys(t, at, n, &mut m, ws, p.waits);
         return m;
@@ -416,8 +457,8 @@ pub fn no_path(q: spot::Query) -> Path
     Path {
         n: 0,
         blocks: [0; 8],
-        lo: spot::from_key(q),
-        last: spot::last_key(q),
+        lo: spot::lowest_key(q),
+        last: spot::highest_key(q),
         waits: 0,
     }
 }

@@ -4,7 +4,7 @@ use crate::clock::{now, race, Runs};
 use crate::flat;
 use crate::row::Row;
 use crate::sqlite::Sqlite;
-use spot_reference::{make, plain, Key, Random};
+use spot_reference::{holds, make, plain, Key, Random};
 use spot_table::{add, check, count, format, rebuild, report, top, withdraw, Spot, BLOCK, MAP, SPOT};
 use std::collections::BTreeMap;
 use std::hint::black_box;
@@ -100,18 +100,21 @@ impl Setting {
         let best = ranks[ranks.len() - 20];
         let all = (i32::MIN, i32::MAX);
         let part = |n: i32| (-HALF / n, HALF / n);
+        let past_door = |n: i32| (HALF - HALF / n, HALF / n - HALF);
         let mut reports = vec![
             ("narrow, 0.1 %", part(1000), i32::MIN),
             ("wide, 1 %", part(100), i32::MIN),
+            ("1 % past the door", past_door(100), i32::MIN),
             ("a tenth", part(10), i32::MIN),
+            ("a tenth past the door", past_door(10), i32::MIN),
             ("everything", all, i32::MIN),
         ];
         reports.push(("~20 best of all", all, best));
         for (name, places, y) in reports {
             out.push(self.report(rounds, name, places, y));
         }
-        for (name, places) in [("1 %", part(100)), ("10 %", part(10)), ("all", all)] {
-            let held = self.live.keys().filter(|k| (places.0..=places.1).contains(&k.0)).count();
+        for (name, places) in [("1 %", part(100)), ("10 %", part(10)), ("10 % past the door", past_door(10)), ("all", all)] {
+            let held = self.live.keys().filter(|k| holds(places.0, places.1, k.0)).count();
             for (k, text) in [(10, "10"), (1000, "1,000"), (10_000, "10,000"), (u32::MAX, "all")] {
                 if (k as usize) < held || k == u32::MAX && !(quick && name != "all") {
                     out.push(self.top(rounds, &format!("{text} of {name}"), places, k));

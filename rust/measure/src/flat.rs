@@ -1,6 +1,6 @@
 //! The file that guides read today: spots of 12 bytes, sorted by place. Read through, or searched by halving.
 
-use spot_reference::{top_order, Key};
+use spot_reference::{stretches, top_order, Key};
 
 const WIDTH: usize = 12;
 /// A block of the card.
@@ -48,27 +48,42 @@ fn part(file: &[u8], x1: i32, x2: i32) -> &[u8] {
     &file[WIDTH * from.min(to)..WIDTH * to]
 }
 
-/// The spots of the range with at least this rank; the number of them.
+/// Counted on from x1, the place comes no later than x2; past the door as well.
+fn is_placed(place: i32, x1: i32, x2: i32) -> bool {
+    place.wrapping_sub(x1) as u32 <= x2.wrapping_sub(x1) as u32
+}
+
+/// The spots of the range with at least this rank; the number of them. Past the door they are turned to begin at x1.
 pub fn report(file: &[u8], x1: i32, x2: i32, y: i32, out: &mut [u8]) -> usize {
     let mut n = 0;
     for s in file.chunks_exact(WIDTH) {
-        let place = word(s, 0);
-        if x1 <= place && place <= x2 && word(s, 4) >= y {
+        if is_placed(word(s, 0), x1, x2) && word(s, 4) >= y {
             out[WIDTH * n..WIDTH * (n + 1)].copy_from_slice(s);
             n += 1;
         }
+    }
+    if x1 > x2 {
+        let before = halve(&out[..WIDTH * n], (x1, i32::MIN));
+        out[..WIDTH * n].rotate_left(WIDTH * before);
     }
     n
 }
 
 pub fn report_halved(file: &[u8], x1: i32, x2: i32, y: i32, out: &mut [u8]) -> usize {
-    report(part(file, x1, x2), x1, x2, y, out)
+    let mut n = 0;
+    for (first, last) in stretches(x1, x2) {
+        n += report(part(file, first, last), first, last, y, &mut out[WIDTH * n..]);
+    }
+    n
 }
 
-/// The first k of the range in the order of Top's answers: kept, cut at the k-th, sorted.
-pub fn top(file: &[u8], x1: i32, x2: i32, k: usize, out: &mut [u8]) -> usize {
-    let wanted = file.chunks_exact(WIDTH).filter(|s| (x1..=x2).contains(&word(s, 0)));
-    let mut kept: Vec<(Key, &[u8])> = wanted.map(|s| ((word(s, 0), word(s, 4)), &s[8..])).collect();
+/// The identity and the bytes of the track.
+fn fields(s: &[u8]) -> (Key, &[u8]) {
+    ((word(s, 0), word(s, 4)), &s[8..])
+}
+
+/// The first k of these spots in the order of Top's answers: cut at the k-th, sorted.
+fn best(mut kept: Vec<(Key, &[u8])>, k: usize, out: &mut [u8]) -> usize {
     if k < kept.len() {
         kept.select_nth_unstable_by_key(k, |s| top_order(s.0));
         kept.truncate(k);
@@ -83,8 +98,17 @@ pub fn top(file: &[u8], x1: i32, x2: i32, k: usize, out: &mut [u8]) -> usize {
     kept.len()
 }
 
+pub fn top(file: &[u8], x1: i32, x2: i32, k: usize, out: &mut [u8]) -> usize {
+    let wanted = file.chunks_exact(WIDTH).filter(|s| is_placed(word(s, 0), x1, x2));
+    best(wanted.map(fields).collect(), k, out)
+}
+
 pub fn top_halved(file: &[u8], x1: i32, x2: i32, k: usize, out: &mut [u8]) -> usize {
-    top(part(file, x1, x2), x1, x2, k, out)
+    let mut kept = vec![];
+    for (first, last) in stretches(x1, x2) {
+        kept.extend(part(file, first, last).chunks_exact(WIDTH).map(fields));
+    }
+    best(kept, k, out)
 }
 
 /// The blocks that reading the file through takes.
@@ -107,9 +131,11 @@ pub fn blocks_halved(file: &[u8], x1: i32, x2: i32) -> usize {
             }
         }
     }
-    let inside = part(file, x1, x2);
-    let from = inside.as_ptr() as usize - file.as_ptr() as usize;
-    read.extend(from / BLOCK..(from + inside.len()).div_ceil(BLOCK));
+    for (first, last) in stretches(x1, x2) {
+        let inside = part(file, first, last);
+        let from = inside.as_ptr() as usize - file.as_ptr() as usize;
+        read.extend(from / BLOCK..(from + inside.len()).div_ceil(BLOCK));
+    }
     read.len()
 }
 

@@ -1,7 +1,7 @@
 //! SQLite in memory: primary key (place, rank) without rowid, an index on (rank falling, place), rows fetched.
 
 use crate::flat::put;
-use spot_reference::Key;
+use spot_reference::{stretches, Key};
 use std::ffi::{c_char, c_int, c_void, CStr, CString};
 use std::ptr::null_mut;
 
@@ -30,6 +30,8 @@ pub struct Sqlite {
     db: *mut c_void,
     report: *mut c_void,
     top: *mut c_void,
+    /// The plus keeps it at the primary key, as the other one is: by rank it would read all.
+    top_past_door: *mut c_void,
     add: *mut c_void,
     withdraw: *mut c_void,
     count: *mut c_void,
@@ -40,11 +42,14 @@ impl Sqlite {
     pub fn new<'a>(spots: impl Iterator<Item = (&'a Key, &'a u32)>) -> Sqlite {
         let mut db = null_mut();
         assert_eq!(unsafe { sqlite3_open(c":memory:".as_ptr(), &mut db) }, 0);
-        let mut s = Sqlite { db, report: null_mut(), top: null_mut(), add: null_mut(), withdraw: null_mut(), count: null_mut() };
+        let [report, top, top_past_door, add, withdraw, count] = [null_mut(); 6];
+        let mut s = Sqlite { db, report, top, top_past_door, add, withdraw, count };
         s.run("CREATE TABLE spots(place INTEGER, rank INTEGER, track INTEGER, PRIMARY KEY(place, rank)) WITHOUT ROWID");
         s.run("CREATE INDEX by_rank ON spots(rank DESC, place)");
         s.report = s.prepare("SELECT place, rank, track FROM spots WHERE place BETWEEN ?1 AND ?2 AND rank >= ?3 ORDER BY place, rank");
         s.top = s.prepare("SELECT place, rank, track FROM spots WHERE place BETWEEN ?1 AND ?2 ORDER BY rank DESC, place ASC LIMIT ?3");
+        s.top_past_door =
+            s.prepare("SELECT place, rank, track FROM spots WHERE place >= ?1 OR place <= ?2 ORDER BY +rank DESC, place ASC LIMIT ?3");
         s.add = s.prepare("INSERT OR REPLACE INTO spots VALUES(?1, ?2, ?3)");
         s.withdraw = s.prepare("DELETE FROM spots WHERE place = ?1 AND rank = ?2");
         s.count = s.prepare("SELECT count(*) FROM spots");
@@ -94,11 +99,16 @@ impl Sqlite {
     }
 
     pub fn report(&self, x1: i32, x2: i32, y: i32, out: &mut [u8]) -> usize {
-        Sqlite::fetch(self.report, [x1.into(), x2.into(), y.into()], out)
+        let mut n = 0;
+        for (first, last) in stretches(x1, x2) {
+            n += Sqlite::fetch(self.report, [first.into(), last.into(), y.into()], &mut out[12 * n..]);
+        }
+        n
     }
 
     pub fn top(&self, x1: i32, x2: i32, k: u32, out: &mut [u8]) -> usize {
-        Sqlite::fetch(self.top, [x1.into(), x2.into(), k.into()], out)
+        let st = if x1 <= x2 { self.top } else { self.top_past_door };
+        Sqlite::fetch(st, [x1.into(), x2.into(), k.into()], out)
     }
 
     pub fn count(&self) -> usize {
@@ -119,7 +129,7 @@ impl Sqlite {
 
 impl Drop for Sqlite {
     fn drop(&mut self) {
-        for st in [self.report, self.top, self.add, self.withdraw, self.count] {
+        for st in [self.report, self.top, self.top_past_door, self.add, self.withdraw, self.count] {
             unsafe { sqlite3_finalize(st) };
         }
         unsafe { sqlite3_close(self.db) };

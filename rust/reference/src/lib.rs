@@ -5,11 +5,13 @@ mod explain;
 pub mod histories;
 mod layout;
 pub mod plain;
+mod range;
 mod tables;
 mod tree;
 pub mod words;
 
 pub use explain::{faults, sound, Fault, Way, MOST_FAULTS, RULES};
 pub use layout::{top_order, Key};
+pub use range::{holds, reported, stretches};
 pub use tables::{make, read_by_report, some_spots, Entry, Made, Node, Random};
 pub use tree::{nodes, Placed};

@@ -78,23 +78,18 @@ pub fn diff(path: &Path, sheet: &Path, csv: bool) -> Result<()> {
 pub fn report(path: &Path, range: &Range, y: i32, shape: &Shape) -> Result<()> {
     let Card { table, .. } = read_for_question(path)?;
     let found = table.report(range.x1, range.x2, y)?;
-    let Range { x1, x2 } = *range;
-    let title = format!("{} from {x1} to {x2} cm with rank {y} or more", words::count(found.spots.len(), "spot"));
-    show(&found, range, shape, &title, table.blocks())
+    let title = format!("{} {} with rank {y} or more", words::count(found.spots.len(), "spot"), range.words());
+    show(&found, shape, &title, table.blocks())
 }
 
 pub fn top(path: &Path, range: &Range, k: u32, shape: &Shape) -> Result<()> {
     let Card { table, .. } = read_for_question(path)?;
     let found = table.top(range.x1, range.x2, k)?;
-    let Range { x1, x2 } = *range;
-    let title = format!("the best {} from {x1} to {x2} cm", words::count(found.spots.len(), "spot"));
-    show(&found, range, shape, &title, table.blocks())
+    let title = format!("the best {} {}", words::count(found.spots.len(), "spot"), range.words());
+    show(&found, shape, &title, table.blocks())
 }
 
-fn show(found: &Found, range: &Range, shape: &Shape, title: &str, of: usize) -> Result<()> {
-    if range.x1 > range.x2 {
-        problem::print(&format!("note: the first place, {}, lies behind the last, {}: no spot is between them.", range.x1, range.x2));
-    }
+fn show(found: &Found, shape: &Shape, title: &str, of: usize) -> Result<()> {
     let numbers: Vec<String> = found.blocks.iter().map(|b| b.to_string()).collect();
     let blocks = format!("{} read of {}: {}", words::count(found.blocks.len(), "block"), words::number(of as i128), numbers.join(" "));
     if shape.csv {

@@ -1,7 +1,7 @@
 //! The spots: a dot each, or squares that are darker where more lie, where dots would cover each other.
 
 use super::svg::Svg;
-use super::{colour, sides, Dot, Scene, HEIGHT, LEFT, TOP, WIDTH};
+use super::{areas, colour, Dot, Scene, HEIGHT, LEFT, TOP, WIDTH};
 use std::collections::BTreeMap;
 
 /// Shades of a square, from one that has few spots to the one that has most.
@@ -128,10 +128,10 @@ fn draw_dot(svg: &mut Svg, scene: &Scene, dot: &Dot, radius: f64, is_titled: boo
 
 /// The spots of the answer, where there is room to see them one by one.
 fn rings(svg: &mut Svg, scene: &Scene, radius: f64) {
-    let (Some(query), Some((left, right, floor))) = (scene.query, sides(scene)) else {
+    let Some(query) = scene.query else {
         return;
     };
-    let room = (right - left) * (floor - TOP + 8.0);
+    let room: f64 = areas(scene).iter().map(|a| (a.right - a.left) * (a.floor - TOP + 8.0)).sum();
     let n = query.found.spots.len();
     if n > MOST_RINGS || room < ROOM_A_RING * n as f64 {
         return;

@@ -3,7 +3,7 @@
 use super::bars::{is_narrow, PALE};
 use super::dots::{look, Plan, SHADES};
 use super::svg::Svg;
-use super::{colour, Query, Scene, LEGEND, TOP};
+use super::{areas, colour, Query, Scene, LEGEND, TOP};
 use crate::words;
 
 const ROW: f64 = 22.0;
@@ -76,8 +76,7 @@ fn of_query(scene: &Scene, query: &Query) -> Vec<Row> {
         Row::Text(format!("{read} of {used} blocks in use read")),
         Row::Text("(block 0 is always read)".into()),
     ];
-    let (first, last) = (scene.x.first, scene.x.last);
-    if i64::from(query.x2) < first || i64::from(query.x1) > last {
+    if areas(scene).is_empty() {
         out.push(Row::Text("it lies outside this picture".into()));
     }
     out

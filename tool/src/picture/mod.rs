@@ -12,6 +12,7 @@ use crate::tree::{self, Home, Node};
 use crate::words;
 use anyhow::Result;
 use axis::Axis;
+use spot_reference::stretches;
 use std::collections::BTreeSet;
 use std::path::Path;
 use svg::Svg;
@@ -48,10 +49,11 @@ pub struct Query {
 
 impl Query {
     fn words(&self) -> [String; 3] {
-        let places = format!("places {} to {}", self.x1, self.x2);
+        let (past, to) = if self.x1 <= self.x2 { ("", "to") } else { (" past the door", "on to") };
+        let places = format!("places {} {to} {}", self.x1, self.x2);
         match (self.least, self.best) {
-            (Some(y), _) => ["report".into(), places, format!("rank {y} or more")],
-            (None, k) => ["top".into(), places, format!("the best {}", k.unwrap_or(0))],
+            (Some(y), _) => [format!("report{past}"), places, format!("rank {y} or more")],
+            (None, k) => [format!("top{past}"), places, format!("the best {}", k.unwrap_or(0))],
         }
     }
 
@@ -113,7 +115,7 @@ pub fn draw(name: &str, table: &Table, query: Option<&Query>) -> Result<String> 
     title(&mut svg, name, table, &scene);
     axis::draw(&mut svg, &scene);
     dots::draw(&mut svg, &scene);
-    outline(&mut svg, &scene);
+    areas(&scene).iter().for_each(|area| outline(&mut svg, &scene, area));
     bars::draw(&mut svg, &scene);
     legend::draw(&mut svg, &scene);
     Ok(svg.finish())
@@ -134,28 +136,45 @@ fn title(svg: &mut Svg, name: &str, table: &Table, scene: &Scene) {
     svg.text(LEFT, 58.0, "sub", &sub);
 }
 
-/// The query on the paper: its left and right side, and its floor.
-fn sides(scene: &Scene) -> Option<(f64, f64, f64)> {
-    let query = scene.query.filter(|q| q.x1 <= q.x2)?;
-    let (left, right) = (scene.x.edge(query.x1, -0.5), scene.x.edge(query.x2, 0.5));
-    let rank = query.bottom();
-    let floor = rank.map_or(scene.floor(), |y| scene.y.edge(y, -0.5));
-    (left < right).then(|| (left, right.max(left + 2.0), floor))
+/// A stretch of the query's places on the paper.
+struct Area {
+    left: f64,
+    right: f64,
+    floor: f64,
+    /// Whether the query begins here and ends here, or runs on past the door.
+    begins: bool,
+    ends: bool,
 }
 
-/// The query: open towards the top, as it has no highest rank.
-fn outline(svg: &mut Svg, scene: &Scene) {
-    let Some((left, right, floor)) = sides(scene) else {
-        return;
+/// The query on the paper: as much of its places as is shown, one stretch or two.
+fn areas(scene: &Scene) -> Vec<Area> {
+    let Some(query) = scene.query else {
+        return vec![];
     };
+    let floor = query.bottom().map_or(scene.floor(), |y| scene.y.edge(y, -0.5));
+    let mut out = vec![];
+    for (first, last) in stretches(query.x1, query.x2) {
+        let (left, right) = (scene.x.edge(first, -0.5), scene.x.edge(last, 0.5));
+        if left < right {
+            let (begins, ends) = (first == query.x1, last == query.x2);
+            out.push(Area { left, right: right.max(left + 2.0), floor, begins, ends });
+        }
+    }
+    out
+}
+
+/// The outline of a stretch: open towards the top, as the query has no highest rank, and where it runs on past the door.
+fn outline(svg: &mut Svg, scene: &Scene, area: &Area) {
+    let Area { left, right, floor, begins, ends } = *area;
     let top = TOP - 8.0;
     let fill = "fill=\"#000\" fill-opacity=\"0.06\"";
     svg.rect(left, top, right - left, floor - top, fill);
-    let d = format!("M{left:.1} {top:.1}V{floor:.1}H{right:.1}V{top:.1}");
-    svg.path(&d, "class=\"query\"");
+    let from = if begins { format!("{top:.1}V{floor:.1}") } else { format!("{floor:.1}") };
+    let to = if ends { format!("V{top:.1}") } else { String::new() };
+    svg.path(&format!("M{left:.1} {from}H{right:.1}{to}"), "class=\"query\"");
     // Down to the bars, but not through the numbers of the axis.
     let (axis, lanes, end) = (scene.floor(), scene.floor() + AXIS - 8.0, scene.bottom());
-    for x in [left, right] {
+    for x in [begins.then_some(left), ends.then_some(right)].into_iter().flatten() {
         let d = format!("M{x:.1} {floor:.1}V{axis:.1}M{x:.1} {lanes:.1}V{end:.1}");
         svg.path(&d, "class=\"query fine\"");
     }

@@ -1,15 +1,22 @@
--- `table::report` meets its contract: counted, then copied from the small buffer or collected; the map of the blocks seen is handed out.
+-- `table::report` meets its contract: counted, then taken from the small buffer or collected, and turned; the map of the blocks seen is handed out.
 -- Assumes nothing.
 use mathlib.Core.Path.{_≡_, refl, sym, ap, _∙_}
+use mathlib.Core.Bool.{true}
+use mathlib.Core.List.{List}
 use Prim.Native.Nat.{ℕ}
 use lib.ListN.{length, length-replicate}
 use denote.Ref.{now}
 use mir.Syntax.{w32}
 use mir.ValLaws.{toZ-ofZ}
 use borrow.Author.Tests.{not-true, not-false, ne-eqb}
+use Rattle.octets.specs.Lists.{ascends}
+use Rattle.spot.specs.Spots.{keys}
+use Rattle.spot.specs.declared.Spot.{Spot}
 use Rattle.query.proofs.Counting.{either}
+use Rattle.query.proofs.Ordered.{walk-ascends}
 use Rattle.table.specs.Calls.{report}
-use Rattle.table.proofs.Answering.{query-short, query-lent, report-broken, report-many, report-given, told-whole, query-same, few-are, map-is}
+use Rattle.table.proofs.Answering.{query-short, query-lent, report-broken, report-many, report-given, told-whole, map-is}
+use Rattle.table.proofs.Reporting.{held-are}
 use borrow.Author.Needs.{needs}
 use native.Mathlib.Omega.{arith}
 use Rattle.table.proofs.report.Statement.{statement}
@@ -31,7 +38,7 @@ returns-3 c =
     let at-if2 = at-report-size .before .before .before in
     let at-if1 = at-if2 .before in
     let start = at-if1 .before .before .before .before .before in
-    report-broken _ _ _ _ (query-same _ _ _ _ _ _ _ (toZ-ofZ w32 _ (start .fits .x1)) (toZ-ofZ w32 _ (start .fits .x2)) (toZ-ofZ w32 _ (start .fits .y)) refl) _ _ _ _ _
+    report-broken _ _ _ _ _ _ (toZ-ofZ w32 _ (start .fits .x1)) (toZ-ofZ w32 _ (start .fits .x2)) (toZ-ofZ w32 _ (start .fits .y)) _ _ _ _ _
     (sym (at-if1 .before .sized .ensures) ∙ not-false _ (at-if1 .if1 .left))
     (omega (arith, at-if2 .if2 .left))
     (at-report-size .report-size .ensures .0 .ok)
@@ -47,7 +54,7 @@ returns-4 c =
     let at-if1 = at-if2 .before in
     let start = at-if1 .before .before .before .before .before in
     let ok = not-false _ (at-if3 .if3 .left) in
-    report-many _ _ _ _ (query-same _ _ _ _ _ _ _ (toZ-ofZ w32 _ (start .fits .x1)) (toZ-ofZ w32 _ (start .fits .x2)) (toZ-ofZ w32 _ (start .fits .y)) refl) _ _ _ _ _ _
+    report-many _ _ _ _ _ _ (toZ-ofZ w32 _ (start .fits .x1)) (toZ-ofZ w32 _ (start .fits .x2)) (toZ-ofZ w32 _ (start .fits .y)) _ _ _ _ _ _
     (sym (at-if1 .before .sized .ensures) ∙ not-false _ (at-if1 .if1 .left))
     (omega (arith, at-if2 .if2 .left))
     (at-report-size .report-size .ensures .0 .ok)
@@ -56,14 +63,22 @@ returns-4 c =
     (omega (arith, at-if4 .if4 .taken))
     refl
 
-cast-t18 : tie.Need-cast-t18
-cast-t18 c = omega (arith, c .before .before .before .before .before .before .before .report-size .ensures .0 .few)
-
-mul-copy : tie.Need-mul-copy
-mul-copy c = omega (arith, c .before .before .before .if5 .taken)
-
-copy-requires : tie.Need-copy-requires
-copy-requires c κs = (omega (arith, c .before .before .before .if5 .taken, c .before .before .before .before .before .before .before .before .before .before .before .report-size .ensures .1 .sized, length-replicate {A = ℕ} 1536 0), omega (arith, c .before .before .before .before .before .if4 .left))
+report-held-requires : tie.Need-report-held-requires
+report-held-requires c κs =
+    let at-if5 = c .before .before in
+    let at-if4 = at-if5 .before .before in
+    let at-if3 = at-if4 .before .before in
+    let at-report-size = at-if3 .before .before .before .before in
+    let ok : at-report-size .report-size .result .ok ≡ true = not-false _ (at-if3 .if3 .left) in
+    let counted = at-report-size .report-size .ensures in
+    record {
+      held = omega (arith, at-if5 .if5 .taken, counted .1 .sized, length-replicate {A = ℕ} 1536 0);
+      room = omega (arith, at-if4 .if4 .left);
+      order =
+          ap (λ (ss : List Spot). ascends 0 (keys ss))
+          (counted .1 .spots ok (omega (arith, at-if5 .if5 .taken, length-replicate {A = ℕ} 1536 0))) ∙
+          walk-ascends _ _;
+    }
 
 report-into-requires : tie.Need-report-into-requires
 report-into-requires c κs =
@@ -78,22 +93,16 @@ report-into-requires c κs =
       room = omega (arith, at-if4 .if4 .left, at-report-size .report-size .ensures .0 .spots ok);
     }
 
-copy-requires-2 : tie.Need-copy-requires-2
-copy-requires-2 c κs = (omega (arith, c .before .before .before .before .before .before .before .before .before .before .report-size .ensures .0 .sized), omega (arith, c .before .before .before .before .before .before .before .before .before .before .before .before .before .if2 .left))
-
-cast-t33 : tie.Need-cast-t33
-cast-t33 c = omega (arith, c .before .before .before .before .before .before .before .before .before .before .before .before .before .before .report-size .ensures .0 .few)
-
 same-length : tie.Need-same-length
 same-length c =
     either (c .before .before .before .before .before .before .if5 .came)
-    (λ w. ap length (w .7) ∙ w .4 .kept .1 .0)
+    (λ w. ap length (w .6) ∙ w .3 .kept .1 .1 .1 .1 .1 .0)
     (λ w. ap length (w .5) ∙ w .2 .kept .1 .1 .1 .1 .0)
 
 returns-5 : tie.Need-returns-5
 returns-5 c =
-    let at-copy2 = c .before .before .before in
-    let at-if5 = at-copy2 .before .before .before in
+    let at-copy = c .before .before .before in
+    let at-if5 = at-copy .before .before .before in
     let at-if4 = at-if5 .before .before in
     let at-if3 = at-if4 .before .before in
     let at-report-size = at-if3 .before .before .before .before in
@@ -103,7 +112,7 @@ returns-5 c =
     let mapped : length (now (start .args .read-map)) ≡ 512 = omega (arith, at-if2 .if2 .left) in
     let ok = not-false _ (at-if3 .if3 .left) in
     let counted = at-report-size .report-size .ensures .0 in
-    report-given _ _ _ _ (query-same _ _ _ _ _ _ _ (toZ-ofZ w32 _ (start .fits .x1)) (toZ-ofZ w32 _ (start .fits .x2)) (toZ-ofZ w32 _ (start .fits .y)) refl) _ _ _ _ _ _ _ _
+    report-given _ _ _ _ _ _ (toZ-ofZ w32 _ (start .fits .x1)) (toZ-ofZ w32 _ (start .fits .x2)) (toZ-ofZ w32 _ (start .fits .y)) _ _ _ _ _ _ _ _
     (sym (at-if1 .before .sized .ensures) ∙ not-false _ (at-if1 .if1 .left))
     mapped
     (counted .ok)
@@ -112,9 +121,12 @@ returns-5 c =
     (omega (arith, at-if4 .if4 .left))
     refl
     (either (at-if5 .if5 .came)
-    (λ w. w .7 ∙ few-are _ _ _ _ _ _ (counted .spots ok) (at-report-size .report-size .ensures .1 .front ok (omega (arith, w .0 .taken, length-replicate {A = ℕ} 1536 0))) (w .4 .ensures))
+    (λ w.
+    w .6 ∙ held-are _ _ _ _ _ _
+    (at-report-size .report-size .ensures .1 .spots ok (omega (arith, w .0 .taken, length-replicate {A = ℕ} 1536 0)))
+    (w .3 .ensures))
     (λ w. w .5 ∙ w .2 .ensures .output))
-    (map-is _ (now (start .args .read-map)) _ _ (counted .sized) mapped (counted .marks ok) (at-copy2 .copy2 .ensures))
+    (map-is _ (now (start .args .read-map)) _ _ (counted .sized) mapped (counted .marks ok) (at-copy .copy .ensures))
 
 pub report-spec : {M : Type 1} → statement M
 report-spec =
@@ -130,15 +142,14 @@ report-spec =
     report-size-requires
     (λ c κs. search needs)
     returns-3
-    cast-t18
+    (λ c. search needs)
     returns-4
     (λ c. search needs)
-    mul-copy
-    copy-requires
+    report-held-requires
     report-into-requires
     (λ c. search needs)
-    copy-requires-2
-    cast-t33
+    (λ c κs. search needs)
+    (λ c. search needs)
     same-length
     (λ c. search needs)
     returns-5)

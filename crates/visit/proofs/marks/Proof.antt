@@ -19,7 +19,7 @@ module _ (c : tie.After-earlier) where
   blank : Blank (now (start .args .t)) (start .args .at) (start .args .n) (c .before .before .before .later .result) (c .earlier .result) (c .before .before .before .before .before .before .before .wanted .result)
   blank =
       wanted-blank (now (start .args .t)) (start .args .at) (start .args .n) (start .args .q) (omega (arith, c .before .before .before .before .before .before .if1 .left)) (start .pre .3)
-      (c .before .before .before .before .before .from-key .ensures) (c .before .before .last-key .ensures) (c .before .before .before .before .read-key .ensures) (c .before .read-key2 .ensures) (c .before .before .before .later .ensures .0)
+      (c .before .before .before .before .before .lowest-key .ensures) (c .before .before .highest-key .ensures) (c .before .before .before .before .read-key .ensures) (c .before .read-key2 .ensures) (c .before .before .before .later .ensures .0)
       (c .earlier .ensures .0) (c .before .before .before .before .before .before .before .wanted .ensures)
 
 wanted-requires : tie.Need-wanted-requires
@@ -28,8 +28,8 @@ wanted-requires c κs = search needs
 returns : tie.Need-returns
 returns c = marks-none (c .before .before .before .before .args .p) (omega arith) (c .before .wanted .ensures)
 
-from-key-requires : tie.Need-from-key-requires
-from-key-requires c κs = search needs
+lowest-key-requires : tie.Need-lowest-key-requires
+lowest-key-requires c κs = search needs
 
 read-key-requires : tie.Need-read-key-requires
 read-key-requires c κs = search needs
@@ -37,8 +37,8 @@ read-key-requires c κs = search needs
 later-requires : tie.Need-later-requires
 later-requires c κs = search needs
 
-last-key-requires : tie.Need-last-key-requires
-last-key-requires c κs = search needs
+highest-key-requires : tie.Need-highest-key-requires
+highest-key-requires c κs = search needs
 
 sub-read-key : tie.Need-sub-read-key
 sub-read-key c = search needs
@@ -95,10 +95,10 @@ marks-spec =
     (tie.spec
     wanted-requires
     returns
-    from-key-requires
+    lowest-key-requires
     read-key-requires
     later-requires
-    last-key-requires
+    highest-key-requires
     sub-read-key
     mul-read-key
     add-read-key

@@ -8,9 +8,10 @@ use Rattle.visit.proofs.meets_span.Tie as tie
 
 returns : tie.Need-returns
 returns c =
-    let ends = c .before .before .before .before .before in
-    let s = ends .before .before in
-    meets-is (s .args .q) (s .args .s) (ends .before .from-key .ensures) (ends .last-key .ensures) (omega arith) (omega arith)
+    let at-last = c .before .before .before .before in
+    let at-from = at-last .before .before .before in
+    let s = at-from .before in
+    meets-is (s .args .q) (s .args .s) (at-from .from-key .ensures) (at-last .last-key .ensures) (omega arith) (omega arith) (c .ends .ensures)
 
 pub meets-span-spec : {M : Type 1} → statement M
-meets-span-spec = tie.close (tie.spec (λ c κs. search needs) (λ c κs. search needs) returns)
+meets-span-spec = tie.close (tie.spec (λ c κs. search needs) (λ c κs. search needs) (λ c κs. search needs) returns)

@@ -15,7 +15,7 @@ returns c =
     let at-below = c .before .before .before in
     let s = at-below .before .before .before in
     let a = s .args in
-    placed-wanted (now (a .t)) (a .at) (a .n) (a .q) (s .pre .0 .4) (s .pre .1) (at-below .before .from-key .ensures) (c .before .before .last-key .ensures) (at-below .below .ensures .0)
+    placed-wanted (now (a .t)) (a .at) (a .n) (a .q) (s .pre .0 .4) (s .pre .1) (s .pre .2) (at-below .before .from-key .ensures) (c .before .before .last-key .ensures) (at-below .below .ensures .0)
     (c .before .through .ensures) (c .range-marks .ensures)
 
 pub placed-marks-spec : {M : Type 1} → statement M

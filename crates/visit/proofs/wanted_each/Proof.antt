@@ -68,7 +68,8 @@ loop-again c =
     let fitsy : Fits (s .q .y) = record { sfits = told .1 .1 .0 .1 } in (
       omega arith,
       wanted-more (now (s .t)) (s .at) (s .q) (l .i) (l .inv .1) (omega arith)
-          (read-wants (s .q) (now (s .t)) (s .at + 12 * l .i) fits1 fits2 fitsy (λ j. at-loop .before .shared-slice-known .given j .fits) (place .result) (rank .result)
+          (read-wants (s .q) (now (s .t)) (s .at + 12 * l .i) fits1 fits2 fitsy (λ j. at-loop .before .shared-slice-known .given j .fits)
+          (at-loop .before .before .pre .2) (place .result) (rank .result)
           (record { sfits = place .ok }) (record { sfits = rank .ok }) (place .ensures) (rank .ensures) (c .wanted .ensures)),
     )
 

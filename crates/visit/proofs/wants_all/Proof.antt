@@ -1,4 +1,4 @@
--- `visit::wants_all` meets its contract: what lies between two places of the query is of its places.
+-- `visit::wants_all` meets its contract: what lies between two keys that pass the tests at the query's ends is of its places.
 -- Assumes nothing.
 use Rattle.visit.proofs.Marking.{all-wanted}
 use denote.Ref.{now}
@@ -13,11 +13,12 @@ returns c = λ h. absurd (false≢true h)
 
 returns-2 : tie.Need-returns-2
 returns-2 c =
-    let read = c .before .before .before in
+    let least = c .before .before .before in
+    let read = least .before in
     let s = read .before .before .before .before in
     let a = s .args in
     all-wanted (now (a .t)) (a .at) (a .n) (a .q) (omega arith) (s .pre .4) (read .before .read-key .ensures) (read .read-key2 .ensures)
-    (c .before .before .least-of .ensures) (c .before .from-key .ensures) (c .last-key .ensures)
+    (least .least-of .ensures) (c .before .before .from-key .ensures) (c .before .last-key .ensures) (c .ends .ensures)
 
 pub wants-all-spec : {M : Type 1} → statement M
 wants-all-spec =
@@ -28,6 +29,7 @@ wants-all-spec =
     (λ c. search needs)
     (λ c. search needs)
     (λ c. search needs)
+    (λ c κs. search needs)
     (λ c κs. search needs)
     (λ c κs. search needs)
     (λ c κs. search needs)

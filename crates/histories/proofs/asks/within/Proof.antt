@@ -6,10 +6,10 @@ use Rattle.histories.proofs.asks.within.Statement.{statement}
 use Rattle.histories.proofs.asks.within.Tie as tie
 
 abbrev Inv-loop : tie.InvT-loop
-Inv-loop a b i₀ i = Unit {0}
+Inv-loop a b c i₀ i = Unit {0}
 
 abbrev μ-loop : tie.MeasureT-loop
-μ-loop a b i₀ i = 512 - i
+μ-loop a b c i₀ i = 512 - i
 
 loop-holds : tie.Need-loop-holds Inv-loop μ-loop
 loop-holds c = tt
@@ -19,6 +19,9 @@ element-copy-out-both c = omega arith
 
 element-copy-out-both-2 : tie.Need-element-copy-out-both-2 Inv-loop μ-loop
 element-copy-out-both-2 c = omega arith
+
+element-copy-out-both-3 : tie.Need-element-copy-out-both-3 Inv-loop μ-loop
+element-copy-out-both-3 c = omega arith
 
 element-copy-out-if1 : tie.Need-element-copy-out-if1 Inv-loop μ-loop
 element-copy-out-if1 c = omega arith
@@ -47,6 +50,7 @@ within-spec =
     loop-holds
     element-copy-out-both
     element-copy-out-both-2
+    element-copy-out-both-3
     element-copy-out-if1
     returns
     add-i
