@@ -9,6 +9,7 @@
 
 #define BLOCKS 9
 #define ROOM 128 /* 16 spots for each block after the first */
+#define RANGES 2
 
 static uint8_t table[BLOCKS * SPOT_BLOCK_BYTES];
 static uint8_t work[BLOCKS * SPOT_BLOCK_BYTES];
@@ -24,18 +25,22 @@ static uint32_t accepted(const char *call, uint64_t answer) {
     return spot_detail(answer);
 }
 
-static void print(uint32_t n) {
+static void print_from(uint32_t first, uint32_t n) {
     uint32_t i;
-    for (i = 0; i < n; i++) {
+    for (i = first; i < first + n; i++) {
         struct spot s = spot_read(output + SPOT_BYTES * i);
         printf("  place %" PRId32 " cm, rank %" PRId32 ", track %" PRIu32 "\n", s.place, s.rank, s.track);
     }
 }
 
+static void print(uint32_t n) { print_from(0, n); }
+
 int main(void) {
     static const struct spot spots[] = {{0, 5, 1}, {240, 7, 2}, {-120, 7, 3}, {600, -3, 4}};
+    static const spot_range ranges[RANGES] = {{-200, 300, 0}, {100, 700, -5}};
+    uint32_t counts[RANGES];
     uint64_t answer;
-    uint32_t n;
+    uint32_t n, first;
     size_t i;
 
     accepted("format", spot_format(table, sizeof table));
@@ -54,6 +59,13 @@ int main(void) {
     n = accepted("report", spot_report(table, sizeof table, 240, -120, 0, output, sizeof output, read_map, sizeof read_map));
     printf("%" PRIu32 " spots from 240 cm on past the door to -120 cm with rank 0 or more:\n", n);
     print(n);
+
+    n = accepted("report_many", spot_report_many(table, sizeof table, ranges, RANGES, counts, RANGES, output, sizeof output, read_map, sizeof read_map));
+    printf("%d ranges in one call, %" PRIu32 " spots:\n", RANGES, n);
+    for (i = 0, first = 0; i < RANGES; first += counts[i++]) {
+        printf(" %" PRIu32 " from %" PRId32 " to %" PRId32 " cm with rank %" PRId32 " or more:\n", counts[i], ranges[i].x1, ranges[i].x2, ranges[i].y);
+        print_from(first, counts[i]);
+    }
 
     n = accepted("top", spot_top(table, sizeof table, INT32_MIN, INT32_MAX, 1, output, sizeof output, read_map, sizeof read_map));
     printf("the best of all:\n");

@@ -2,15 +2,15 @@
  *
  * Every call ends on any bytes and arguments, touches nothing but the memory lent to it, allocates nothing and keeps nothing between calls.
  *
- * Lent memory. A slice is a pointer and a length in bytes.
+ * Lent memory. A slice is a pointer and a length: in bytes, and for ranges and counts in elements.
  *   - The slices of one call must not overlap. A work area that is the table destroys the table.
- *   - During a call nothing else may write the table, the output, the read map or the work area; during spot_format, spot_add, spot_withdraw and spot_rebuild
- *     nothing else may read the table either. Any number of calls may read one table at the same time.
- *   - A pointer may be NULL only with length 0. The bytes need no alignment.
+ *   - During a call nothing else may write the table, the ranges, the counts, the output, the read map or the work area; during spot_format, spot_add,
+ *     spot_withdraw and spot_rebuild nothing else may read the table either. Any number of calls may read one table at the same time.
+ *   - A pointer may be NULL only with length 0. The bytes need no alignment; ranges and counts have that of their types.
  *
- * The answer is number * 2^32 + detail (spot_number, spot_detail). Number 0 is an accepted call; detail is the number of spots for spot_report, spot_top and spot_count,
- * 1 or 0 for spot_check's yes or no, else 0. The other numbers are refusals (enum spot_error), asked in their order. After a refusal every lent byte is as it was, but for
- * a work area after 3: its first table-length bytes are zero then, as after an accepted call.
+ * The answer is number * 2^32 + detail (spot_number, spot_detail). Number 0 is an accepted call; detail is the number of spots for spot_report, spot_report_many, spot_top
+ * and spot_count, 1 or 0 for spot_check's yes or no, else 0. The other numbers are refusals (enum spot_error), asked in their order, but 6 after 2 and before 3. After a
+ * refusal every lent byte is as it was, but for a work area after 3: its first table-length bytes are zero then, as after an accepted call.
  *
  * The archive is for x86-64 Linux. Of the C library it needs memcpy, memmove, memset and memcmp at most.
  *
@@ -22,13 +22,15 @@
  *   spot_count      reads block 0 and every node block that has spots.
  *   spot_check      reads block 0 and every node block.
  *   spot_report     reads at most 1 + 36h + 9 * (spots div 16) blocks on a sound table, and marks exactly those; each once up to 128 spots, twice above, to count and to write.
+ *   spot_report_many
+ *                   reads for each range what spot_report reads for it, and marks what it reads for any of them: block 0, and at most 36h + 9 * (spots div 16) a range.
  *   spot_top        reads the blocks of the report from the rank of the last of its k spots (from the least rank, if there are fewer), and marks exactly those;
  *                   only block 0 for k = 0. Each once up to 512 spots, twice above.
  *   spot_add        reads block 0 and the h blocks on the way down, and writes block 0 and the root where the root has room. Where it has none, changes go down in batches:
  *   spot_withdraw   some more blocks a level. Rarely, where no block is spare, all is laid out anew as by spot_rebuild. Both zero as much of the work area as the table is
  *                   long, which is most of their time on a large table. A withdrawal that finds nothing writes nothing to the table.
  *   spot_rebuild    reads every node block that has spots and writes as many as the spots need.
- * Memory: the output takes 12 bytes for each spot, the read map 512, the work area as many as the table has. Stack: SPOT_STACK_... below.
+ * Memory: the output takes 12 bytes for each spot, the counts 4 for each range, the read map 512, the work area as many as the table has. Stack: SPOT_STACK_... below.
  */
 #ifndef SPOT_TABLE_H
 #define SPOT_TABLE_H
@@ -48,12 +50,14 @@ extern "C" {
 #define SPOT_MOST_BLOCKS 4096
 #define SPOT_BYTES 12
 #define SPOT_MAP_BYTES 512
+#define SPOT_MOST_RANGES 64
 
 /* Bytes of stack that suffice for a call on any table, return address included. measure/stack computes them from the built archive and fails where one is too low. */
 #define SPOT_STACK_FORMAT 8192
 #define SPOT_STACK_COUNT 24576
 #define SPOT_STACK_CHECK 24576
 #define SPOT_STACK_REPORT 24576
+#define SPOT_STACK_REPORT_MANY 147456
 #define SPOT_STACK_TOP 163840
 #define SPOT_STACK_ADD 245760
 #define SPOT_STACK_WITHDRAW 245760
@@ -63,15 +67,17 @@ enum spot_error {
     SPOT_OK = 0,
     /* the table is not a whole number of blocks, or has under 9 or over 4,096 */
     SPOT_TABLE_LENGTH = 1,
-    /* the read map isn't 512 bytes, or the work area is shorter than the table */
+    /* the read map isn't 512 bytes, the work area is shorter than the table, or there are not as many counts as ranges */
     SPOT_LENT_LENGTH = 2,
     /* block 0, or a node block that is read, breaks a rule that it and the entry leading to it can show; never on a sound table. A call reads only some blocks, so an
      * answer of 0 doesn't say that the table is sound: spot_check does */
     SPOT_BROKEN = 3,
     /* spot_add only: 16 live spots for each block after the first, and the new place and rank not among them */
     SPOT_FULL = 4,
-    /* spot_report and spot_top only: more spots than output length div 12; detail is their number */
-    SPOT_OUTPUT = 5
+    /* spot_report, spot_report_many and spot_top only: more spots than output length div 12; detail is their number */
+    SPOT_OUTPUT = 5,
+    /* spot_report_many only: more than 64 ranges; asked after 2 and before 3, detail 0 */
+    SPOT_TOO_MANY_RANGES = 6
 };
 
 struct spot {
@@ -79,6 +85,11 @@ struct spot {
     int32_t rank;
     uint32_t track;
 };
+
+/* Two places and a lowest rank. */
+typedef struct {
+    int32_t x1, x2, y;
+} spot_range;
 
 static inline uint32_t spot_number(uint64_t answer) { return (uint32_t)(answer >> 32); }
 static inline uint32_t spot_detail(uint64_t answer) { return (uint32_t)(answer & 0xffffffffu); }
@@ -88,10 +99,11 @@ static inline const char *spot_error_text(uint32_t number) {
     switch (number) {
     case SPOT_OK: return "accepted";
     case SPOT_TABLE_LENGTH: return "the table is not 9 to 4,096 whole blocks of 2,048 bytes";
-    case SPOT_LENT_LENGTH: return "the read map isn't 512 bytes, or the work area is shorter than the table";
+    case SPOT_LENT_LENGTH: return "the read map isn't 512 bytes, the work area is shorter than the table, or there are not as many counts as ranges";
     case SPOT_BROKEN: return "block 0, or a block that was read, breaks a rule of the layout";
     case SPOT_FULL: return "the table is full, and has no spot of this place and rank";
     case SPOT_OUTPUT: return "there are more spots than the output has room for";
+    case SPOT_TOO_MANY_RANGES: return "there are more than 64 ranges";
     default: return "no number of the spot table";
     }
 }
@@ -138,6 +150,12 @@ uint64_t spot_check(const uint8_t *table, size_t table_len);
  * The read map marks the blocks read. The rest of the output stays as it was. */
 uint64_t spot_report(const uint8_t *table, size_t table_len, int32_t x1, int32_t x2, int32_t y,
                      uint8_t *output, size_t output_len, uint8_t *read_map, size_t read_map_len);
+
+/* Up to 64 reports in one call: the spots of each range as spot_report gives them, in the order handed in, one range's behind the other's; spots of several ranges are
+ * repeated. counts[i] is the number of spots of ranges[i]; detail, also after 5, is their sum. There are as many counts as ranges. The read map marks block 0 and the blocks
+ * that any of the reports reads. Without ranges only block 0 is read, and the call is accepted with detail 0 if block 0 breaks no rule. */
+uint64_t spot_report_many(const uint8_t *table, size_t table_len, const spot_range *ranges, size_t ranges_len, uint32_t *counts, size_t counts_len,
+                          uint8_t *output, size_t output_len, uint8_t *read_map, size_t read_map_len);
 
 /* Of the live spots with x1 <= place <= x2 the k of highest rank, the highest first; all, if fewer. Of equal ranks the lower place comes first, and stays where k cuts
  * between them. If x1 is greater than x2, the range runs on past the door as for spot_report; the order is the same. Output as for spot_report. The read map marks the

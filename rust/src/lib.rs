@@ -1,6 +1,6 @@
 //! Safe Rust over the proved spot table: up to 65,520 spots (a place, a rank, a track) in lent memory.
 //!
-//! [`Table`] answers with `Result`; the eight functions of the crate ([`format`], [`add`], ...) give the library's own [`Answer`]. Every call ends on any bytes and
+//! [`Table`] answers with `Result`; the nine functions of the crate ([`format`], [`add`], ...) give the library's own [`Answer`]. Every call ends on any bytes and
 //! arguments, touches only what it was lent, and allocates nothing; a refused call changes no byte but its work area (see [`Refusal`]).
 //!
 //! ```
@@ -28,9 +28,9 @@ mod refusal;
 mod spots;
 mod table;
 
-pub use raw::{add, check, count, format, rebuild, report, top, withdraw, Answer};
+pub use raw::{add, check, count, format, rebuild, report, report_many, top, withdraw, Answer};
 pub use refusal::Refusal;
-pub use spots::{marked, spots, Blocks, ReadMap, Spot, Spots};
+pub use spots::{marked, reports, spots, Blocks, Range, ReadMap, Reports, Spot, Spots};
 pub use table::Table;
 
 /// Bytes of a block.
@@ -43,6 +43,8 @@ pub const MAP: usize = 512;
 pub const FEWEST_BLOCKS: usize = 9;
 /// The most blocks of a table.
 pub const MOST_BLOCKS: usize = 4096;
+/// The most ranges of a Report of many ranges.
+pub const MOST_RANGES: usize = 64;
 /// Bytes of stack that suffice for every call: the largest figure of `include/spot_table.h`, which `measure/stack` holds against the built archive.
 pub const STACK: usize = 245_760;
 

@@ -1,5 +1,5 @@
 //! The calls as the library has them: lent slices, and an answer of two numbers.
-use crate::{Refusal, Spot};
+use crate::{Range, Refusal, Spot};
 
 extern "C" {
     fn spot_format(table: *mut u8, len: usize) -> u64;
@@ -11,6 +11,18 @@ extern "C" {
         x1: i32,
         x2: i32,
         y: i32,
+        output: *mut u8,
+        output_len: usize,
+        read_map: *mut u8,
+        read_map_len: usize,
+    ) -> u64;
+    fn spot_report_many(
+        table: *const u8,
+        len: usize,
+        ranges: *const Range,
+        ranges_len: usize,
+        counts: *mut u32,
+        counts_len: usize,
         output: *mut u8,
         output_len: usize,
         read_map: *mut u8,
@@ -32,13 +44,13 @@ extern "C" {
     fn spot_rebuild(table: *mut u8, len: usize, work: *mut u8, work_len: usize) -> u64;
 }
 
-/// What a call answers: 0 with its detail, or one of the five numbers of refusal.
+/// What a call answers: 0 with its detail, or one of the six numbers of refusal.
 #[must_use = "the answer may be a refusal"]
 #[derive(Clone, Copy, Debug, PartialEq, Eq, Hash)]
 pub struct Answer {
     /// 0, or the number of the refusal.
     pub number: u32,
-    /// The number of spots for Report, Top and Count, 1 or 0 for Check, how many spots there are after refusal 5, else 0.
+    /// The number of spots for Report, Report of many ranges, Top and Count, 1 or 0 for Check, how many spots there are after refusal 5, else 0.
     pub detail: u32,
 }
 
@@ -60,11 +72,11 @@ impl Answer {
     ///
     /// # Panics
     ///
-    /// Where the number is over 5, which no call answers.
+    /// Where the number is over 6, which no call answers.
     pub fn result(self) -> Result<u32, Refusal> {
         match self.number {
             0 => Ok(self.detail),
-            number => Err(Refusal::new(number, self.detail).expect("a call answers 0 to 5")),
+            number => Err(Refusal::new(number, self.detail).expect("a call answers 0 to 6")),
         }
     }
 
@@ -100,6 +112,37 @@ pub fn check(table: &[u8]) -> Answer {
 pub fn report(table: &[u8], x1: i32, x2: i32, y: i32, output: &mut [u8], read_map: &mut [u8]) -> Answer {
     let (t, n) = (table.as_ptr(), table.len());
     Answer::unpack(unsafe { spot_report(t, n, x1, x2, y, output.as_mut_ptr(), output.len(), read_map.as_mut_ptr(), read_map.len()) })
+}
+
+/// Up to 64 reports in one call: the spots of each range as [`report`] gives them, in the order handed in. There are as many counts as ranges, and each becomes the number of its
+/// range's spots; detail is their sum. The read map marks block 0 and the blocks that any of the reports reads.
+///
+/// ```
+/// use spot_table::{add, format, report_many, reports, Answer, Range, Spot};
+/// let (mut table, mut work) = ([0; 9 * 2048], [0; 9 * 2048]);
+/// assert_eq!(format(&mut table), Answer::new(0, 0));
+/// assert_eq!(add(&mut table, &mut work, Spot { place: 240, rank: 7, track: 2 }), Answer::new(0, 0));
+/// let (mut counts, mut output, mut map) = ([0; 2], [0; 24], [0; 512]);
+/// let ranges = [Range { x1: 0, x2: 100, y: 5 }, Range { x1: 0, x2: 300, y: 5 }];
+/// assert_eq!(report_many(&table, &ranges, &mut counts, &mut output, &mut map), Answer::new(0, 1));
+/// assert_eq!(counts, [0, 1]);
+/// assert_eq!(reports(&output, &counts).map(|spots| spots.len()).collect::<Vec<_>>(), [0, 1]);
+/// ```
+pub fn report_many(table: &[u8], ranges: &[Range], counts: &mut [u32], output: &mut [u8], read_map: &mut [u8]) -> Answer {
+    Answer::unpack(unsafe {
+        spot_report_many(
+            table.as_ptr(),
+            table.len(),
+            ranges.as_ptr(),
+            ranges.len(),
+            counts.as_mut_ptr(),
+            counts.len(),
+            output.as_mut_ptr(),
+            output.len(),
+            read_map.as_mut_ptr(),
+            read_map.len(),
+        )
+    })
 }
 
 /// Of the live spots with x1 ≤ place ≤ x2 the k of highest rank, the highest first, of equal ranks those of lower places, the lower first; the read map marks the blocks read.

@@ -5,21 +5,23 @@ use core::fmt;
 pub enum Refusal {
     /// 1: the table is not a whole number of blocks, or has under 9 or over 4,096.
     TableLength,
-    /// 2: the read map isn't 512 bytes, or the work area is shorter than the table.
+    /// 2: the read map isn't 512 bytes, the work area is shorter than the table, or there are not as many counts as ranges.
     LentLength,
     /// 3: block 0, or a node block that was read, breaks a rule that it and the entry leading to it can show; never on a sound table.
     Broken,
     /// 4: Add only. The table has as many live spots as it holds, and none of this place and rank.
     Full,
-    /// 5: Report and Top only. There are more spots than the output has room for.
+    /// 5: Report, Report of many ranges and Top only. There are more spots than the output has room for.
     Output {
         /// How many there are; 12 bytes are needed for each.
         spots: u32,
     },
+    /// 6: Report of many ranges only. There are more than 64 ranges. This is asked after 2 and before 3.
+    TooManyRanges,
 }
 
 impl Refusal {
-    /// The refusal of this number and detail; none for a number that is not 1 to 5.
+    /// The refusal of this number and detail; none for a number that is not 1 to 6.
     pub const fn new(number: u32, detail: u32) -> Option<Refusal> {
         match number {
             1 => Some(Refusal::TableLength),
@@ -27,11 +29,12 @@ impl Refusal {
             3 => Some(Refusal::Broken),
             4 => Some(Refusal::Full),
             5 => Some(Refusal::Output { spots: detail }),
+            6 => Some(Refusal::TooManyRanges),
             _ => None,
         }
     }
 
-    /// The scope paper's number, 1 to 5.
+    /// The papers' number, 1 to 6.
     pub const fn number(self) -> u32 {
         match self {
             Refusal::TableLength => 1,
@@ -39,6 +42,7 @@ impl Refusal {
             Refusal::Broken => 3,
             Refusal::Full => 4,
             Refusal::Output { .. } => 5,
+            Refusal::TooManyRanges => 6,
         }
     }
 
@@ -55,10 +59,13 @@ impl fmt::Display for Refusal {
     fn fmt(&self, f: &mut fmt::Formatter<'_>) -> fmt::Result {
         match self {
             Refusal::TableLength => f.write_str("the table is not 9 to 4,096 whole blocks of 2,048 bytes"),
-            Refusal::LentLength => f.write_str("the read map isn't 512 bytes, or the work area is shorter than the table"),
+            Refusal::LentLength => f.write_str(
+                "the read map isn't 512 bytes, the work area is shorter than the table, or there are not as many counts as ranges",
+            ),
             Refusal::Broken => f.write_str("block 0, or a block that was read, breaks a rule of the layout"),
             Refusal::Full => f.write_str("the table is full, and has no spot of this place and rank"),
             Refusal::Output { spots } => write!(f, "there are {spots} spots, more than the output has room for"),
+            Refusal::TooManyRanges => f.write_str("there are more than 64 ranges"),
         }
     }
 }

@@ -25,6 +25,18 @@ impl Spot {
     }
 }
 
+/// The places from x1 to x2, or, if x1 is greater, on past the door, and the lowest rank.
+#[repr(C)]
+#[derive(Clone, Copy, Debug, PartialEq, Eq, Hash)]
+pub struct Range {
+    /// The first place.
+    pub x1: i32,
+    /// The last place.
+    pub x2: i32,
+    /// The lowest rank.
+    pub y: i32,
+}
+
 /// The first n spots of an output, as Report and Top write them.
 ///
 /// ```
@@ -79,6 +91,71 @@ impl ExactSizeIterator for Spots<'_> {}
 impl FusedIterator for Spots<'_> {}
 
 impl fmt::Debug for Spots<'_> {
+    fn fmt(&self, f: &mut fmt::Formatter<'_>) -> fmt::Result {
+        f.debug_list().entries(self.clone()).finish()
+    }
+}
+
+/// The spots of each range of an output, as Report of many ranges writes them: one item for each count.
+///
+/// # Panics
+///
+/// Where the output has under 12 bytes for each spot that is counted.
+pub fn reports<'a>(output: &'a [u8], counts: &'a [u32]) -> Reports<'a> {
+    Reports { spots: spots(output, total(counts)), counts }
+}
+
+fn total(counts: &[u32]) -> usize {
+    counts.iter().map(|n| *n as usize).sum()
+}
+
+/// The spots of each range, from the first range to the last or from the back.
+#[derive(Clone)]
+pub struct Reports<'a> {
+    spots: Spots<'a>,
+    counts: &'a [u32],
+}
+
+impl<'a> Reports<'a> {
+    /// The spots of all ranges that are left, one range's behind the other's.
+    pub fn all(&self) -> Spots<'a> {
+        self.spots.clone()
+    }
+
+    /// The number of spots of each range that is left.
+    pub fn counts(&self) -> &'a [u32] {
+        self.counts
+    }
+}
+
+impl<'a> Iterator for Reports<'a> {
+    type Item = Spots<'a>;
+
+    fn next(&mut self) -> Option<Spots<'a>> {
+        let (first, rest) = self.counts.split_first()?;
+        let (own, others) = self.spots.bytes.split_at(SPOT * *first as usize);
+        *self = Reports { spots: Spots { bytes: others }, counts: rest };
+        Some(Spots { bytes: own })
+    }
+
+    fn size_hint(&self) -> (usize, Option<usize>) {
+        (self.counts.len(), Some(self.counts.len()))
+    }
+}
+
+impl<'a> DoubleEndedIterator for Reports<'a> {
+    fn next_back(&mut self) -> Option<Spots<'a>> {
+        let (_, rest) = self.counts.split_last()?;
+        let (others, own) = self.spots.bytes.split_at(SPOT * total(rest));
+        *self = Reports { spots: Spots { bytes: others }, counts: rest };
+        Some(Spots { bytes: own })
+    }
+}
+
+impl ExactSizeIterator for Reports<'_> {}
+impl FusedIterator for Reports<'_> {}
+
+impl fmt::Debug for Reports<'_> {
     fn fmt(&self, f: &mut fmt::Formatter<'_>) -> fmt::Result {
         f.debug_list().entries(self.clone()).finish()
     }

@@ -1,4 +1,4 @@
-use crate::{capacity, raw, spots, ReadMap, Refusal, Spot, Spots};
+use crate::{capacity, raw, reports, spots, Range, ReadMap, Refusal, Reports, Spot, Spots};
 
 /// A table in bytes that are owned or borrowed: `Vec<u8>`, `&mut [u8]`, or `&[u8]` for reading alone.
 ///
@@ -78,6 +78,37 @@ impl<B: AsRef<[u8]>> Table<B> {
     pub fn report<'o>(&self, x1: i32, x2: i32, y: i32, output: &'o mut [u8], map: &mut ReadMap) -> Result<Spots<'o>, Refusal> {
         let n = raw::report(self.bytes(), x1, x2, y, output, map.bytes_mut()).result()?;
         Ok(spots(output, n as usize))
+    }
+
+    /// Up to 64 reports in one call: for each range, in the order handed in, the spots that `report` gives. The output takes 12 bytes for each spot of each range, the counts
+    /// are as many as the ranges; the map marks block 0 and the blocks that any of the reports reads.
+    ///
+    /// ```
+    /// use spot_table::{Range, ReadMap, Refusal, Spot, Table};
+    /// let mut work = vec![0; 9 * 2048];
+    /// let mut table = Table::format(vec![0; 9 * 2048])?;
+    /// for place in [0, 120, 240] {
+    ///     table.add(Spot { place, rank: 7, track: 1 }, &mut work)?;
+    /// }
+    /// let ranges = [Range { x1: 100, x2: 300, y: 5 }, Range { x1: 200, x2: 50, y: 5 }];
+    /// let (mut counts, mut output, mut map) = ([0; 2], [0; 4 * 12], ReadMap::new());
+    /// let reports = table.report_many(&ranges, &mut counts, &mut output, &mut map)?;
+    /// let places: Vec<Vec<i32>> = reports.map(|spots| spots.map(|s| s.place).collect()).collect();
+    /// assert_eq!(places, [[120, 240], [240, 0]]);
+    ///
+    /// let refused = table.report_many(&ranges, &mut counts, &mut [0; 3 * 12], &mut map).unwrap_err();
+    /// assert_eq!(refused, Refusal::Output { spots: 4 });
+    /// # Ok::<(), Refusal>(())
+    /// ```
+    pub fn report_many<'o>(
+        &self,
+        ranges: &[Range],
+        counts: &'o mut [u32],
+        output: &'o mut [u8],
+        map: &mut ReadMap,
+    ) -> Result<Reports<'o>, Refusal> {
+        raw::report_many(self.bytes(), ranges, counts, output, map.bytes_mut()).result()?;
+        Ok(reports(output, counts))
     }
 
     /// Of the live spots with x1 ≤ place ≤ x2 the k of highest rank, the highest first; of equal ranks the lower place comes first, and stays where k cuts between them. All, if

@@ -4,19 +4,22 @@ use spot_table::*;
 
 #[test]
 fn refusals() {
-    for number in 1..=5 {
+    for number in 1..=6 {
         let r = Refusal::new(number, 7).unwrap();
         assert_eq!((r.number(), r.detail()), (number, if number == 5 { 7 } else { 0 }));
         assert_eq!(Answer::new(number, 7).result(), Err(r));
         let e: &dyn std::error::Error = &r;
         assert!(!e.to_string().is_empty());
     }
-    assert_eq!((Refusal::new(0, 0), Refusal::new(6, 0)), (None, None));
+    assert_eq!((Refusal::new(0, 0), Refusal::new(7, 0)), (None, None));
     assert_eq!(Answer::new(0, 9).result(), Ok(9));
     assert_eq!(Table::format(vec![0; 8 * BLOCK]).unwrap_err(), Refusal::TableLength);
     let mut table = Table::format(vec![0; 9 * BLOCK]).unwrap();
     assert_eq!(table.rebuild(&mut [0; 9]), Err(Refusal::LentLength));
     assert_eq!(Table::new([9; 9 * BLOCK]).count(), Err(Refusal::Broken));
+    let (mut output, mut map, one) = ([0; 12], ReadMap::new(), Range { x1: 0, x2: 9, y: 0 });
+    assert_eq!(table.report_many(&[one; 65], &mut [0; 65], &mut output, &mut map).unwrap_err(), Refusal::TooManyRanges);
+    assert_eq!(table.report_many(&[one; 65], &mut [0; 64], &mut output, &mut map).unwrap_err(), Refusal::LentLength);
 }
 
 #[test]
@@ -42,18 +45,47 @@ fn iterators() {
     assert_eq!(best.map(|s| (s.rank, s.place)).collect::<Vec<_>>(), [(6, 60), (6, 130), (6, 200)]);
 }
 
+#[test]
+fn spots_of_each_range() {
+    let mut work = vec![0; 9 * BLOCK];
+    let mut table = Table::format(vec![0; 9 * BLOCK]).unwrap();
+    for i in 0..10 {
+        table.add(Spot { place: 10 * i, rank: i, track: i as u32 }, &mut work).unwrap();
+    }
+    let ranges = [(0, 20, 1), (95, 99, 0), (80, 10, 0), (20, 20, 2)].map(|(x1, x2, y)| Range { x1, x2, y });
+    let (mut counts, mut output, mut map) = ([9; 4], [0; 20 * SPOT], ReadMap::new());
+    let reports = table.report_many(&ranges, &mut counts, &mut output, &mut map).unwrap();
+    let places = |spots: Spots| spots.map(|s| s.place).collect::<Vec<_>>();
+    let due: [&[i32]; 4] = [&[10, 20], &[], &[80, 90, 0, 10], &[20]];
+    assert_eq!((reports.len(), reports.counts(), map.blocks().collect::<Vec<_>>()), (4, &[2, 0, 4, 1][..], vec![0, 1]));
+    assert_eq!(places(reports.all()), due.concat());
+    assert_eq!(reports.clone().map(places).collect::<Vec<_>>(), due);
+    assert_eq!(reports.clone().rev().map(places).collect::<Vec<_>>(), due.into_iter().rev().collect::<Vec<_>>());
+    let mut left = reports.clone();
+    assert_eq!((left.next().map(places), left.next_back().map(places)), (Some(vec![10, 20]), Some(vec![20])));
+    assert_eq!((left.len(), left.counts(), places(left.all())), (2, &[0, 4][..], due[2].to_vec()));
+    assert_eq!(left.map(|spots| spots.len()).collect::<Vec<_>>(), [0, 4]);
+    let none = table.report_many(&[], &mut [], &mut output, &mut map).unwrap();
+    assert_eq!((none.len(), none.all().len(), map.blocks().collect::<Vec<_>>()), (0, 0, vec![0]));
+}
+
 /// The C header says the same: version, sizes, and the words of each number.
 #[test]
 fn header() {
     let header = std::fs::read_to_string(concat!(env!("CARGO_MANIFEST_DIR"), "/../include/spot_table.h")).unwrap();
     let has = |text: &str| assert!(header.contains(text), "{text}");
     has(concat!("#define SPOT_VERSION \"", env!("CARGO_PKG_VERSION"), "\"\n"));
-    for (name, value) in
-        [("BLOCK_BYTES", BLOCK), ("FEWEST_BLOCKS", FEWEST_BLOCKS), ("MOST_BLOCKS", MOST_BLOCKS), ("BYTES", SPOT), ("MAP_BYTES", MAP)]
-    {
+    for (name, value) in [
+        ("BLOCK_BYTES", BLOCK),
+        ("FEWEST_BLOCKS", FEWEST_BLOCKS),
+        ("MOST_BLOCKS", MOST_BLOCKS),
+        ("BYTES", SPOT),
+        ("MAP_BYTES", MAP),
+        ("MOST_RANGES", MOST_RANGES),
+    ] {
         has(&std::format!("#define SPOT_{name} {value}\n"));
     }
-    for number in 1..=4 {
+    for number in [1, 2, 3, 4, 6] {
         has(&std::format!("return \"{}\";", Refusal::new(number, 0).unwrap()));
     }
 }
@@ -75,6 +107,8 @@ fn stack() {
         assert_eq!(table.report(1, 0, i32::MIN, &mut output, &mut map).unwrap().len(), 2999);
         assert_eq!(table.top(i32::MIN, i32::MAX, u32::MAX, &mut output, &mut map).unwrap().len(), 2999);
         assert_eq!(table.top(1, 0, u32::MAX, &mut output, &mut map).unwrap().len(), 2999);
+        let (ranges, mut counts, mut output) = ([Range { x1: 1, x2: 0, y: i32::MIN }; 64], [0; 64], vec![0; 64 * 2999 * SPOT]);
+        assert_eq!(table.report_many(&ranges, &mut counts, &mut output, &mut map).unwrap().all().len(), 64 * 2999);
     };
     std::thread::Builder::new().stack_size(STACK + 16384).spawn(run).unwrap().join().unwrap();
 }

@@ -37,7 +37,9 @@ Examples:
 const REPORT_EXAMPLES: &str = "\
 Examples:
   spotcard report show.card 0 2400 5       the first 24 metres, rank 5 or more
-  spotcard report show.card 9000 300 5     from 90 metres on, past the door, to 3 metres";
+  spotcard report show.card 9000 300 5     from 90 metres on, past the door, to 3 metres
+  spotcard report show.card 0 800 5 800 1600 3 2000 2400 5
+                                           three ranges, each with its own lowest rank";
 
 const TOP_EXAMPLES: &str = "\
 Examples:
@@ -145,15 +147,18 @@ pub enum Command {
     /// Show the spots between two places with at least a given rank, in place order
     ///
     /// If the first place is greater than the last, the range runs on past the door: all places from the first up, followed by all places up to the last.
+    ///
+    /// Up to 64 ranges can be asked for at once. They are shown one after the other in the order given, each with its number; as CSV a first column, range, has that number. A
+    /// spot that lies in several of them is shown with each.
     #[command(after_help = REPORT_EXAMPLES)]
     Report {
         /// The card
         card: PathBuf,
         #[command(flatten)]
-        range: Range,
-        /// Lowest rank
-        #[arg(allow_negative_numbers = true, value_parser = signed)]
-        y: i32,
+        wanted: Wanted,
+        /// More ranges, each with its two places and its lowest rank
+        #[arg(value_name = "X1 X2 Y", allow_negative_numbers = true, value_parser = signed)]
+        more: Vec<i32>,
         #[command(flatten)]
         shape: Shape,
     },
@@ -254,6 +259,23 @@ impl Range {
 }
 
 #[derive(Args)]
+pub struct Wanted {
+    #[command(flatten)]
+    pub range: Range,
+    /// Lowest rank
+    #[arg(allow_negative_numbers = true, value_parser = signed)]
+    pub y: i32,
+}
+
+impl Wanted {
+    /// This range, and those that the further numbers give.
+    pub fn and_more(self, more: &[i32]) -> Vec<Wanted> {
+        let others = more.chunks_exact(3).map(|r| Wanted { range: Range { x1: r[0], x2: r[1] }, y: r[2] });
+        std::iter::once(self).chain(others).collect()
+    }
+}
+
+#[derive(Args)]
 pub struct Shape {
     /// As CSV: place, rank, track
     #[arg(long)]
@@ -280,11 +302,15 @@ impl Cli {
     /// The command line, or the end of the program with what is wrong in it.
     pub fn read() -> Cli {
         let cli = Cli::parse();
-        if let Command::Picture { top: Some(top), .. } = &cli.command {
-            if let Err(what) = top_query(top) {
-                let words = format!("--top X1 X2 K: {what}");
-                Cli::command().error(ErrorKind::ValueValidation, words).exit();
+        let wrong = match &cli.command {
+            Command::Picture { top: Some(top), .. } => top_query(top).err().map(|what| format!("--top X1 X2 K: {what}")),
+            Command::Report { more, .. } if more.len() % 3 != 0 => {
+                Some(format!("each range has three numbers, X1 X2 Y; the last one here has {}", more.len() % 3))
             }
+            _ => None,
+        };
+        if let Some(words) = wrong {
+            Cli::command().error(ErrorKind::ValueValidation, words).exit();
         }
         cli
     }

@@ -2,7 +2,7 @@
 
 use crate::spot::{Key, Spot};
 pub use spot_table::BLOCK;
-use spot_table::{Answer, MAP, SPOT};
+use spot_table::{Answer, Range, MAP, MOST_RANGES, SPOT};
 
 pub const LEAST_BLOCKS: usize = 9;
 pub const MOST_BLOCKS: usize = 4096;
@@ -25,6 +25,8 @@ pub enum Refusal {
     Full,
     #[error("more spots than were made room for; this is a mistake in spotcard, please report it")]
     Room,
+    #[error("at most 64 ranges can be asked for at once")]
+    Ranges,
 }
 
 fn accepted(answer: Answer) -> Result<usize, Refusal> {
@@ -34,7 +36,8 @@ fn accepted(answer: Answer) -> Result<usize, Refusal> {
         2 => Err(Refusal::Lent),
         3 => Err(Refusal::Unsound),
         4 => Err(Refusal::Full),
-        _ => Err(Refusal::Room),
+        5 => Err(Refusal::Room),
+        _ => Err(Refusal::Ranges),
     }
 }
 
@@ -110,12 +113,23 @@ impl Table {
 
     /// The live spots from place x1 to x2 with rank y or more, rising in place order. If x1 is greater, the places from x1 up and then those up to x2.
     pub fn report(&self, x1: i32, x2: i32, y: i32) -> Result<Found, Refusal> {
-        self.ask(|table, out, map| spot_table::report(table, x1, x2, y, out, map))
+        self.ask(1, |table, out, map| spot_table::report(table, x1, x2, y, out, map))
+    }
+
+    /// The reports of several ranges, each x1, x2 and y: the spots of each, and the blocks read for any of them.
+    pub fn report_many(&self, ranges: &[(i32, i32, i32)]) -> Result<(Vec<Vec<Spot>>, Vec<usize>), Refusal> {
+        let ranges: Vec<Range> = ranges.iter().map(|(x1, x2, y)| Range { x1: *x1, x2: *x2, y: *y }).collect();
+        let mut counts = vec![0; ranges.len()];
+        let found =
+            self.ask(ranges.len().min(MOST_RANGES), |table, out, map| spot_table::report_many(table, &ranges, &mut counts, out, map))?;
+        let mut spots = found.spots.into_iter();
+        let each = counts.iter().map(|n| spots.by_ref().take(*n as usize).collect()).collect();
+        Ok((each, found.blocks))
     }
 
     /// The k of highest rank of the live spots from place x1 to x2, or past the door, the highest first, of equal ranks the lower place.
     pub fn top(&self, x1: i32, x2: i32, k: u32) -> Result<Found, Refusal> {
-        self.ask(|table, out, map| spot_table::top(table, x1, x2, k, out, map))
+        self.ask(1, |table, out, map| spot_table::top(table, x1, x2, k, out, map))
     }
 
     /// All live spots, rising in place order.
@@ -129,8 +143,9 @@ impl Table {
         Ok(found.spots.into_iter().find(|s| s.key() == key))
     }
 
-    fn ask(&self, call: impl FnOnce(&[u8], &mut [u8], &mut [u8]) -> Answer) -> Result<Found, Refusal> {
-        let mut out = vec![0; SPOT * self.capacity()];
+    /// A call that gives no spot more often than so many times.
+    fn ask(&self, times: usize, call: impl FnOnce(&[u8], &mut [u8], &mut [u8]) -> Answer) -> Result<Found, Refusal> {
+        let mut out = vec![0; SPOT * self.capacity() * times];
         let mut map = vec![0; MAP];
         let n = accepted(call(&self.bytes, &mut out, &mut map))?;
         let spots = out.chunks_exact(SPOT).take(n).map(read_spot).collect();

@@ -67,6 +67,7 @@ fn explained(change: impl Fn(&mut Vec<u8>, Node), expected: impl Fn(&[u8], Node)
     assert!(!ran.out.contains("lease report"), "{}", ran.out);
     f.run(&["add", "a.card", "1", "1", "1"]).exit(1).complains("is not sound");
     f.run(&["report", "a.card", "1", "1", "1"]).exit(1).complains("is not sound");
+    f.run(&["report", "a.card", "1", "1", "1", "2", "2", "2"]).exit(1).complains("is not sound");
     assert_eq!(f.read("a.card"), bytes);
 }
 

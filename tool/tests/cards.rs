@@ -138,6 +138,50 @@ fn ranges_run_on_past_the_door() {
 }
 
 #[test]
+fn several_ranges_are_shown_one_after_the_other() {
+    let f = Folder::new();
+    f.card("a.card", 32, &[(-5, 5, 1), (0, 7, 2), (100, 9, 3), (240, 5, 4), (240, 7, 5), (300, 1, 6)]);
+    let ranges = ["report", "a.card", "-9", "240", "7", "240", "0", "5", "301", "400", "-9", "0", "100", "8"];
+    let run = |more: &[&str]| f.run(&[&ranges[..], more].concat()).exit(0);
+    let table = "\
+range 1: 3 spots from -9 to 240 cm with rank 7 or more
+      place        rank      track
+          0           7          2
+        100           9          3
+        240           7          5
+range 2: 4 spots from 240 cm on past the door to 0 cm with rank 5 or more
+      place        rank      track
+        240           5          4
+        240           7          5
+         -5           5          1
+          0           7          2
+range 3: 0 spots from 301 to 400 cm with rank -9 or more
+range 4: 1 spot from 0 to 100 cm with rank 8 or more
+      place        rank      track
+        100           9          3
+8 spots in 4 ranges
+";
+    let ran = run(&[]);
+    assert_eq!((ran.out.as_str(), ran.err.as_str()), (table, ""));
+    assert_eq!(run(&["--blocks"]).out, format!("{table}2 blocks read of 32: 0 1\n"));
+    let csv = "range,place,rank,track\n1,0,7,2\n1,100,9,3\n1,240,7,5\n2,240,5,4\n2,240,7,5\n2,-5,5,1\n2,0,7,2\n4,100,9,3\n";
+    let ran = run(&["--csv", "--blocks"]).complains("2 blocks read of 32: 0 1");
+    assert_eq!(ran.out, csv);
+    // one range is shown as ever
+    assert!(f.run(&ranges[..5]).exit(0).out.starts_with("3 spots from -9 to 240 cm with rank 7 or more\n"));
+    let times = |n: usize| [vec!["report", "a.card"], vec!["-9"; 3 * n]].concat();
+    f.run(&times(64)).exit(0).says("range 64: 0 spots from -9 to -9 cm").says("0 spots in 64 ranges");
+    let ran = f.run(&times(65)).exit(1).complains("at most 64 ranges can be asked for at once");
+    assert_eq!(ran.out, "");
+    for (more, left) in [(1, 1), (2, 2), (4, 1)] {
+        let args = [&ranges[..5], &vec!["0"; more]].concat();
+        f.run(&args).exit(2).complains(&format!("each range has three numbers, X1 X2 Y; the last one here has {left}"));
+    }
+    f.run(&["report", "a.card", "0", "9", "5", "1", "x", "3"]).exit(2).complains("not a whole number");
+    f.run(&["help", "report"]).exit(0).says("[X1 X2 Y]...").says("Up to 64 ranges");
+}
+
+#[test]
 fn many_reports_and_tops_agree_with_a_plain_list() {
     let f = Folder::new();
     agree_with_a_plain_list(&f, "a.card", spots(900, 9));
@@ -150,7 +194,8 @@ fn agree_with_a_plain_list(f: &Folder, card: &str, mut all: Vec<(i32, i32, u32)>
     f.card(card, 80, &all);
     all.sort();
     let mut random = common::Random(77);
-    for _ in 0..25 {
+    let (mut asked, mut rows) = (vec!["report".to_string(), card.to_string()], "range,place,rank,track\n".to_string());
+    for number in 1..=25 {
         // every other range runs on past the door, on average
         let (x1, x2) = (random.below(100_000) as i32, random.below(100_000) as i32);
         let (y, k) = (random.below(1000) as i32, random.below(60) as usize);
@@ -163,7 +208,12 @@ fn agree_with_a_plain_list(f: &Folder, card: &str, mut all: Vec<(i32, i32, u32)>
         let [x1, x2, y, k] = [x1.to_string(), x2.to_string(), y.to_string(), k.to_string()];
         assert_eq!(f.run(&["report", card, &x1, &x2, &y, "--csv"]).exit(0).out, sheet(&report));
         assert_eq!(f.run(&["top", card, &x1, &x2, &k, "--csv"]).exit(0).out, sheet(&top));
+        asked.extend([x1, x2, y]);
+        rows.extend(report.iter().map(|(place, rank, track)| format!("{number},{place},{rank},{track}\n")));
     }
+    asked.push("--csv".into());
+    let asked: Vec<&str> = asked.iter().map(String::as_str).collect();
+    assert_eq!(f.run(&asked).exit(0).out, rows);
 }
 
 #[test]

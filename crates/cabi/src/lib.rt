@@ -1,7 +1,7 @@
-// The calls for C and Rust: a slice is a pointer and a length, the answer is number · 2^32 + detail.
+// The calls for C and Rust: a slice is a pointer and a length, in elements; the answer is number · 2^32 + detail.
 ghost use mathlib.Core.Path.{_≡_};
 ghost use Prim.Native.Nat.{_+_, _*_};
-ghost use Rattle.table.specs.Queries.{ReportPost, TopPost, CountPost, CheckPost};
+ghost use Rattle.table.specs.Queries.{ReportPost, ManyPost, TopPost, CountPost, CheckPost};
 ghost use Rattle.table.specs.Updates.{FormatPost, AddPost, WithdrawPost, RebuildPost};
 ghost use Rattle.cabi.specs.Packed.{Packed};
 
@@ -85,4 +85,17 @@ pub extern "C" fn spot_rebuild(table: &mut [u8], scratch: &mut [u8]) -> u64
     ensures { λ r. ⌜ Packed r (λ a. RebuildPost (now (table .entry)) (now (scratch .entry)) a (now (table .exit)) (now (scratch .exit))) ⌝ }
 {
     pack(table::rebuild(table, scratch))
+}
+
+#[no_mangle]
+pub extern "C" fn spot_report_many(
+    table: &[u8],
+    ranges: &[ranges::Range],
+    counts: &mut [u32],
+    output: &mut [u8],
+    read_map: &mut [u8],
+) -> u64
+    ensures { λ r. ⌜ Packed r (λ a. ManyPost (now (ranges .entry)) (now (table .entry)) (now (counts .entry)) (now (output .entry)) (now («read_map» .entry)) a (now (counts .exit)) (now (output .exit)) (now («read_map» .exit))) ⌝ }
+{
+    pack(many::report_many(table, ranges, counts, output, read_map))
 }

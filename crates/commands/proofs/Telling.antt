@@ -21,9 +21,8 @@ use Rattle.text.specs.Text.{refusalLine}
 use Rattle.text.specs.Commands.{Parsed}
 use Rattle.text.specs.Written.{Wrote}
 use Rattle.text.proofs.Written.{wrote-within}
-use Rattle.table.specs.Calls.{Call}
-use Rattle.table.specs.Answers.{withOutput, unlessRefused, spotsAnswer, outputLeft, earlyNumber}
-use Rattle.table.specs.Queries.{walkAnswer, QueryPost, ReportPost, TopPost}
+use Rattle.table.specs.Answers.{unlessRefused, spotsAnswer, outputLeft}
+use Rattle.table.specs.Queries.{walkAnswer, WalkPost, ReportPost, TopPost}
 use Rattle.table.specs.Updates.{AddPost, WithdrawPost}
 use Rattle.commands.specs.Printed.{printed}
 use Rattle.commands.specs.Obeyed.{changeText, spotsText, roomFor, Shown, Printable, Told, Obeyed}
@@ -65,12 +64,12 @@ module _ (out out′ : List ℕ) (text : ℕ) (r : Answer) (p : Printable (lengt
   inside-shown h =
       record { refusal = p .refusal; held = h; room = λ e. p .room (r .detail) (subst (λ (n : ℕ). 12 * r .detail ≤ n) same (h e)) }
 
-  pub query-shown : (c : Call) (w : Walk) (t map map′ : List ℕ) → QueryPost c w t out map r out′ map′ → Shown r (length out′) text
-  query-shown c w t map map′ q =
+  pub walk-shown : (early : ℕ) (w : Walk) (map map′ : List ℕ) → WalkPost early w out map r out′ map′ → Shown r (length out′) text
+  walk-shown early w map map′ q =
       inside-shown
       (λ e. given-inside (spots w) out out′ (r .detail) (q .output ∙ ap (λ (n : ℕ). outputLeft n (spots w) out) e)
       (ap (λ (x : Answer). x .detail) (q .answered)
-      ∙ walk-detail (earlyNumber (withOutput t out map) c) (length out) w (sym (ap (λ (x : Answer). x .number) (q .answered)) ∙ e)))
+      ∙ walk-detail early (length out) w (sym (ap (λ (x : Answer). x .number) (q .answered)) ∙ e)))
 
   pub top-shown : (x1 x2 : ℤ) (k : ℕ) (t map map′ : List ℕ) → TopPost x1 x2 k t out map r out′ map′ → Shown r (length out′) text
   top-shown x1 x2 k t map map′ q =

@@ -1,38 +1,45 @@
 -- Demand 3, from the promises of the calls alone.
 -- Assumes nothing.
 use mathlib.Core.Path.{_≡_, refl, ap, sym, _∙_, subst}
+use mathlib.Core.Logic.{_⊎_, inl, inr, ⊎-elim, _↔_}
 use mathlib.Core.Bool.{Bool, true, false, cond, not, _&&_}
-use mathlib.Core.List.{List, [], _∷_}
-use Prim.Native.Nat.{ℕ, _-_, _*_, _/_, _≤_}
+use mathlib.Core.List.{List, [], _∷_, _++_, List·Memᴰ}
+use Prim.Native.Nat.{ℕ, _-_, _*_, _/_, _≤_, _<_}
 use native.Mathlib.Omega.{arith}
-use lib.ListN.{length, take}
+use lib.ListN.{length, take, drop}
 use lib.Dec.{ltb}
 use lib.IntN.{ℤ}
 use Rattle.spot.specs.declared.Spot.{Spot}
 use Rattle.block.specs.Fresh.{formatted}
 use Rattle.block.specs.Table.{tableSized}
-use Rattle.octets.specs.Lists.{keep}
+use Rattle.octets.specs.Bitmap.{bit}
+use Rattle.octets.specs.Lists.{keep, every}
 use Rattle.spot.specs.Keys.{signed32, unsigned32}
 use Rattle.spot.specs.Spots.{byTop}
 use Rattle.spot.specs.Query.{topQuery, wants}
 use Rattle.spot.proofs.Signed.{signed-fits}
 use Rattle.block.specs.declared.Answer.{Answer}
+use Rattle.tree.specs.Read.{ReadBlock}
 use Rattle.tree.specs.ReadMap.{readMap}
 use Rattle.tree.specs.Sound.{sound}
-use Rattle.tree.specs.Walk.{spots, liveSpots}
+use Rattle.tree.specs.Walk.{isBroken, spots, blocksRead, liveSpots}
+use Rattle.tree.specs.Report.{reportTable}
 use Rattle.tree.specs.Top.{topTable}
-use Rattle.table.specs.Calls.{Call, report, top, queries, Lengths, argumentsFit}
-use Rattle.demands.specs.Model.{Plain, PlainSpot, Reply, begunEmpty, outputAfter, refuse, accept, badTable, badLent, handOut, ownReply, reply, highest}
+use Rattle.ranges.specs.declared.Range.{Range}
+use Rattle.report.specs.Joined.{reportOf}
+use Rattle.table.specs.Calls.{Call, report, top, reportMany, queries, Lengths, rangeFits, argumentsFit}
+use Rattle.demands.specs.Model.{Plain, PlainSpot, Reply, begunEmpty, outputAfter, countsAfter, refuse, accept, badTable, badLent, tooMany, handOut, ownReply, reply, highest}
 use Rattle.demands.specs.TopMarks.{MarksFew}
-use Rattle.demands.specs.History.{Event, MetBy, History, Agreed, FullExactly, MarksExactly, TopMarksFew, AllAgreed, Demand3, lengthsIn, replyIn, modelAfter}
+use Rattle.demands.specs.History.{Event, MetBy, History, Agreed, FullExactly, MarksExactly, UnionMarked, TopMarksFew, AllAgreed, Demand3, lengthsIn, replyIn, modelAfter}
 use Rattle.tree.proofs.Fresh.{fresh-sized, fresh-sound, fresh-empty}
-use Rattle.octets.proofs.Tests.{and-left, and-right}
-use Rattle.demands.proofs.Histories.{TreeLaws, keyReplyIn, map-accepted, step}
-use Rattle.demands.proofs.Plain.{keyed, AllFit, Like, like, bad-table, keyed-highest, highest-fit}
+use Rattle.octets.proofs.Tests.{and-left, and-right, every-mem}
+use Rattle.demands.proofs.Histories.{TreeLaws, keyReplyIn, map-accepted, many-finds, step}
+use Rattle.demands.proofs.Plain.{keyed, AllFit, three-signed, Like, like, bad-table, keyed-highest, highest-fit}
 use Rattle.demands.proofs.MarksFew.{marks-few}
-use Rattle.table.proofs.Reports.{report-blocks}
+use Rattle.report.proofs.Reports.{report-blocks}
+use Rattle.report.proofs.Joined.{marks-joined}
 use Rattle.demands.proofs.Sorted.{stays-held, says-full}
-use Rattle.tree.proofs.Tables.{live-rises, live-finds, report-finds, count-finds}
+use Rattle.tree.proofs.Tables.{sound-header, live-rises, live-finds, report-finds, count-finds}
 use Rattle.tree.proofs.Second.{report-second}
 use Rattle.tree.proofs.Tops.{top-finds, top-rises}
 use Rattle.tree.proofs.TopSecond.{top-second, top-walk-second}
@@ -46,6 +53,7 @@ tree-laws =
       fresh-sized = fresh-sized;
       fresh-sound = fresh-sound;
       fresh-empty = fresh-empty;
+      header = sound-header;
       rises = live-rises;
       finds = live-finds;
       reports = report-finds;
@@ -59,7 +67,7 @@ tree-laws =
 
 -- the claim of one call, where the model holds the live spots
 record Step (t : List ℕ) (ps : Plain) (e : Event) : Type 0 where
-  agreed : Agreed (e .call) t (replyIn (e .call) t ps e .answer) (outputAfter (replyIn (e .call) t ps e) (e .output)) e
+  agreed : Agreed (e .call) t (replyIn (e .call) t ps e .answer) (outputAfter (replyIn (e .call) t ps e) (e .output)) (countsAfter (replyIn (e .call) t ps e) (e .counts)) e
   sized : length (e .table′) ≡ length t
   holds : keyed (modelAfter t ps e .spots) ≡ liveSpots (e .table′)
   fit : AllFit (modelAfter t ps e .spots)
@@ -71,29 +79,48 @@ full-exactly : (c : Call) (t : List ℕ) (ps : Plain) (e : Event) → tableSized
     → FullExactly c t ps e
 full-exactly c t ps e z h a place rank track q w = rw (a, q) (says-full (lengthsIn t e) place rank track ps (bad-table (length t) ∙ ap not z) w h)
 
+-- what a single report marks, in the paper's words
+single-marks : (t : List ℕ) → sound t ≡ true → (x1 x2 y : ℤ) → signed32 x1 && signed32 x2 && signed32 y ≡ true → (b : ℕ) → b < 4096
+    → (bit (readMap (blocksRead (reportTable t x1 x2 y))) b ≡ true) ↔ ((b ≡ 0) ⊎ ReadBlock t x1 x2 y b)
+single-marks t s x1 x2 y a b l =
+    let f = three-signed x1 x2 y a in
+    rw (report-blocks t x1 x2 y) (marks-exact-words t x1 x2 y s (f .0) (f .1) (f .2) b l)
+
 marks-exactly : (c : Call) (t : List ℕ) (e : Event) → sound t ≡ true → argumentsFit c ≡ true → MetBy c t e → MarksExactly c t e
 unfolding argumentsFit
 marks-exactly c t e s a p x1 x2 y q z b l =
     let m : MetBy (report x1 x2 y) t e = subst (λ (d : Call). MetBy d t e) q p in
-    let fits : signed32 x1 && signed32 x2 && signed32 y ≡ true = ap argumentsFit (sym q) ∙ a in
-    let f = and-left (signed32 x1 && signed32 x2) (signed32 y) fits in
-    rw (m .promised .marks ∙ map-accepted _ _ _ z ∙ ap readMap (report-blocks t x1 x2 y))
-    (marks-exact-words t x1 x2 y s (and-left (signed32 x1) (signed32 x2) f) (and-right (signed32 x1) (signed32 x2) f)
-    (and-right (signed32 x1 && signed32 x2) (signed32 y) fits)
-    b
-    l)
+    rw (m .promised .marks ∙ map-accepted _ _ _ z) (single-marks t s x1 x2 y (ap argumentsFit (sym q) ∙ a) b l)
+
+-- and what many ranges mark
+union-marked : (c : Call) (t : List ℕ) (e : Event) → sound t ≡ true → argumentsFit c ≡ true → MetBy c t e → UnionMarked c t e
+unfolding argumentsFit rangeFits
+union-marked c t e s a p rs q z b l =
+    let m : MetBy (reportMany rs) t e = subst (λ (d : Call). MetBy d t e) q p in
+    let fits : every rangeFits rs ≡ true = ap argumentsFit (sym q) ∙ a in
+    let union = marks-joined t rs (ap isBroken (many-finds tree-laws t s rs .1)) b l in
+    let words : (x : Range) → List·Memᴰ x rs → (bit (readMap (blocksRead (reportOf t x))) b ≡ true) ↔ ((b ≡ 0) ⊎ ReadBlock t (x .x1) (x .x2) (x .y) b) =
+    λ x i. single-marks t s (x .x1) (x .x2) (x .y) (every-mem rangeFits rs fits i) b l in
+    rw (m .promised .handed .marks ∙ map-accepted _ _ _ z) (
+      λ k. ⊎-elim inl
+          (λ (r : (x : Range) × List·Memᴰ x rs × (bit (readMap (blocksRead (reportOf t x))) b ≡ true)).
+          ⊎-elim inl (λ d. inr (r .0, r .1, d)) (words (r .0) (r .1) .0 (r .2)))
+          (union .0 k),
+      λ k. union .1
+          (⊎-elim inl (λ (r : (x : Range) × List·Memᴰ x rs × ReadBlock t (x .x1) (x .x2) (x .y) b). inr (r .0, r .1, words (r .0) (r .1) .1 (inr (r .2)))) k),
+    )
 
 -- an accepted Top of the model gives the highest
 gives-highest : (l : Lengths) (x1 x2 : ℤ) (k : ℕ) (ps : Plain) → reply l (top x1 x2 k) ps .answer .number ≡ 0
     → reply l (top x1 x2 k) ps .given ≡ highest x1 x2 k (ps .spots)
-unfolding reply ownReply handOut refuse accept
+unfolding reply tooMany ownReply handOut refuse accept
 gives-highest l x1 x2 k ps = go (badTable (l .table)) (badLent l queries) (ltb (l .output / 12) (length (highest x1 x2 k (ps .spots))))
   where
     found : List PlainSpot
     found = highest x1 x2 k (ps .spots)
 
     due : Bool → Bool → Bool → Reply
-    due a b c = cond a (refuse 1 0 ps) (cond b (refuse 2 0 ps) (cond c (refuse 5 (length found) ps) (accept (length found) found ps)))
+    due a b c = cond a (refuse 1 0 ps) (cond b (refuse 2 0 ps) (cond c (refuse 5 (length found) ps) (accept (length found) found [] ps)))
 
     go : (a b c : Bool) → due a b c .answer .number ≡ 0 → due a b c .given ≡ found
     go true b c e = absurd (omega (arith, e))
@@ -125,6 +152,7 @@ one-step : (t : List ℕ) (ps : Plain) (e : Event) → tableSized (length t) ≡
     → argumentsFit (e .call) ≡ true
     → MetBy (e .call) t e
     → Step t ps e
+unfolding countsAfter
 one-step t ps e z s same fit h a m =
     let k = step tree-laws (e .call) t e z s m in
     let alike = subst (λ (l : List Spot). Like (replyIn (e .call) t ps e) (keyReplyIn (e .call) t l e)) same (like _ (e .call) ps a fit) in
@@ -133,6 +161,7 @@ one-step t ps e z s same fit h a m =
           record {
             answer = k .agreed .answer ∙ sym (alike .answer);
             output = λ q. k .agreed .output q ∙ sym (alike .output (e .output));
+            counts = λ q. k .agreed .counts q ∙ ap (λ (ns : List ℕ). ns ++ drop (length ns) (e .counts)) (sym (alike .counts));
             staysSound = k .agreed .staysSound;
             bounded = k .agreed .bounded;
             second = k .agreed .second;
@@ -151,8 +180,14 @@ all-agreed : (t : List ℕ) (ps : Plain) (es : List Event) → tableSized (lengt
     → AllAgreed t ps es
 all-agreed t ps [] z s same fit n h = tt
 all-agreed t ps (e ∷ es) z s same fit n h =
-    let k = one-step t ps e z s same fit n (h .0) (h .1) in
-    (k .agreed, k .full, marks-exactly (e .call) t e s (h .0) (h .1), top-marks-few (e .call) t ps e s same fit (h .0) (h .1) (k .agreed .answer), all-agreed (e .table′) _ es (ap tableSized (k .sized) ∙ z) (k .agreed .staysSound) (k .holds) (k .fit) (k .held) (h .2))
+    let k = one-step t ps e z s same fit n (h .0) (h .1) in (
+      k .agreed,
+      k .full,
+      marks-exactly (e .call) t e s (h .0) (h .1),
+      union-marked (e .call) t e s (h .0) (h .1),
+      top-marks-few (e .call) t ps e s same fit (h .0) (h .1) (k .agreed .answer),
+      all-agreed (e .table′) _ es (ap tableSized (k .sized) ∙ z) (k .agreed .staysSound) (k .holds) (k .fit) (k .held) (h .2),
+    )
 
 -- every history of calls that keep their promises, from a formatted table on, answers as the model does
 pub demand3 : Demand3

@@ -1,9 +1,9 @@
 -- Demand 1, from the promises of the calls alone.
 -- Assumes nothing.
-use mathlib.Core.Path.{_≡_, refl, ap, sym, subst, _∙_}
+use mathlib.Core.Path.{_≡_, refl, ap, ap₂, sym, subst, _∙_}
 use mathlib.Core.Logic.{⊎-elim}
 use mathlib.Core.Bool.{Bool, true, false, cond, _||_, false≢true}
-use mathlib.Core.List.{List, [], _∷_, List·Memᴰ}
+use mathlib.Core.List.{List, [], _∷_, _++_, List·Memᴰ}
 use mathlib.Core.Option.{Option}
 use Prim.Native.Nat.{ℕ, zero, suc, _/_}
 use native.Mathlib.Omega.{arith}
@@ -23,39 +23,47 @@ use Rattle.block.specs.declared.Answer.{Answer}
 use Rattle.block.specs.Answers.{answer}
 use Rattle.block.specs.Table.{tableSized}
 use Rattle.block.specs.Fresh.{formatted}
-use Rattle.tree.specs.Walk.{Walk, broken, walked, spots, blocksRead, walkTable}
+use Rattle.block.specs.Node.{storeOf}
+use Rattle.tree.specs.Walk.{Walk, broken, walked, isBroken, spots, blocksRead, walkTable}
 use Rattle.tree.specs.ReadMap.{readMap}
 use Rattle.tree.specs.Report.{reportTable}
 use Rattle.tree.proofs.Fresh.{fresh-sized}
 use Rattle.tree.proofs.Marks.{zero-marked}
 use Rattle.tree.proofs.Sources.{walk-sources, read-in-table, read-marked}
-use Rattle.table.specs.Calls.{Call, format, add, withdraw, report, top, count, check, rebuild, kind, isQuery, Lengths}
-use Rattle.table.specs.Answers.{ofTable, withScratch, withOutput, lent, earlyNumber, unlessRefused, spotsAnswer, outputLeft, mapLeft, outcomes}
-use Rattle.table.specs.Queries.{walkAnswer, countAnswer, ReportPost, TopPost, HandsOut}
+use Rattle.ranges.specs.declared.Range.{Range}
+use Rattle.report.specs.Joined.{reportOf, joined, countsOf}
+use Rattle.table.specs.Calls.{Call, format, add, withdraw, report, top, count, check, rebuild, reportMany, kind, isQuery, isCounting, Lengths}
+use Rattle.table.specs.Answers.{ofTable, withScratch, withOutput, withCounts, lent, fewEnough, earlyNumber, unlessRefused, spotsAnswer, outputLeft, countsLeft, outcomes}
+use Rattle.table.specs.Queries.{walkAnswer, countAnswer, WalkPost, ReportPost, ManyPost, TopPost, HandsOut, HandsOutEach}
 use Rattle.table.specs.Updates.{UpdatePost}
 use Rattle.demands.specs.History.{Event, MetBy}
 use Rattle.demands.specs.Demands.{refusals, TurnedDown, OnlyMarked, Demand1}
-use Rattle.demands.proofs.Histories.{map-accepted}
-use Rattle.table.proofs.Reports.{report-spots, report-blocks}
+use Rattle.demands.proofs.Histories.{map-accepted, output-refused, map-refused, counts-refused, no-counts}
+use Rattle.report.proofs.Reports.{report-spots, report-blocks}
+use Rattle.report.proofs.Joined.{spots-joined, blocks-joined, read-joined}
 use Rattle.demands.proofs.Onward.{from-on-mem}
 
 -- ---- the numbers
 
--- a number of a list that names 0 and the five alone
-of-five : (n : ℕ) (xs : List ℕ) → every (λ m. eqb m 0 || has m refusals) xs ≡ true → has n xs ≡ true → (n ≡ 0 → ⊥) → has n refusals ≡ true
-of-five n xs h i z = or-left (eqb n 0) (has n refusals) (every-mem (λ m. eqb m 0 || has m refusals) xs h (has-mem n xs i)) (ne-eqb n 0 z)
+-- a number of a list that names 0 and the refusals alone
+of-refusals : (n : ℕ) (xs : List ℕ) → every (λ m. eqb m 0 || has m refusals) xs ≡ true → has n xs ≡ true → (n ≡ 0 → ⊥) → has n refusals ≡ true
+of-refusals n xs h i z = or-left (eqb n 0) (has n refusals) (every-mem (λ m. eqb m 0 || has m refusals) xs h (has-mem n xs i)) (ne-eqb n 0 z)
 
--- 1 and 2, by the lengths
-by-lengths : (l : Lengths) (c : Call) → has (earlyNumber l c) (0 ∷ 1 ∷ 2 ∷ []) ≡ true
+-- 1, 2 and 6, by lengths and arguments
+abbrev early : List ℕ
+early = 0 ∷ 1 ∷ 2 ∷ 6 ∷ []
+
+by-lengths : (l : Lengths) (c : Call) → has (earlyNumber l c) early ≡ true
 unfolding earlyNumber
-by-lengths l c = go (tableSized (l .table)) (lent l (kind c))
+by-lengths l c = go (tableSized (l .table)) (lent l (kind c)) (fewEnough (kind c))
   where
-    go : (a b : Bool) → has (cond a (cond b 0 2) 1) (0 ∷ 1 ∷ 2 ∷ []) ≡ true
-    go true true = refl
-    go true false = refl
-    go false b = refl
+    go : (a b d : Bool) → has (cond a (cond b (cond d 0 6) 2) 1) early ≡ true
+    go true true true = refl
+    go true true false = refl
+    go true false d = refl
+    go false b d = refl
 
--- an answer that is 0, or one of the five with detail 0, but for 5
+-- an answer that is 0, or a refusal with detail 0, but for 5
 record Refusal (r : Answer) : Type 0 where
   number : (r .number ≡ 0 → ⊥) → has (r .number) refusals ≡ true
   detail : (r .number ≡ 0 → ⊥) → (r .number ≡ 5 → ⊥) → r .detail ≡ 0
@@ -69,11 +77,11 @@ refusal-plain n h = record { number = λ z. h; detail = λ z y. refl }
 refusal-many : (d : ℕ) → Refusal (answer 5 d)
 refusal-many d = record { number = λ z. refl; detail = λ z y. absurd (y refl) }
 
--- refused by the lengths, or as it is
-refusal-lengths : (n : ℕ) (a : Answer) → has n (0 ∷ 1 ∷ 2 ∷ []) ≡ true → Refusal a → Refusal (unlessRefused n a)
+-- refused by lengths and arguments, or as it is
+refusal-lengths : (n : ℕ) (a : Answer) → has n early ≡ true → Refusal a → Refusal (unlessRefused n a)
 unfolding unlessRefused
 refusal-lengths zero a h r = r
-refusal-lengths (suc n) a h r = refusal-plain (suc n) (of-five (suc n) (0 ∷ 1 ∷ 2 ∷ []) refl h (λ z. omega arith))
+refusal-lengths (suc n) a h r = refusal-plain (suc n) (of-refusals (suc n) early refl h (λ z. omega arith))
 
 refusal-spots : (bytes n : ℕ) → Refusal (spotsAnswer bytes n)
 unfolding spotsAnswer
@@ -98,10 +106,10 @@ refusal-count (walked found blocks) = refusal-zero (length found)
 module _ (c : Call) (due : Answer) (after : ℕ → Option ℕ) (t : List ℕ) (e : Event) (p : UpdatePost c due after t (e .scratch) (e .answer) (e .table′) (e .scratch′)) where
   update-number : every (λ m. eqb m 0 || has m refusals) (outcomes c) ≡ true → (e .answer .number ≡ 0 → ⊥) → has (e .answer .number) refusals ≡ true
   update-number h z =
-      ⊎-elim (λ l. of-five (e .answer .number) (outcomes c) h (p .numbers l) z)
+      ⊎-elim (λ l. of-refusals (e .answer .number) (outcomes c) h (p .numbers l) z)
       (λ l.
-      of-five (e .answer .number) (0 ∷ 1 ∷ 2 ∷ []) refl
-      (ap (λ (r : Answer). has (r .number) (0 ∷ 1 ∷ 2 ∷ [])) (p .refusals l) ∙ by-lengths (withScratch t (e .scratch)) c)
+      of-refusals (e .answer .number) early refl
+      (ap (λ (r : Answer). has (r .number) early) (p .refusals l) ∙ by-lengths (withScratch t (e .scratch)) c)
       z)
       (same-or-not (earlyNumber (withScratch t (e .scratch)) c) 0)
 
@@ -113,6 +121,7 @@ module _ (c : Call) (due : Answer) (after : ℕ → Option ℕ) (t : List ℕ) (
         table = p .unchanged z;
         output = λ i. absurd (false≢true (sym q ∙ i));
         readMap = λ i. absurd (false≢true (sym q ∙ i));
+        counts = λ i. absurd (false≢true (sym (no-counts c q) ∙ i));
       }
 
 -- ---- calls that hand out no spots and leave the table
@@ -125,68 +134,93 @@ still-down c t e r same q z =
       table = same;
       output = λ i. absurd (false≢true (sym q ∙ i));
       readMap = λ i. absurd (false≢true (sym q ∙ i));
+      counts = λ i. absurd (false≢true (sym (no-counts c q) ∙ i));
     }
 
--- ---- Report
+-- ---- calls that hand out the spots of a walk, where lengths and arguments decide the number l
 
-module _ (x1 x2 y : ℤ) (t : List ℕ) (e : Event) (same : e .table′ ≡ t) (p : ReportPost x1 x2 y t (e .output) (e .readMap) (e .answer) (e .output′) (e .readMap′)) where
-  report-refusal : Refusal (e .answer)
-  report-refusal =
-      subst Refusal (sym (p .answered)) (refusal-lengths _ _ (by-lengths (withOutput t (e .output) (e .readMap)) (report x1 x2 y)) (refusal-walk (length (e .output)) (reportTable t x1 x2 y)))
-
-  report-down : (e .answer .number ≡ 0 → ⊥) → TurnedDown (report x1 x2 y) t e
-  unfolding outputLeft mapLeft
-  report-down z =
+module _ (l : ℕ) (w : Walk) (e : Event) (p : WalkPost l w (e .output) (e .readMap) (e .answer) (e .output′) (e .readMap′)) where
+  walk-down : (c : Call) (t : List ℕ) → has l early ≡ true → e .table′ ≡ t → (z : e .answer .number ≡ 0 → ⊥) → (isCounting c ≡ true → e .counts′ ≡ e .counts) → TurnedDown c t e
+  walk-down c t h same z counts =
       record {
-        number = report-refusal .number z;
-        detail = report-refusal .detail z;
+        number = r .number z;
+        detail = r .detail z;
         table = same;
-        output = λ i. p .output ∙ out (e .answer .number) z;
-        readMap = λ i. p .marks ∙ map (e .answer .number) z;
+        output = λ i. p .output ∙ output-refused (e .answer .number) (spots w) (e .output) z;
+        readMap = λ i. p .marks ∙ map-refused (e .answer .number) (blocksRead w) (e .readMap) z;
+        counts = counts;
       }
     where
-      out : (n : ℕ) → (n ≡ 0 → ⊥) → outputLeft n (spots (reportTable t x1 x2 y)) (e .output) ≡ e .output
-      out zero h = absurd (h refl)
-      out (suc n) h = refl
+      r : Refusal (e .answer)
+      r = subst Refusal (sym (p .answered)) (refusal-lengths l _ h (refusal-walk (length (e .output)) w))
 
-      map : (n : ℕ) → (n ≡ 0 → ⊥) → mapLeft n (blocksRead (reportTable t x1 x2 y)) (e .readMap) ≡ e .readMap
-      map zero h = absurd (h refl)
-      map (suc n) h = refl
+-- accepted: the walk is whole, and the detail is the number of spots
+walk-accepted : (l bytes : ℕ) (w : Walk) (r : Answer) → r ≡ unlessRefused l (walkAnswer bytes w) → r .number ≡ 0 → (isBroken w ≡ false) × (r .detail ≡ length (spots w))
+unfolding unlessRefused walkAnswer spotsAnswer
+walk-accepted zero bytes broken r a z = let h : _≡_ {A = ℕ} 3 0 = sym (ap (λ (x : Answer). x .number) a) ∙ z in let y : ⊥ = omega arith in absurd y
+walk-accepted zero bytes (walked found blocks) r a z = (refl, ap (λ (x : Answer). x .detail) a)
+walk-accepted (suc l) bytes w r a z = let h : suc l ≡ 0 = sym (ap (λ (x : Answer). x .number) a) ∙ z in let y : ⊥ = omega arith in absurd y
 
-  -- accepted: the detail is the number of spots
-  report-detail : (n : ℕ) (v : Walk) → e .answer ≡ unlessRefused n (walkAnswer (length (e .output)) v) → e .answer .number ≡ 0 → e .answer .detail ≡ length (spots v)
-  unfolding unlessRefused walkAnswer spotsAnswer
-  report-detail zero broken a z = let h : _≡_ {A = ℕ} 3 0 = sym (ap (λ (x : Answer). x .number) a) ∙ z in let y : ⊥ = omega arith in absurd y
-  report-detail zero (walked found blocks) a z = ap (λ (x : Answer). x .detail) a
-  report-detail (suc n) v a z = let h : suc n ≡ 0 = sym (ap (λ (x : Answer). x .number) a) ∙ z in let y : ⊥ = omega arith in absurd y
-
+-- a spot of a single report is of its range, and stands in a block read, which is not block 0
+module _ (t : List ℕ) (x1 x2 y : ℤ) where
   walk-spot : (s : Spot) → List·Memᴰ s (spots (reportTable t x1 x2 y)) → List·Memᴰ s (spots (walkTable t (query x1 x2 y)))
   walk-spot s i = from-on-mem _ (spots (walkTable t (query x1 x2 y))) (mem-same (report-spots t x1 x2 y) i)
 
-  report-out : e .answer .number ≡ 0 → HandsOut (query x1 x2 y) t (e .output) (e .answer) (e .output′) (e .readMap′)
-  report-out z =
-      let q = query x1 x2 y in
-      let marks : e .readMap′ ≡ readMap (blocksRead (walkTable t q)) = p .marks ∙ map-accepted _ _ _ z ∙ ap readMap (report-blocks t x1 x2 y) in
-      record {
-        given = spots (reportTable t x1 x2 y);
-        output = p .output ∙ ap (λ (n : ℕ). outputLeft n (spots (reportTable t x1 x2 y)) (e .output)) z;
-        detail = report-detail _ (reportTable t x1 x2 y) (p .answered) z;
-        wanted = every-make (wants q) (spots (reportTable t x1 x2 y)) (λ s i. walk-sources t q s (walk-spot s i) .0);
-        marked = λ s i.
-            let r = walk-sources t q s (walk-spot s i) .1 in
-            (r .0, ap (λ (m : List ℕ). bit m (r .0)) marks ∙ read-marked t q (r .0) (r .1), r .2, λ n. omega (arith, read-in-table t q (r .0) (r .1) .some));
-        header = ap (λ (m : List ℕ). bit m 0) marks ∙ zero-marked (blocksRead (walkTable t q));
-      }
+  of-range : every (wants (query x1 x2 y)) (spots (reportTable t x1 x2 y)) ≡ true
+  of-range = every-make (wants (query x1 x2 y)) (spots (reportTable t x1 x2 y)) (λ s i. walk-sources t (query x1 x2 y) s (walk-spot s i) .0)
+
+  from-read : (s : Spot) → List·Memᴰ s (spots (reportTable t x1 x2 y))
+      → (b : ℕ) × List·Memᴰ b (blocksRead (reportTable t x1 x2 y)) × List·Memᴰ s (storeOf t b .points ++ storeOf t b .inserts) × (b ≡ 0 → ⊥)
+  from-read s i =
+      let r = walk-sources t (query x1 x2 y) s (walk-spot s i) .1 in
+      (r .0, mem-same (sym (report-blocks t x1 x2 y)) (r .1), r .2, λ n. omega (arith, read-in-table t (query x1 x2 y) (r .0) (r .1) .some))
+
+report-out : (x1 x2 y : ℤ) (t : List ℕ) (e : Event) → ReportPost x1 x2 y t (e .output) (e .readMap) (e .answer) (e .output′) (e .readMap′) → e .answer .number ≡ 0
+    → HandsOut (query x1 x2 y) t (e .output) (e .answer) (e .output′) (e .readMap′)
+report-out x1 x2 y t e p z =
+    let q = query x1 x2 y in
+    let marks : e .readMap′ ≡ readMap (blocksRead (walkTable t q)) = p .marks ∙ map-accepted _ _ _ z ∙ ap readMap (report-blocks t x1 x2 y) in
+    record {
+      given = spots (reportTable t x1 x2 y);
+      output = p .output ∙ ap (λ (n : ℕ). outputLeft n (spots (reportTable t x1 x2 y)) (e .output)) z;
+      detail = walk-accepted _ (length (e .output)) (reportTable t x1 x2 y) (e .answer) (p .answered) z .1;
+      wanted = of-range t x1 x2 y;
+      marked = λ s i.
+          let r = from-read t x1 x2 y s i in
+          (r .0, ap (λ (m : List ℕ). bit m (r .0)) marks ∙ read-marked t q (r .0) (mem-same (report-blocks t x1 x2 y) (r .1)), r .2, r .3);
+      header = ap (λ (m : List ℕ). bit m 0) marks ∙ zero-marked (blocksRead (walkTable t q));
+    }
+
+-- ---- many ranges
+
+many-out : (rs : List Range) (t : List ℕ) (e : Event) → ManyPost rs t (e .counts) (e .output) (e .readMap) (e .answer) (e .counts′) (e .output′) (e .readMap′) → e .answer .number ≡ 0
+    → HandsOutEach rs t (e .output) (e .answer) (e .counts′) (e .output′) (e .readMap′)
+unfolding countsLeft
+many-out rs t e p z =
+    let a = walk-accepted _ (length (e .output)) (joined t rs) (e .answer) (p .handed .answered) z in
+    let found = spots-joined t rs (a .0) in
+    let marks : e .readMap′ ≡ readMap (blocksRead (joined t rs)) = p .handed .marks ∙ map-accepted _ _ _ z in
+    record {
+      given = λ r. spots (reportOf t r);
+      output = p .handed .output ∙ ap₂ (λ (n : ℕ) (ss : List Spot). outputLeft n ss (e .output)) z found;
+      detail = a .1 ∙ ap length found;
+      counted = p .counted ∙ ap (λ (n : ℕ). countsLeft n (countsOf t rs) (e .counts)) z;
+      wanted = λ x i. of-range t (x .x1) (x .x2) (x .y);
+      marked = λ x i s j.
+          let r = from-read t (x .x1) (x .x2) (x .y) s j in
+          (r .0, ap (λ (m : List ℕ). bit m (r .0)) marks ∙ read-joined t rs (a .0) (r .0) (blocks-joined t rs (a .0) (r .0) .1 (x, i, r .1)), r .2, r .3);
+      header = ap (λ (m : List ℕ). bit m 0) marks ∙ zero-marked (blocksRead (joined t rs));
+    }
 
 -- ---- Top
 
 module _ (x1 x2 : ℤ) (k : ℕ) (t : List ℕ) (e : Event) (same : e .table′ ≡ t) (p : TopPost x1 x2 k t (e .output) (e .readMap) (e .answer) (e .output′) (e .readMap′)) where
   top-number : (e .answer .number ≡ 0 → ⊥) → has (e .answer .number) refusals ≡ true
   top-number z =
-      ⊎-elim (λ l. of-five (e .answer .number) (0 ∷ 3 ∷ 5 ∷ []) refl (p .refusals l) z)
+      ⊎-elim (λ l. of-refusals (e .answer .number) (0 ∷ 3 ∷ 5 ∷ []) refl (p .refusals l) z)
       (λ l.
-      of-five (e .answer .number) (0 ∷ 1 ∷ 2 ∷ []) refl
-      (ap (λ (r : Answer). has (r .number) (0 ∷ 1 ∷ 2 ∷ [])) (p .byLengths l) ∙ by-lengths (withOutput t (e .output) (e .readMap)) (top x1 x2 k))
+      of-refusals (e .answer .number) early refl
+      (ap (λ (r : Answer). has (r .number) early) (p .byLengths l) ∙ by-lengths (withOutput t (e .output) (e .readMap)) (top x1 x2 k))
       z)
       (same-or-not (earlyNumber (withOutput t (e .output) (e .readMap)) (top x1 x2 k)) 0)
 
@@ -206,6 +240,7 @@ module _ (x1 x2 : ℤ) (k : ℕ) (t : List ℕ) (e : Event) (same : e .table′ 
         table = same;
         output = λ i. p .unchanged z .0;
         readMap = λ i. p .unchanged z .1;
+        counts = λ i. absurd (false≢true i);
       }
 
 -- ---- the demand
@@ -236,12 +271,17 @@ ends format t e p =
         table = format-down t e p z;
         output = λ i. absurd (false≢true i);
         readMap = λ i. absurd (false≢true i);
+        counts = λ i. absurd (false≢true i);
       },
       formatted-long t (e .table′) (p .promised .written),
     )
 ends (add place rank track) t e p = (update-down (add place rank track) _ _ t e (p .promised .update) refl refl (p .promised .detail), p .promised .update .sized)
 ends (withdraw place rank) t e p = (update-down (withdraw place rank) _ _ t e (p .promised .update) refl refl (p .promised .detail), p .promised .update .sized)
-ends (report x1 x2 y) t e p = (report-down x1 x2 y t e (p .unchanged refl) (p .promised), ap length (p .unchanged refl))
+ends (report x1 x2 y) t e p = (
+  λ z. walk-down _ (reportTable t x1 x2 y) e (p .promised) (report x1 x2 y) t (by-lengths (withOutput t (e .output) (e .readMap)) (report x1 x2 y)) (p .unchanged refl) z
+      (λ i. absurd (false≢true i)),
+  ap length (p .unchanged refl),
+)
 ends (top x1 x2 k) t e p = (top-down x1 x2 k t e (p .unchanged refl) (p .promised), ap length (p .unchanged refl))
 ends count t e p = (
   still-down count t e (subst Refusal (sym (p .promised .answered)) (refusal-lengths _ _ (by-lengths (ofTable t) count) (refusal-count _))) (p .unchanged refl) refl,
@@ -252,12 +292,18 @@ ends check t e p = (
   ap length (p .unchanged refl),
 )
 ends rebuild t e p = (update-down rebuild _ _ t e (p .promised .update) refl refl (p .promised .detail), p .promised .update .sized)
+ends (reportMany rs) t e p = (
+  λ z. walk-down _ (joined t rs) e (p .promised .handed) (reportMany rs) t (by-lengths (withCounts t (e .output) (e .readMap) (e .counts)) (reportMany rs)) (p .unchanged refl) z
+      (λ i. p .promised .counted ∙ counts-refused (e .answer .number) (countsOf t rs) (e .counts) z),
+  ap length (p .unchanged refl),
+)
 
 only-marked : (c : Call) (t : List ℕ) (e : Event) → MetBy c t e → e .answer .number ≡ 0 → OnlyMarked c t e
 only-marked c t e p z =
     record {
-      reports = λ x1 x2 y q. let m : MetBy (report x1 x2 y) t e = subst (λ (d : Call). MetBy d t e) q p in report-out x1 x2 y t e (m .unchanged refl) (m .promised) z;
+      reports = λ x1 x2 y q. let m : MetBy (report x1 x2 y) t e = subst (λ (d : Call). MetBy d t e) q p in report-out x1 x2 y t e (m .promised) z;
       tops = λ x1 x2 k q. let m : MetBy (top x1 x2 k) t e = subst (λ (d : Call). MetBy d t e) q p in m .promised .handsOut z;
+      manys = λ rs q. let m : MetBy (reportMany rs) t e = subst (λ (d : Call). MetBy d t e) q p in many-out rs t e (m .promised) z;
     }
 
 pub demand1 : Demand1

@@ -5,7 +5,7 @@ use mathlib.Core.Logic.{_⊎_, inl, inr, ⊎-elim, _↔_}
 use mathlib.Core.Bool.{Bool, true, false, cond, not, _&&_, true≢false}
 use mathlib.Core.List.{List, _++_, List·Memᴰ}
 use mathlib.Core.Option.{Option, none, some, Option·some-injective, Option·none-ne-some}
-use Prim.Native.Nat.{ℕ, zero, suc, _-_, _*_, _/_, _≤_, _<_}
+use Prim.Native.Nat.{ℕ, _-_, _*_, _/_, _≤_, _<_}
 use native.Mathlib.Omega.{arith}
 use lib.ListN.{length, take, drop, length-take}
 use lib.Seq.{take-all}
@@ -13,16 +13,16 @@ use lib.Dec.{leb}
 use lib.IntN.{ℤ}
 use lib.Signed.{leZ}
 use borrow.Author.Tests.{leb-true, le-leb, eq-eqb, eqb-true}
-use Rattle.octets.specs.Lists.{keep}
+use Rattle.octets.specs.Lists.{every, keep}
 use Rattle.octets.proofs.Lists.{mem-same, mem-take}
-use Rattle.octets.proofs.Tests.{and-left, and-right, and-both, refuted}
+use Rattle.octets.proofs.Tests.{and-left, and-right, and-both, refuted, every-mem}
 use Rattle.octets.proofs.Order.{less-or-not}
 use Rattle.spot.specs.declared.Spot.{Spot}
 use Rattle.spot.specs.Keys.{key, signed32, unsigned32}
 use Rattle.spot.specs.Spots.{spotsBytes, byTop, fromOn}
 use Rattle.spot.specs.Range.{ofRange}
 use Rattle.spot.specs.Query.{query, topQuery, fromOf, wants}
-use Rattle.spot.proofs.Signed.{Fits, signed-fits, fits-signed}
+use Rattle.spot.proofs.Signed.{Fits, fits-signed}
 use Rattle.spot.proofs.Orders.{key-inj, report-wants, top-wants}
 use Rattle.spot.proofs.Ranks.{byTop-from, byTop-in}
 use Rattle.spot.proofs.Canon.{keep-rises}
@@ -37,25 +37,31 @@ use Rattle.tree.specs.Sound.{sound}
 use Rattle.tree.proofs.Tables.{live-rises, report-finds, counted, sound-header}
 use Rattle.tree.proofs.Tops.{top-finds, top-rises}
 use Rattle.revise.specs.Numbers.{addNumber}
-use Rattle.table.specs.Calls.{Call, add, withdraw, report, top, argumentsFit}
-use Rattle.table.specs.Answers.{withScratch, withOutput, earlyNumber, unlessRefused, spotsAnswer, outputLeft}
-use Rattle.table.specs.Queries.{walkAnswer, QueryPost, ReportPost, TopPost}
+use Rattle.ranges.specs.Ranges.{forEach}
+use Rattle.ranges.specs.declared.Range.{Range}
+use Rattle.report.specs.Joined.{joined, countsOf}
+use Rattle.table.specs.Calls.{add, withdraw, report, top, reportMany, rangeFits, argumentsFit}
+use Rattle.table.specs.Answers.{withScratch, withOutput, withCounts, earlyNumber, unlessRefused, spotsAnswer, outputLeft, countsLeft}
+use Rattle.table.specs.Queries.{walkAnswer, WalkPost, ReportPost, ManyPost, TopPost}
 use Rattle.table.specs.Updates.{AddPost, WithdrawPost}
 use Rattle.demands.specs.Model.{PlainSpot, hasIdentity, topBefore, asBytes}
 use Rattle.demands.specs.TopMarks.{MarksFew}
-use Rattle.demands.specs.Demands.{LiveSpot, OfPlaces, InOrder, reportBefore, AtCapacity, ReportOf, TopOf, HandedOut, AddedTo, WithdrawnFrom, Demand2}
-use Rattle.demands.proofs.Plain.{toKeySpot, SpotFits, identity-key, keyed-bytes, two-fit}
+use Rattle.demands.specs.Demands.{LiveSpot, OfPlaces, InOrder, reportBefore, AtCapacity, ReportOf, TopOf, HandedOut, CountedOut, AddedTo, WithdrawnFrom, Demand2}
+use Rattle.demands.proofs.Plain.{toKeySpot, SpotFits, identity-key, keyed-bytes, two-fit, three-fit, range-fit}
 use Rattle.table.proofs.Changes.{number-is}
-use Rattle.demands.proofs.Histories.{map-accepted}
+use Rattle.demands.proofs.Keyed.{singlyIn}
+use Rattle.demands.proofs.Histories.{map-accepted, output-refused, counts-refused, many-finds, many-counts}
+use Rattle.demands.proofs.Demand.{tree-laws}
 use Rattle.demands.proofs.MarksFew.{marks-few}
-use Rattle.table.proofs.Reports.{report-turned}
+use Rattle.report.proofs.Reports.{report-turned}
+use Rattle.report.proofs.Joined.{for-each-map, for-each-mem, count-each-same}
 use Rattle.demands.proofs.Onward.{from-on-mem, mem-from-on, report-apart, turned-small, turned-in-order}
-use Rattle.demands.proofs.Alive.{plain, Small, keyed-plain, plain-length, plain-take, plain-fit, plain-mem, mem-plain, falls-in-order, take-order, take-first, same-order, first-order, higher-apart, alive-fits, kept-small, kept-live, live-kept, all-live, live-count}
+use Rattle.demands.proofs.Alive.{toPlain, plain, Small, keyed-plain, plain-length, plain-take, plain-fit, plain-mem, mem-plain, falls-in-order, take-order, take-first, same-order, first-order, higher-apart, alive-fits, kept-small, kept-live, live-kept, all-live, live-count}
 
 -- ---- what a query hands out
 
-module _ (c : Call) (w : Walk) (found : List Spot) (whole : Finds w found) (small : Small found) (t out map : List ℕ) (r : Answer) (out′ map′ : List ℕ)
-    (lent : earlyNumber (withOutput t out map) c ≡ 0) (p : QueryPost c w t out map r out′ map′) where
+module _ (l : ℕ) (w : Walk) (found : List Spot) (whole : Finds w found) (small : Small found) (out map : List ℕ) (r : Answer) (out′ map′ : List ℕ)
+    (lent : l ≡ 0) (p : WalkPost l w out map r out′ map′) where
   answered : r ≡ spotsAnswer (length out) (length (plain found))
   unfolding unlessRefused walkAnswer
   answered =
@@ -65,26 +71,21 @@ module _ (c : Call) (w : Walk) (found : List Spot) (whole : Finds w found) (smal
   bytes : asBytes (plain found) ≡ spotsBytes found
   bytes = keyed-bytes (plain found) (plain-fit found small) ∙ ap spotsBytes (keyed-plain found)
 
-  left : (n : ℕ) → r .number ≡ n → out′ ≡ outputLeft n found out
-  left n e = p .output ∙ ap₂ (λ (m : ℕ) (v : Walk). outputLeft m (spots v) out) e (whole .1)
-
   pub handed-out : HandedOut (plain found) out r out′
   unfolding outputLeft
   handed-out =
       record {
         answer = answered;
-        output = λ z. left 0 z ∙ ap₂ (λ (bs : List ℕ) (n : ℕ). bs ++ drop (12 * n) out) (sym bytes) (sym (plain-length found));
-        refused = λ n. go (r .number) refl n;
+        output = λ z.
+            p .output ∙ ap₂ (λ (m : ℕ) (v : Walk). outputLeft m (spots v) out) z (whole .1) ∙
+            ap₂ (λ (bs : List ℕ) (n : ℕ). bs ++ drop (12 * n) out) (sym bytes) (sym (plain-length found));
+        refused = λ n. p .output ∙ output-refused (r .number) (spots w) out n;
       }
-    where
-      go : (n : ℕ) → r .number ≡ n → (n ≡ 0 → ⊥) → out′ ≡ out
-      go zero e n = absurd (n refl)
-      go (suc m) e n = left (suc m) e
 
 -- ---- Report
 
 module _ (t : List ℕ) (g : sound t ≡ true) where
-  module _ (x1 x2 y : ℤ) (f1 : Fits x1) (f2 : Fits x2) (fy : Fits y) where
+  module _ (x1 x2 y : ℤ) where
     kept : List Spot
     kept = keep (wants (query x1 x2 y)) (liveSpots t)
 
@@ -99,50 +100,83 @@ module _ (t : List ℕ) (g : sound t ≡ true) where
     unfolding found
     found-few = turned-small (fromOf (query x1 x2 y)) kept kept-few
 
-    asked : (s : PlainSpot) → SpotFits s → ofRange x1 x2 (s .place) && leZ y (s .rank) ≡ wants (query x1 x2 y) (toKeySpot s)
-    asked s f = report-wants x1 x2 f1 f2 (s .place) (s .rank) (f .place) (f .rank) y fy
+    module _ (f1 : Fits x1) (f2 : Fits x2) (fy : Fits y) where
+      asked : (s : PlainSpot) → SpotFits s → ofRange x1 x2 (s .place) && leZ y (s .rank) ≡ wants (query x1 x2 y) (toKeySpot s)
+      asked s f = report-wants x1 x2 f1 f2 (s .place) (s .rank) (f .place) (f .rank) y fy
 
-    to : (s : PlainSpot) → List·Memᴰ s (plain found) → OfPlaces x1 x2 t s × (leZ y (s .rank) ≡ true)
-    unfolding kept found
-    to s i =
-        let m = plain-mem found found-few s i in
-        let l = kept-live t g (wants (query x1 x2 y)) s (m .0, from-on-mem (fromOf (query x1 x2 y)) kept (m .1)) in
-        let a = asked s (m .0) ∙ l .1 in
-        (record { alive = l .0; of = and-left (ofRange x1 x2 (s .place)) (leZ y (s .rank)) a }, and-right (ofRange x1 x2 (s .place)) (leZ y (s .rank)) a)
+      to : (s : PlainSpot) → List·Memᴰ s (plain found) → OfPlaces x1 x2 t s × (leZ y (s .rank) ≡ true)
+      unfolding kept found
+      to s i =
+          let m = plain-mem found found-few s i in
+          let l = kept-live t g (wants (query x1 x2 y)) s (m .0, from-on-mem (fromOf (query x1 x2 y)) kept (m .1)) in
+          let a = asked s (m .0) ∙ l .1 in
+          (record { alive = l .0; of = and-left (ofRange x1 x2 (s .place)) (leZ y (s .rank)) a }, and-right (ofRange x1 x2 (s .place)) (leZ y (s .rank)) a)
 
-    from : (s : PlainSpot) → OfPlaces x1 x2 t s × (leZ y (s .rank) ≡ true) → List·Memᴰ s (plain found)
-    unfolding kept found
-    from s h =
-        let f = alive-fits t s (h .0 .alive) in
-        let a = and-both (ofRange x1 x2 (s .place)) (leZ y (s .rank)) (h .0 .of) (h .1) in
-        mem-plain found s f (mem-from-on (fromOf (query x1 x2 y)) kept (live-kept t g (wants (query x1 x2 y)) s (h .0 .alive) (sym (asked s f) ∙ a)))
+      from : (s : PlainSpot) → OfPlaces x1 x2 t s × (leZ y (s .rank) ≡ true) → List·Memᴰ s (plain found)
+      unfolding kept found
+      from s h =
+          let f = alive-fits t s (h .0 .alive) in
+          let a = and-both (ofRange x1 x2 (s .place)) (leZ y (s .rank)) (h .0 .of) (h .1) in
+          mem-plain found s f (mem-from-on (fromOf (query x1 x2 y)) kept (live-kept t g (wants (query x1 x2 y)) s (h .0 .alive) (sym (asked s f) ∙ a)))
 
-    report-of : ReportOf x1 x2 y t (plain found)
-    unfolding kept found
-    report-of =
-        record {
-          rise = turned-in-order x1 x2 y f1 kept kept-few (keep-rises (wants (query x1 x2 y)) 0 (liveSpots t) (live-rises t g));
-          each = λ s. (to s, from s);
-        }
+      report-of : ReportOf x1 x2 y t (plain found)
+      unfolding kept found
+      report-of =
+          record {
+            rise = turned-in-order x1 x2 y f1 kept kept-few (keep-rises (wants (query x1 x2 y)) 0 (liveSpots t) (live-rises t g));
+            each = λ s. (to s, from s);
+          }
 
-    is-found : (given : List PlainSpot) → ReportOf x1 x2 y t given → given ≡ plain found
-    is-found given h =
-        same-order (reportBefore x1) SpotFits (report-apart x1 x2 y f1) given (plain found) (h .rise) (report-of .rise)
-        (λ s i. let l = h .each s .0 i in (report-of .each s .1 l, alive-fits t s (l .0 .alive)))
-        (λ s i. h .each s .1 (report-of .each s .0 i))
+      is-found : (given : List PlainSpot) → ReportOf x1 x2 y t given → given ≡ plain found
+      is-found given h =
+          same-order (reportBefore x1) SpotFits (report-apart x1 x2 y f1) given (plain found) (h .rise) (report-of .rise)
+          (λ s i. let l = h .each s .0 i in (report-of .each s .1 l, alive-fits t s (l .0 .alive)))
+          (λ s i. h .each s .1 (report-of .each s .0 i))
 
-    -- the definition settles the list: one that leaves a spot out, gives one twice or in another order is no such report
-    pub report-settled : (given other : List PlainSpot) → ReportOf x1 x2 y t given → ReportOf x1 x2 y t other → given ≡ other
-    report-settled given other g h = is-found given g ∙ sym (is-found other h)
+      -- the definition settles the list: one that leaves a spot out, gives one twice or in another order is no such report
+      pub report-settled : (given other : List PlainSpot) → ReportOf x1 x2 y t given → ReportOf x1 x2 y t other → given ≡ other
+      report-settled given other g h = is-found given g ∙ sym (is-found other h)
 
-    report-given : (out map : List ℕ) (r : Answer) (out′ map′ : List ℕ) → earlyNumber (withOutput t out map) (report x1 x2 y) ≡ 0 → ReportPost x1 x2 y t out map r out′ map′
-        → (given : List PlainSpot) × ReportOf x1 x2 y t given × HandedOut given out r out′
-    unfolding kept found
-    report-given out map r out′ map′ l p = (
-      plain found,
-      report-of,
-      handed-out (report x1 x2 y) (reportTable t x1 x2 y) found (report-turned t x1 x2 y kept (report-finds t g (query x1 x2 y))) found-few t out map r out′ map′ l p,
-    )
+      report-given : (out map : List ℕ) (r : Answer) (out′ map′ : List ℕ) → earlyNumber (withOutput t out map) (report x1 x2 y) ≡ 0 → ReportPost x1 x2 y t out map r out′ map′
+          → (given : List PlainSpot) × ReportOf x1 x2 y t given × HandedOut given out r out′
+      unfolding kept found
+      report-given out map r out′ map′ l p = (
+        plain found,
+        report-of,
+        handed-out _ (reportTable t x1 x2 y) found (report-turned t x1 x2 y kept (report-finds t g (query x1 x2 y))) found-few out map r out′ map′ l p,
+      )
+
+  -- ---- many ranges
+
+  given-in : Range → List PlainSpot
+  given-in r = plain (singlyIn (liveSpots t) r)
+
+  many-given : (rs : List Range) (counts out map : List ℕ) (r : Answer) (counts′ out′ map′ : List ℕ) → every rangeFits rs ≡ true
+      → earlyNumber (withCounts t out map counts) (reportMany rs) ≡ 0
+      → ManyPost rs t counts out map r counts′ out′ map′
+      → (given : Range → List PlainSpot) × ((x : Range) → List·Memᴰ x rs → ReportOf (x .x1) (x .x2) (x .y) t (given x)) ×
+      HandedOut (forEach given rs) out r out′ ×
+      CountedOut given rs counts r counts′
+  unfolding kept found given-in countsLeft
+  many-given rs counts out map r counts′ out′ map′ fit l p = (
+    given-in,
+    λ x i. let f = range-fit x (every-mem rangeFits rs fit i) in report-of (x .x1) (x .x2) (x .y) (f .0) (f .1) (f .2),
+    subst (λ (ss : List PlainSpot). HandedOut ss out r out′) (for-each-map toPlain (singlyIn (liveSpots t)) rs)
+        (handed-out _ (joined t rs) (forEach (singlyIn (liveSpots t)) rs) (many-finds tree-laws t g rs)
+        (λ s i. let m = for-each-mem (singlyIn (liveSpots t)) rs i in found-few (m .0 .x1) (m .0 .x2) (m .0 .y) s (m .2))
+        out
+        map
+        r
+        out′
+        map′
+        l
+        (p .handed)),
+    record {
+      counted = λ z. p .counted ∙ ap (λ (n : ℕ). countsLeft n (countsOf t rs) counts) z ∙ many-counts tree-laws t g rs ∙
+          count-each-same (singlyIn (liveSpots t)) given-in rs (λ x i. sym (plain-length (singlyIn (liveSpots t) x)));
+      refused = λ n. p .counted ∙ counts-refused (r .number) (countsOf t rs) counts n;
+    },
+  )
 
   -- ---- Top
 
@@ -214,7 +248,7 @@ module _ (t : List ℕ) (g : sound t ≡ true) where
     top-given out map r out′ map′ l p = (
       plain (take k (byTop of-places)),
       subst (TopOf x1 x2 k t) (sym (plain-take k (byTop of-places))) top-of,
-      handed-out (top x1 x2 k) (topTable t x1 x2 k) (take k (byTop of-places)) (top-finds t g x1 x2 k) (λ s i. few-ranked s (mem-take k (byTop of-places) i)) t out map r out′ map′ l
+      handed-out _ (topTable t x1 x2 k) (take k (byTop of-places)) (top-finds t g x1 x2 k) (λ s i. few-ranked s (mem-take k (byTop of-places) i)) out map r out′ map′ l
           (p .exact (top-rises t g x1 x2 k)),
     )
 
@@ -376,10 +410,10 @@ demand2 =
           let f = two-fit place rank (h .arguments) in
           withdrawn-from place rank (f .0) (f .1) t (h .table) w r t′ w′ (h .lent) p;
       reports = λ x1 x2 y t out map r out′ map′ h p.
-          let f = two-fit x1 x2 (and-left (signed32 x1 && signed32 x2) (signed32 y) (h .arguments)) in
-          let fy = signed-fits y (and-right (signed32 x1 && signed32 x2) (signed32 y) (h .arguments)) in
-          report-given t (h .table) x1 x2 y (f .0) (f .1) fy out map r out′ map′ (h .lent) p;
+          let f = three-fit x1 x2 y (h .arguments) in
+          report-given t (h .table) x1 x2 y (f .0) (f .1) (f .2) out map r out′ map′ (h .lent) p;
       tops = λ x1 x2 k t out map r out′ map′ h p.
           let f = two-fit x1 x2 (and-left (signed32 x1 && signed32 x2) (unsigned32 k) (h .arguments)) in
           top-given t (h .table) x1 x2 (f .0) (f .1) k out map r out′ map′ (h .lent) p;
+      manys = λ rs t counts out map r counts′ out′ map′ h p. many-given t (h .table) rs counts out map r counts′ out′ map′ (h .arguments) (h .lent) p;
     }

@@ -2,15 +2,15 @@
 -- Assumes nothing.
 use mathlib.Core.Path.{_≡_, refl, sym, ap, ap₂, _∙_}
 use mathlib.Core.Bool.{Bool, true, false, cond, not, _&&_, _||_}
-use mathlib.Core.List.{List, [], _∷_, _++_, map}
+use mathlib.Core.List.{List, [], _∷_, _++_, map, map-append, List·Memᴰ}
 use mathlib.Core.Option.{Option, some}
 use Prim.Native.Nat.{ℕ, zero, suc, _*_, _/_, _%_}
 use lib.ListN.{length, take, drop}
 use lib.Dec.{leb, ltb, eqb}
 use lib.IntN.{ℤ}
 use lib.Signed.{leZ, ltZ}
-use Rattle.octets.specs.Lists.{all, keep}
-use Rattle.octets.proofs.Tests.{and-left, and-right, cond-not}
+use Rattle.octets.specs.Lists.{all, every, keep}
+use Rattle.octets.proofs.Tests.{and-left, and-right, cond-not, every-mem}
 use Rattle.octets.proofs.Order.{eqb-flip, not-leb}
 use Rattle.spot.specs.declared.Spot.{Spot}
 use Rattle.spot.specs.Keys.{key, topKey, signed32, unsigned32}
@@ -22,11 +22,14 @@ use Rattle.spot.proofs.Orders.{report-wants, top-wants}
 use Rattle.block.specs.Answers.{answer}
 use Rattle.block.specs.Table.{sizedFor, tableSized}
 use Rattle.tree.specs.Lookup.{isLive}
-use Rattle.table.specs.Calls.{Call, format, add, withdraw, report, top, count, check, rebuild, Kind, makes, updates, queries, tells, kind, Lengths, argumentsFit}
+use Rattle.ranges.specs.Ranges.{forEach, countEach}
+use Rattle.ranges.specs.declared.Range.{Range}
+use Rattle.report.proofs.Joined.{for-each-same, for-each-map, count-each-same}
+use Rattle.table.specs.Calls.{Call, format, add, withdraw, report, top, count, check, rebuild, reportMany, Kind, makes, updates, queries, queriesEach, tells, kind, Lengths, rangeFits, argumentsFit}
 use Rattle.revise.specs.Numbers.{addNumber}
-use Rattle.table.specs.Answers.{lent, earlyNumber, spotsAnswer, outputLeft}
-use Rattle.demands.specs.Model.{PlainSpot, hasIdentity, placeBefore, topBefore, ofPlaces, ofReport, chosen, fromOnward, insertBy, sortBy, listed, takenOut, broughtIn, highest, fourBytes, complement, asBytes, Plain, begunEmpty, Reply, outputAfter, refuse, accept, badTable, badLent, full, handOut, ownReply, reply}
-use Rattle.demands.proofs.Keyed.{KeyReply, keyReply, replyTo, refusedOr, accepted, changed, nextBy, gives}
+use Rattle.table.specs.Answers.{lent, fewEnough, earlyNumber, spotsAnswer, outputLeft, countsLeft}
+use Rattle.demands.specs.Model.{PlainSpot, hasIdentity, placeBefore, topBefore, ofPlaces, ofReport, chosen, fromOnward, reported, reportedIn, insertBy, sortBy, listed, takenOut, broughtIn, highest, fourBytes, complement, asBytes, Plain, begunEmpty, Reply, outputAfter, refuse, accept, badTable, badLent, tooMany, full, handOut, ownReply, reply}
+use Rattle.demands.proofs.Keyed.{KeyReply, keyReply, replyTo, refusedOr, accepted, changed, nextBy, gives, singly, singlyIn}
 use Rattle.demands.proofs.Orders.{model-places, model-tops, model-identity, model-from, model-under, four-bytes, key-bytes}
 
 -- a spot of the model as the table's definitions have it
@@ -63,10 +66,6 @@ take-fit : (k : ℕ) (ss : List PlainSpot) → AllFit ss → AllFit (take k ss)
 take-fit zero ss f = tt
 take-fit (suc k) [] f = tt
 take-fit (suc k) (s ∷ ss) f = (f .0, take-fit k ss (f .1))
-
-keyed-append : (xs ys : List PlainSpot) → keyed (xs ++ ys) ≡ keyed xs ++ keyed ys
-keyed-append [] ys = refl
-keyed-append (x ∷ xs) ys = ap (λ (l : List Spot). toKeySpot x ∷ l) (keyed-append xs ys)
 
 append-fit : (xs ys : List PlainSpot) → AllFit xs → AllFit ys → AllFit (xs ++ ys)
 append-fit [] ys f g = g
@@ -141,6 +140,24 @@ keyed-sort [] h = refl
 keyed-sort (s ∷ ss) h =
     keyed-top s (sortBy topBefore ss) (h .0) (sort-fit topBefore ss (h .1)) ∙ ap (putTop (toKeySpot s)) (keyed-sort ss (h .1))
 
+-- the arguments, from the tests
+pub two-fit : (x y : ℤ) → signed32 x && signed32 y ≡ true → Fits x × Fits y
+two-fit x y a = (signed-fits x (and-left (signed32 x) (signed32 y) a), signed-fits y (and-right (signed32 x) (signed32 y) a))
+
+-- three, as a Report has them
+pub three-signed : (x1 x2 y : ℤ) → signed32 x1 && signed32 x2 && signed32 y ≡ true → (signed32 x1 ≡ true) × (signed32 x2 ≡ true) × (signed32 y ≡ true)
+three-signed x1 x2 y a =
+    let f = and-left (signed32 x1 && signed32 x2) (signed32 y) a in
+    (and-left (signed32 x1) (signed32 x2) f, and-right (signed32 x1) (signed32 x2) f, and-right (signed32 x1 && signed32 x2) (signed32 y) a)
+
+pub three-fit : (x1 x2 y : ℤ) → signed32 x1 && signed32 x2 && signed32 y ≡ true → Fits x1 × Fits x2 × Fits y
+three-fit x1 x2 y a = let s = three-signed x1 x2 y a in (signed-fits x1 (s .0), signed-fits x2 (s .1), signed-fits y (s .2))
+
+-- and as a range has them
+pub range-fit : (r : Range) → rangeFits r ≡ true → Fits (r .x1) × Fits (r .x2) × Fits (r .y)
+unfolding rangeFits
+range-fit r a = three-fit (r .x1) (r .x2) (r .y) a
+
 -- one identity, one key
 module _ (place rank : ℤ) (fp : Fits place) (fr : Fits rank) where
   -- one identity, one key
@@ -185,30 +202,28 @@ module _ (place rank : ℤ) (fp : Fits place) (fr : Fits rank) where
     unfolding broughtIn
     in-fit ss h = insert-fit placeBefore new (takenOut place rank ss) (record { place = fp; rank = fr }) (out-fit ss h)
 
+report-fit : (x1 x2 y : ℤ) (ss : List PlainSpot) → AllFit ss → AllFit (reported x1 x2 y ss)
+unfolding reported fromOnward
+report-fit x1 x2 y ss h =
+    let f = chosen-fit (ofReport x1 x2 y) ss h in
+    append-fit (chosen (λ s. leZ x1 (s .place)) (chosen (ofReport x1 x2 y) ss)) _ (chosen-fit _ (chosen (ofReport x1 x2 y) ss) f) (chosen-fit _ (chosen (ofReport x1 x2 y) ss) f)
+
 module _ (x1 x2 : ℤ) (f1 : Fits x1) (f2 : Fits x2) where
   -- the spots from x1 up first
   keyed-onward : (y : ℤ) (ss : List PlainSpot) → AllFit ss → keyed (fromOnward x1 ss) ≡ fromOn (fromOf (query x1 x2 y)) (keyed ss)
   unfolding fromOnward fromOn
   keyed-onward y ss h =
-      keyed-append (chosen (λ s. leZ x1 (s .place)) ss) (chosen (λ s. ltZ (s .place) x1) ss) ∙
+      map-append toKeySpot (chosen (λ s. leZ x1 (s .place)) ss) (chosen (λ s. ltZ (s .place) x1) ss) ∙
       ap₂ (λ (l m : List Spot). l ++ m)
       (keyed-chosen _ (λ s. leb (fromOf (query x1 x2 y)) (s .key)) (λ s f. model-from x1 x2 y (s .place) (s .rank) f1 (f .place) (f .rank)) ss h)
       (keyed-chosen _ (λ s. ltb (s .key) (fromOf (query x1 x2 y))) (λ s f. model-under x1 x2 y (s .place) (s .rank) f1 (f .place) (f .rank)) ss h)
 
-  keyed-report : (y : ℤ) → Fits y → (ss : List PlainSpot) → AllFit ss
-      → keyed (fromOnward x1 (chosen (ofReport x1 x2 y) ss))
-      ≡ fromOn (fromOf (query x1 x2 y)) (keep (wants (query x1 x2 y)) (keyed ss))
-  unfolding ofReport ofPlaces ofRange
+  keyed-report : (y : ℤ) → Fits y → (ss : List PlainSpot) → AllFit ss → keyed (reported x1 x2 y ss) ≡ singly x1 x2 y (keyed ss)
+  unfolding reported ofReport ofPlaces ofRange
   keyed-report y fy ss h =
       keyed-onward y (chosen (ofReport x1 x2 y) ss) (chosen-fit (ofReport x1 x2 y) ss h) ∙
       ap (fromOn (fromOf (query x1 x2 y)))
       (keyed-chosen (ofReport x1 x2 y) (wants (query x1 x2 y)) (λ s f. report-wants x1 x2 f1 f2 (s .place) (s .rank) (f .place) (f .rank) y fy) ss h)
-
-  report-fit : (y : ℤ) (ss : List PlainSpot) → AllFit ss → AllFit (fromOnward x1 (chosen (ofReport x1 x2 y) ss))
-  unfolding fromOnward
-  report-fit y ss h =
-      let f = chosen-fit (ofReport x1 x2 y) ss h in
-      append-fit (chosen (λ s. leZ x1 (s .place)) (chosen (ofReport x1 x2 y) ss)) _ (chosen-fit _ (chosen (ofReport x1 x2 y) ss) f) (chosen-fit _ (chosen (ofReport x1 x2 y) ss) f)
 
   -- what Top gives, and that it fits
   pub keyed-highest : (k : ℕ) (ss : List PlainSpot) → AllFit ss → keyed (highest x1 x2 k ss) ≡ take k (byTop (keep (wants (topQuery x1 x2 0)) (keyed ss)))
@@ -223,6 +238,22 @@ module _ (x1 x2 : ℤ) (f1 : Fits x1) (f2 : Fits x2) where
   pub highest-fit : (k : ℕ) (ss : List PlainSpot) → AllFit ss → AllFit (highest x1 x2 k ss)
   unfolding highest
   highest-fit k ss h = take-fit k (sortBy topBefore (chosen (ofPlaces x1 x2) ss)) (sort-fit topBefore (chosen (ofPlaces x1 x2) ss) (chosen-fit (ofPlaces x1 x2) ss h))
+
+-- many ranges
+module _ (ss : List PlainSpot) (h : AllFit ss) where
+  each-fit : (rs : List Range) → AllFit (forEach (reportedIn ss) rs)
+  each-fit [] = tt
+  each-fit (r ∷ rs) = append-fit (reportedIn ss r) (forEach (reportedIn ss) rs) (report-fit (r .x1) (r .x2) (r .y) ss h) (each-fit rs)
+
+  module _ (rs : List Range) (fit : every rangeFits rs ≡ true) where
+    keyed-one : (r : Range) → List·Memᴰ r rs → keyed (reportedIn ss r) ≡ singlyIn (keyed ss) r
+    keyed-one r i = let f = range-fit r (every-mem rangeFits rs fit i) in keyed-report (r .x1) (r .x2) (f .0) (f .1) (r .y) (f .2) ss h
+
+    keyed-each : keyed (forEach (reportedIn ss) rs) ≡ forEach (singlyIn (keyed ss)) rs
+    keyed-each = for-each-map toKeySpot (reportedIn ss) rs ∙ for-each-same _ (singlyIn (keyed ss)) rs keyed-one
+
+    counts-each : countEach (reportedIn ss) rs ≡ countEach (singlyIn (keyed ss)) rs
+    counts-each = count-each-same (reportedIn ss) (singlyIn (keyed ss)) rs (λ r i. sym (keyed-length (reportedIn ss r)) ∙ ap length (keyed-one r i))
 
 -- ---- bytes
 
@@ -243,47 +274,51 @@ keyed-bytes (s ∷ ss) h = ap₂ (λ (x y : List ℕ). x ++ y) (spot-bytes s (h 
 pub record Like (r : Reply) (k : KeyReply) : Type 0 where
   pub answer : r .answer ≡ k .answer
   pub output : (out : List ℕ) → outputAfter r out ≡ outputLeft (k .answer .number) (k .given) out
+  pub counts : r .counts ≡ k .counts
   pub next : keyed (r .next .spots) ≡ k .next
   pub fit : AllFit (r .next .spots)
 
-like-accept : (d : ℕ) (next : Plain) → AllFit (next .spots) → Like (accept d [] next) (accepted d (keyed (next .spots)))
+like-accept : (d : ℕ) (next : Plain) → AllFit (next .spots) → Like (accept d [] [] next) (accepted d (keyed (next .spots)))
 unfolding accept accepted outputAfter outputLeft
-like-accept d next f = record { answer = refl; output = λ out. refl; next = refl; fit = f }
+like-accept d next f = record { answer = refl; output = λ out. refl; counts = refl; next = refl; fit = f }
 
 module _ (ps : Plain) (fit : AllFit (ps .spots)) where
-  -- 1 and 2, by the lengths
-  like-lengths : (sized lent : Bool) (x : Reply) (y : KeyReply) → Like x y
-      → Like (cond (not sized) (refuse 1 0 ps) (cond (not lent) (refuse 2 0 ps) x)) (refusedOr (cond sized (cond lent 0 2) 1) (keyed (ps .spots)) y)
+  -- 1, 2 and 6, by lengths and arguments
+  like-early : (sized lent few : Bool) (x : Reply) (y : KeyReply) → Like x y
+      → Like (cond (not sized) (refuse 1 0 ps) (cond (not lent) (refuse 2 0 ps) (cond (not few) (refuse 6 0 ps) x)))
+      (refusedOr (cond sized (cond lent (cond few 0 6) 2) 1) (keyed (ps .spots)) y)
   unfolding refuse refusedOr outputAfter outputLeft
-  like-lengths true true x y h = h
-  like-lengths true false x y h = record { answer = refl; output = λ out. refl; next = refl; fit = fit }
-  like-lengths false lent x y h = record { answer = refl; output = λ out. refl; next = refl; fit = fit }
+  like-early true true true x y h = h
+  like-early true true false x y h = record { answer = refl; output = λ out. refl; counts = refl; next = refl; fit = fit }
+  like-early true false few x y h = record { answer = refl; output = λ out. refl; counts = refl; next = refl; fit = fit }
+  like-early false lent few x y h = record { answer = refl; output = λ out. refl; counts = refl; next = refl; fit = fit }
 
   -- 4, or the list is another
   like-full : (b : Bool) (next : Plain) (keys : List Spot) → AllFit (next .spots) → keyed (next .spots) ≡ keys
-      → Like (cond b (refuse 4 0 ps) (accept 0 [] next)) (changed (answer (cond b 4 0) 0) (keyed (ps .spots)) keys)
+      → Like (cond b (refuse 4 0 ps) (accept 0 [] [] next)) (changed (answer (cond b 4 0) 0) (keyed (ps .spots)) keys)
   unfolding refuse accept changed nextBy outputAfter outputLeft
-  like-full true next keys f e = record { answer = refl; output = λ out. refl; next = refl; fit = fit }
-  like-full false next keys f e = record { answer = refl; output = λ out. refl; next = e; fit = f }
+  like-full true next keys f e = record { answer = refl; output = λ out. refl; counts = refl; next = refl; fit = fit }
+  like-full false next keys f e = record { answer = refl; output = λ out. refl; counts = refl; next = e; fit = f }
 
   -- 5
-  like-out : (b : Bool) (found : List PlainSpot) → AllFit found
-      → Like (cond b (refuse 5 (length found) ps) (accept (length found) found ps))
-      (record { answer = record { number = cond b 5 0; detail = length found }; given = keyed found; next = keyed (ps .spots) })
-  unfolding refuse accept outputAfter outputLeft
-  like-out true found f = record { answer = refl; output = λ out. refl; next = refl; fit = fit }
-  like-out false found f =
+  like-out : (b : Bool) (found : List PlainSpot) (counts : List ℕ) → AllFit found
+      → Like (cond b (refuse 5 (length found) ps) (accept (length found) found counts ps))
+      (record { answer = record { number = cond b 5 0; detail = length found }; given = keyed found; counts = countsLeft (cond b 5 0) counts []; next = keyed (ps .spots) })
+  unfolding refuse accept outputAfter outputLeft countsLeft
+  like-out true found counts f = record { answer = refl; output = λ out. refl; counts = refl; next = refl; fit = fit }
+  like-out false found counts f =
       record {
         answer = refl;
         output = λ out. ap₂ (λ (l : List ℕ) (n : ℕ). l ++ drop (12 * n) out) (keyed-bytes found f) (sym (keyed-length found));
+        counts = refl;
         next = refl;
         fit = fit;
       }
 
-  like-given : (bytes : ℕ) (found : List PlainSpot) (keys : List Spot) → AllFit found → keyed found ≡ keys
-      → Like (handOut bytes found ps) (gives bytes keys (keyed (ps .spots)))
+  like-given : (bytes : ℕ) (found : List PlainSpot) (keys : List Spot) (counts counted : List ℕ) → AllFit found → keyed found ≡ keys → counts ≡ counted
+      → Like (handOut bytes found counts ps) (gives bytes keys counted (keyed (ps .spots)))
   unfolding handOut gives spotsAnswer
-  like-given bytes found keys f e = rw (← e, keyed-length found) (like-out (ltb (bytes / 12) (length found)) found f)
+  like-given bytes found keys counts counted f e k = rw (← e, ← k, keyed-length found) (like-out (ltb (bytes / 12) (length found)) found counts f)
 
 -- 1
 not-all : (a b c : Bool) → not a || not b || not c ≡ not (all (a ∷ b ∷ c ∷ []))
@@ -306,17 +341,27 @@ unfolding badLent
 bad-lent l makes = refl
 bad-lent l updates = sym (not-leb (l .table) (l .scratch))
 bad-lent l queries = refl
+bad-lent l (queriesEach n) = not-both (eqb (l .readMap) 512) (eqb (l .counts) n)
+  where
+    not-both : (a b : Bool) → not a || not b ≡ not (a && b)
+    not-both true b = refl
+    not-both false b = refl
 bad-lent l tells = refl
+
+-- 6
+too-many : (k : Kind) → tooMany k ≡ not (fewEnough k)
+unfolding tooMany
+too-many makes = refl
+too-many updates = refl
+too-many queries = refl
+too-many (queriesEach n) = sym (not-leb n 64)
+too-many tells = refl
 
 -- 4
 full-number : (bytes : ℕ) (place rank : ℤ) (ss : List PlainSpot) → Fits place → Fits rank → AllFit ss
     → addNumber bytes (length (keyed ss)) (isLive (find (key place rank) (keyed ss))) ≡ cond (full bytes place rank ss) 4 0
 unfolding full addNumber
 full-number bytes place rank ss fp fr h = rw (keyed-length ss, ← listed-live place rank fp fr ss h)
-
--- the arguments, from the test
-pub two-fit : (x y : ℤ) → signed32 x && signed32 y ≡ true → Fits x × Fits y
-two-fit x y a = (signed-fits x (and-left (signed32 x) (signed32 y) a), signed-fits y (and-right (signed32 x) (signed32 y) a))
 
 -- every call is answered alike
 like-own : (l : Lengths) (c : Call) (ps : Plain) → argumentsFit c ≡ true → AllFit (ps .spots) → Like (ownReply l c ps) (replyTo l c (keyed (ps .spots)))
@@ -331,19 +376,23 @@ like-own l (withdraw place rank) ps a h =
     let f = two-fit place rank a in
     like-full ps h false _ _ (out-fit place rank (f .0) (f .1) (ps .spots) h) (keyed-out place rank (f .0) (f .1) (ps .spots) h)
 like-own l (report x1 x2 y) ps a h =
-    let f = two-fit x1 x2 (and-left (signed32 x1 && signed32 x2) (signed32 y) a) in
-    let fy = signed-fits y (and-right (signed32 x1 && signed32 x2) (signed32 y) a) in
-    like-given ps h (l .output) (fromOnward x1 (chosen (ofReport x1 x2 y) (ps .spots))) _ (report-fit x1 x2 (f .0) (f .1) y (ps .spots) h)
-    (keyed-report x1 x2 (f .0) (f .1) y fy (ps .spots) h)
+    let f = three-fit x1 x2 y a in
+    like-given ps h (l .output) (reported x1 x2 y (ps .spots)) _ [] [] (report-fit x1 x2 y (ps .spots) h) (keyed-report x1 x2 (f .0) (f .1) y (f .2) (ps .spots) h) refl
 like-own l (top x1 x2 k) ps a h =
     let f = two-fit x1 x2 (and-left (signed32 x1 && signed32 x2) (unsigned32 k) a) in
-    like-given ps h (l .output) (highest x1 x2 k (ps .spots)) _ (highest-fit x1 x2 (f .0) (f .1) k (ps .spots) h)
+    like-given ps h (l .output) (highest x1 x2 k (ps .spots)) _ [] [] (highest-fit x1 x2 (f .0) (f .1) k (ps .spots) h)
     (keyed-highest x1 x2 (f .0) (f .1) k (ps .spots) h)
+    refl
 like-own l count ps a h = rw (keyed-length (ps .spots)) (like-accept (length (ps .spots)) ps h)
 like-own l check ps a h = like-accept 1 ps h
 like-own l rebuild ps a h = like-full ps h false ps _ h refl
+like-own l (reportMany rs) ps a h =
+    like-given ps h (l .output) (forEach (reportedIn (ps .spots)) rs) _ (countEach (reportedIn (ps .spots)) rs) _ (each-fit (ps .spots) h rs)
+    (keyed-each (ps .spots) h rs a)
+    (counts-each (ps .spots) h rs a)
 
 pub like : (l : Lengths) (c : Call) (ps : Plain) → argumentsFit c ≡ true → AllFit (ps .spots) → Like (reply l c ps) (keyReply l c (keyed (ps .spots)))
 unfolding reply keyReply earlyNumber
 like l c ps a h =
-    rw (bad-table (l .table), bad-lent l (kind c)) (like-lengths ps h (tableSized (l .table)) (lent l (kind c)) _ _ (like-own l c ps a h))
+    rw (bad-table (l .table), bad-lent l (kind c), too-many (kind c))
+    (like-early ps h (tableSized (l .table)) (lent l (kind c)) (fewEnough (kind c)) _ _ (like-own l c ps a h))

@@ -14,8 +14,9 @@ use Rattle.octets.specs.Lists.{every, keep}
 use Rattle.octets.proofs.Tests.{and-left, and-right, and-both, every-mem, every-make, keep-in, keep-length, neither}
 use Rattle.octets.proofs.Order.{less-or-not}
 use Rattle.spot.specs.Keys.{key, signed32, unsigned32}
-use Rattle.table.specs.Calls.{Call, format, add, withdraw, report, top, count, check, rebuild, kind, Lengths, argumentsFit}
-use Rattle.demands.specs.Model.{PlainSpot, hasIdentity, placeBefore, ofReport, chosen, fromOnward, insertBy, listed, takenOut, broughtIn, highest, Plain, Reply, refuse, accept, badTable, badLent, full, handOut, ownReply, reply}
+use Rattle.ranges.specs.Ranges.{forEach}
+use Rattle.table.specs.Calls.{Call, format, add, withdraw, report, top, count, check, rebuild, reportMany, kind, Lengths, argumentsFit}
+use Rattle.demands.specs.Model.{PlainSpot, hasIdentity, placeBefore, chosen, reported, reportedIn, insertBy, listed, takenOut, broughtIn, highest, Plain, Reply, refuse, accept, badTable, badLent, tooMany, full, handOut, ownReply, reply}
 use Rattle.demands.specs.Demands.{InOrder}
 use Rattle.demands.proofs.Plain.{toKeySpot, SpotFits, AllFit, before-is, identity-key, out-fit, two-fit}
 
@@ -149,15 +150,16 @@ module _ (P : List PlainSpot → Type 0) (l : Lengths) (ps : Plain) (kept : P (p
     after-call format a = none
     after-call (add place rank track) a = refused-or (full (l .table) place rank (ps .spots)) 4 0 _ (added place rank track a)
     after-call (withdraw place rank) a = withdrawn place rank
-    after-call (report x1 x2 y) a = refused-or (ltb (l .output / 12) (length (fromOnward x1 (chosen (ofReport x1 x2 y) (ps .spots))))) 5 _ _ (λ z. kept)
+    after-call (report x1 x2 y) a = refused-or (ltb (l .output / 12) (length (reported x1 x2 y (ps .spots)))) 5 _ _ (λ z. kept)
     after-call (top x1 x2 k) a = refused-or (ltb (l .output / 12) (length (highest x1 x2 k (ps .spots)))) 5 _ _ (λ z. kept)
     after-call count a = kept
     after-call check a = kept
     after-call rebuild a = kept
+    after-call (reportMany rs) a = refused-or (ltb (l .output / 12) (length (forEach (reportedIn (ps .spots)) rs))) 5 _ _ (λ z. kept)
 
     stays : (c : Call) → argumentsFit c ≡ true → P (reply l c ps .next .spots)
     unfolding reply
-    stays c a = refused-or (badTable (l .table)) 1 0 _ (λ z. refused-or (badLent l (kind c)) 2 0 _ (λ y. after-call c a))
+    stays c a = refused-or (badTable (l .table)) 1 0 _ (λ z. refused-or (badLent l (kind c)) 2 0 _ (λ y. refused-or (tooMany (kind c)) 6 0 _ (λ x. after-call c a)))
 
 -- "It holds spots, no identity twice": every call keeps the list in place order
 pub stays-in-order : (l : Lengths) (c : Call) (ps : Plain) → argumentsFit c ≡ true → AllFit (ps .spots) → InOrder placeBefore (ps .spots) → InOrder placeBefore (reply l c ps .next .spots)
@@ -234,12 +236,12 @@ stays-held l c ps a h =
 pub says-full : (l : Lengths) (place rank : ℤ) (track : ℕ) (ps : Plain) → badTable (l .table) ≡ false → l .table ≤ l .scratch
     → length (ps .spots) ≤ 16 * (l .table / 2048 - 1)
     → (reply l (add place rank track) ps .answer .number ≡ 4) ↔ ((length (ps .spots) ≡ 16 * (l .table / 2048 - 1)) × (listed place rank (ps .spots) ≡ false))
-unfolding reply badLent ownReply full refuse accept
+unfolding reply badLent tooMany ownReply full refuse accept
 says-full l place rank track ps z w h =
     rw (z, le-ltb (l .scratch) (l .table) w) (four (leb (16 * (l .table / 2048 - 1)) (length (ps .spots))) refl (listed place rank (ps .spots)) refl)
   where
     four : (b : Bool) → leb (16 * (l .table / 2048 - 1)) (length (ps .spots)) ≡ b → (there : Bool) → listed place rank (ps .spots) ≡ there
-        → (cond (b && not there) (refuse 4 0 ps) (accept 0 [] (record { spots = broughtIn (record { place = place; rank = rank; track = track }) (ps .spots) })) .answer .number ≡ 4)
+        → (cond (b && not there) (refuse 4 0 ps) (accept 0 [] [] (record { spots = broughtIn (record { place = place; rank = rank; track = track }) (ps .spots) })) .answer .number ≡ 4)
         ↔ ((length (ps .spots) ≡ 16 * (l .table / 2048 - 1)) × (there ≡ false))
     four true e false f = (λ q. (let m = leb-true (16 * (l .table / 2048 - 1)) (length (ps .spots)) e in omega arith, refl), λ q. refl)
     four true e true f = (λ (q : _≡_ {A = ℕ} 0 4). absurd (omega arith), λ q. absurd (true≢false (q .1)))

@@ -1,8 +1,8 @@
--- The marked cases M1 to M8 of the paper and those of rings, of a full table, of lengths and of the ends of 32 bits, as rows of one table: a test that antt
+-- The marked cases M1 to M8 of the paper and those of rings, of many ranges, of a full table, of lengths and of the ends of 32 bits, as rows of one table: a test that antt
 -- computes over all of them, and one law that turns it into the equations. A row asks the model, but for M1's, which is of the table's bytes.
 -- Assumes nothing.
 use mathlib.Core.Path.{_≡_, refl, ap, ap₂, _∙_}
-use mathlib.Core.Bool.{Bool, true, cond}
+use mathlib.Core.Bool.{Bool, true, cond, _&&_}
 use mathlib.Core.List.{List, [], _∷_, _++_}
 use Prim.Native.Nat.{ℕ, zero, suc, _*_, _/_, _<_}
 use native.Mathlib.Omega.{arith}
@@ -11,7 +11,7 @@ use borrow.Author.Tests.{eqb-true, eq-eqb, le-ltb}
 use lib.ListN.{length, getD, replicate, drop}
 use lib.IntN.{ℤ, pos, negsuc}
 use Rattle.octets.specs.Lists.{all, every, sameList}
-use Rattle.octets.proofs.Tests.{all-at, every-at, same-lists}
+use Rattle.octets.proofs.Tests.{and-left, and-right, all-at, every-at, same-lists}
 use Rattle.spot.specs.Keys.{signed32, unsigned32}
 use Rattle.spot.specs.Spots.{fromOn}
 use Rattle.spot.specs.Query.{query, fromOf}
@@ -24,15 +24,19 @@ use Rattle.tree.specs.Walk.{Walk, walked, mapSpots, spots}
 use Rattle.tree.specs.Report.{reportTable}
 use Rattle.tree.specs.Sound.{sound}
 use Rattle.tree.proofs.Fresh.{fresh-sized, fresh-walk, fresh-sound, fresh-levels}
-use Rattle.table.specs.Calls.{Call, format, add, withdraw, report, top, count, check, rebuild, Lengths, argumentsFit}
+use Rattle.ranges.specs.declared.Range.{Range}
+use Rattle.table.specs.Calls.{Call, format, add, withdraw, report, top, count, check, rebuild, reportMany, Lengths, rangeFits, argumentsFit}
 use Rattle.table.specs.Answers.{withOutput, spotsAnswer, outputLeft}
 use Rattle.table.specs.Queries.{walkAnswer, ReportPost}
-use Rattle.demands.specs.Model.{Plain, begunEmpty, eqZ, hasIdentity, placeBefore, topBefore, ofPlaces, ofReport, fromOnward, takenOut, broughtIn, highest, fourBytes, complement, Reply, outputAfter, refuse, accept, badTable, badLent, full, handOut, ownReply, reply}
+use Rattle.demands.specs.Model.{Plain, begunEmpty, eqZ, hasIdentity, placeBefore, topBefore, ofPlaces, ofReport, fromOnward, reported, takenOut, broughtIn, highest, fourBytes, complement, Reply, outputAfter, countsAfter, refuse, accept, badTable, badLent, tooMany, full, handOut, ownReply, reply}
 use Rattle.table.proofs.Answering.{long-enough}
 
--- a table of this many blocks, a read map and a work area as they should be, and an output of this many bytes
+-- a table of this many blocks, a read map and a work area as they should be, an output of this many bytes, and this many counts
+abbrev lensFor : ℕ → ℕ → ℕ → Lengths
+lensFor n blocks bytes = record { table = blocks * 2048; output = bytes; readMap = 512; scratch = blocks * 2048; counts = n }
+
 abbrev lens : ℕ → ℕ → Lengths
-lens blocks bytes = record { table = blocks * 2048; output = bytes; readMap = 512; scratch = blocks * 2048 }
+lens = lensFor 0
 
 -- 9 blocks
 abbrev room : ℕ → Lengths
@@ -47,9 +51,10 @@ pub record Ask : Type 0 where
   pub detail : ℕ
   pub front : List ℕ
 
--- a row: a call, or a table of so many blocks fresh from Format, with its levels and its capacity
+-- a row: a call, one with the counts that it leaves, or a table of so many blocks fresh from Format, with its levels and its capacity
 pub data Row : Type 0 where
   asks : Ask → Row
+  asksEach : Ask → List ℕ → Row
   fresh : ℕ → ℕ → ℕ → Row
 
 after : List Call → Plain → Plain
@@ -60,18 +65,25 @@ after (c ∷ cs) ps = after cs (reply (room 0) c ps .next)
 pub found : Ask → Reply
 found r = reply (r .lent) (r .call) (after (r .before) begunEmpty)
 
--- the output is lent full of 7s
+-- the output and the counts are lent full of 7s
 abbrev pub sevens : Ask → List ℕ
 sevens r = replicate (r .lent .output) 7
 
-right : Row → Bool
-right (asks r) =
+abbrev pub sevensEach : Ask → List ℕ
+sevensEach r = replicate (r .lent .counts) 7
+
+asked : Ask → Bool
+asked r =
     all (
     every argumentsFit (r .call ∷ r .before) ∷
     eqb (found r .answer .number) (r .number) ∷
     eqb (found r .answer .detail) (r .detail) ∷
     sameList (outputAfter (found r) (sevens r)) (r .front ++ drop (length (r .front)) (sevens r)) ∷
     [])
+
+right : Row → Bool
+right (asks r) = asked r
+right (asksEach r left) = asked r && sameList (countsAfter (found r) (sevensEach r)) left
 right (fresh blocks levels held) = all (tableSized (blocks * 2048) ∷ eqb 1 levels ∷ eqb (capacity (blocks * 2048)) held ∷ [])
 
 -- the two ends of 32 bits
@@ -97,6 +109,17 @@ filling (suc n) = add (pos n) (pos n) 1 ∷ filling n
 abbrev corners : List Call
 corners =
     add most most 1 ∷ add least least 2 ∷ add least most 3 ∷ add most least 4 ∷ add (pos 0) (negsuc 0) 5 ∷ add (negsuc 0) (pos 0) 4294967295 ∷ []
+
+abbrev range : ℤ → ℤ → ℤ → Range
+range x1 x2 y = record { x1 = x1; x2 = x2; y = y }
+
+-- two ranges that both have place 100
+abbrev overlapping : Call
+overlapping = reportMany (range (pos 0) (pos 100) (pos 7) ∷ range (pos 100) (pos 240) (pos 7) ∷ [])
+
+-- the range of place 0, n times
+abbrev times : ℕ → Call
+times n = reportMany (replicate n (range (pos 0) (pos 0) least))
 
 -- the rows
 pub rows : List Row
@@ -132,6 +155,42 @@ rows =
           0 ∷ 0 ∷ 0 ∷ 100 ∷ 0 ∷ 0 ∷ 0 ∷ 8 ∷ 0 ∷ 0 ∷ 0 ∷ 4 ∷ [];
     }) ∷
     asks (record { before = row; call = top (pos 101) (negsuc 2) 3; lent = room 24; number = 0; detail = 2; front = 255 ∷ 255 ∷ 255 ∷ 253 ∷ 0 ∷ 0 ∷ 0 ∷ 7 ∷ 0 ∷ 0 ∷ 0 ∷ 3 ∷ 0 ∷ 0 ∷ 0 ∷ 240 ∷ 0 ∷ 0 ∷ 0 ∷ 7 ∷ 0 ∷ 0 ∷ 0 ∷ 2 ∷ [] }) ∷
+    -- many ranges: spots in the order handed in, those of two ranges twice
+    asksEach (record {
+      before = row;
+      call = overlapping;
+      lent = lensFor 2 9 50;
+      number = 0;
+      detail = 4;
+      front =
+          0 ∷ 0 ∷ 0 ∷ 0 ∷ 0 ∷ 0 ∷ 0 ∷ 7 ∷ 0 ∷ 0 ∷ 0 ∷ 1 ∷
+          0 ∷ 0 ∷ 0 ∷ 100 ∷ 0 ∷ 0 ∷ 0 ∷ 8 ∷ 0 ∷ 0 ∷ 0 ∷ 4 ∷
+          0 ∷ 0 ∷ 0 ∷ 100 ∷ 0 ∷ 0 ∷ 0 ∷ 8 ∷ 0 ∷ 0 ∷ 0 ∷ 4 ∷
+          0 ∷ 0 ∷ 0 ∷ 240 ∷ 0 ∷ 0 ∷ 0 ∷ 7 ∷ 0 ∷ 0 ∷ 0 ∷ 2 ∷ [];
+    }) (2 ∷ 2 ∷ []) ∷
+    -- a ring among them, from x1 onward, and a range with no spots
+    asksEach (record {
+      before = row;
+      call = reportMany (range (pos 0) (pos 0) (pos 7) ∷ range (pos 101) (negsuc 2) least ∷ range (pos 1) (pos 99) least ∷ []);
+      lent = lensFor 3 9 36;
+      number = 0;
+      detail = 3;
+      front =
+          0 ∷ 0 ∷ 0 ∷ 0 ∷ 0 ∷ 0 ∷ 0 ∷ 7 ∷ 0 ∷ 0 ∷ 0 ∷ 1 ∷
+          0 ∷ 0 ∷ 0 ∷ 240 ∷ 0 ∷ 0 ∷ 0 ∷ 7 ∷ 0 ∷ 0 ∷ 0 ∷ 2 ∷
+          255 ∷ 255 ∷ 255 ∷ 253 ∷ 0 ∷ 0 ∷ 0 ∷ 7 ∷ 0 ∷ 0 ∷ 0 ∷ 3 ∷ [];
+    }) (1 ∷ 2 ∷ 0 ∷ []) ∷
+    -- no ranges
+    asksEach (record { before = row; call = reportMany []; lent = lensFor 0 9 12; number = 0; detail = 0; front = [] }) [] ∷
+    -- 64 ranges are taken; 65 give 6, also where the output is too short; another number of counts, or a wrong map, gives 2 first, and a wrong table 1
+    asksEach (record { before = []; call = times 64; lent = lensFor 64 9 0; number = 0; detail = 0; front = [] }) (replicate 64 0) ∷
+    asksEach (record { before = two; call = times 65; lent = lensFor 65 9 0; number = 6; detail = 0; front = [] }) (replicate 65 7) ∷
+    asksEach (record { before = two; call = times 65; lent = lensFor 64 9 0; number = 2; detail = 0; front = [] }) (replicate 64 7) ∷
+    asksEach (record { before = two; call = times 1; lent = lensFor 2 9 12; number = 2; detail = 0; front = [] }) (7 ∷ 7 ∷ []) ∷
+    asksEach (record { before = two; call = times 65; lent = record { table = 18432; output = 0; readMap = 511; scratch = 0; counts = 65 }; number = 2; detail = 0; front = [] }) (replicate 65 7) ∷
+    asksEach (record { before = two; call = times 65; lent = lensFor 64 8 0; number = 1; detail = 0; front = [] }) (replicate 64 7) ∷
+    -- 5, with the whole total
+    asksEach (record { before = row; call = overlapping; lent = lensFor 2 9 47; number = 5; detail = 4; front = [] }) (7 ∷ 7 ∷ []) ∷
     -- M6
     asks (record { before = add (pos 0) most 1 ∷ []; call = report (pos 0) (pos 0) most; lent = room 12; number = 0; detail = 1; front = 0 ∷ 0 ∷ 0 ∷ 0 ∷ 127 ∷ 255 ∷ 255 ∷ 255 ∷ 0 ∷ 0 ∷ 0 ∷ 1 ∷ [] }) ∷
     asks (record { before = add (pos 0) most 1 ∷ add (pos 0) least 2 ∷ add (negsuc 0) most 3 ∷ []; call = report (pos 0) (pos 0) least; lent = room 24; number = 0; detail = 2; front = 0 ∷ 0 ∷ 0 ∷ 0 ∷ 128 ∷ 0 ∷ 0 ∷ 0 ∷ 0 ∷ 0 ∷ 0 ∷ 2 ∷ 0 ∷ 0 ∷ 0 ∷ 0 ∷ 127 ∷ 255 ∷ 255 ∷ 255 ∷ 0 ∷ 0 ∷ 0 ∷ 1 ∷ [] }) ∷
@@ -143,25 +202,25 @@ rows =
     -- 8 or 4,097 blocks, or no whole number of them: 1; 9 or 4,096: accepted
     asks (record { before = []; call = format; lent = lens 8 0; number = 1; detail = 0; front = [] }) ∷
     asks (record { before = []; call = check; lent = lens 4097 0; number = 1; detail = 0; front = [] }) ∷
-    asks (record { before = []; call = count; lent = record { table = 18433; output = 0; readMap = 512; scratch = 18433 }; number = 1; detail = 0; front = [] }) ∷
+    asks (record { before = []; call = count; lent = record { table = 18433; output = 0; readMap = 512; scratch = 18433; counts = 0 }; number = 1; detail = 0; front = [] }) ∷
     asks (record { before = []; call = check; lent = lens 9 0; number = 0; detail = 1; front = [] }) ∷
     asks (record { before = []; call = format; lent = lens 4096 0; number = 0; detail = 0; front = [] }) ∷
     -- 2, and 1 before it
-    asks (record { before = two; call = top (pos 0) (pos 240) 1; lent = record { table = 18432; output = 12; readMap = 511; scratch = 0 }; number = 2; detail = 0; front = [] }) ∷
-    asks (record { before = two; call = rebuild; lent = record { table = 18432; output = 0; readMap = 0; scratch = 18431 }; number = 2; detail = 0; front = [] }) ∷
-    asks (record { before = two; call = rebuild; lent = record { table = 18431; output = 0; readMap = 0; scratch = 0 }; number = 1; detail = 0; front = [] }) ∷
-    asks (record { before = two; call = add (pos 0) (pos 8) 3; lent = record { table = 18432; output = 0; readMap = 0; scratch = 18431 }; number = 2; detail = 0; front = [] }) ∷
-    asks (record { before = two; call = withdraw (pos 0) (pos 7); lent = record { table = 18432; output = 0; readMap = 0; scratch = 18431 }; number = 2; detail = 0; front = [] }) ∷
-    asks (record { before = two; call = report (pos 0) (pos 240) (pos 7); lent = record { table = 18432; output = 24; readMap = 513; scratch = 0 }; number = 2; detail = 0; front = [] }) ∷
+    asks (record { before = two; call = top (pos 0) (pos 240) 1; lent = record { table = 18432; output = 12; readMap = 511; scratch = 0; counts = 0 }; number = 2; detail = 0; front = [] }) ∷
+    asks (record { before = two; call = rebuild; lent = record { table = 18432; output = 0; readMap = 0; scratch = 18431; counts = 0 }; number = 2; detail = 0; front = [] }) ∷
+    asks (record { before = two; call = rebuild; lent = record { table = 18431; output = 0; readMap = 0; scratch = 0; counts = 0 }; number = 1; detail = 0; front = [] }) ∷
+    asks (record { before = two; call = add (pos 0) (pos 8) 3; lent = record { table = 18432; output = 0; readMap = 0; scratch = 18431; counts = 0 }; number = 2; detail = 0; front = [] }) ∷
+    asks (record { before = two; call = withdraw (pos 0) (pos 7); lent = record { table = 18432; output = 0; readMap = 0; scratch = 18431; counts = 0 }; number = 2; detail = 0; front = [] }) ∷
+    asks (record { before = two; call = report (pos 0) (pos 240) (pos 7); lent = record { table = 18432; output = 24; readMap = 513; scratch = 0; counts = 0 }; number = 2; detail = 0; front = [] }) ∷
     -- what a call is not lent is of no account to it
-    asks (record { before = two; call = add (pos 0) (pos 8) 3; lent = record { table = 18432; output = 0; readMap = 0; scratch = 18432 }; number = 0; detail = 0; front = [] }) ∷
-    asks (record { before = two; call = withdraw (pos 0) (pos 7); lent = record { table = 18432; output = 0; readMap = 0; scratch = 18432 }; number = 0; detail = 0; front = [] }) ∷
-    asks (record { before = two; call = rebuild; lent = record { table = 18432; output = 0; readMap = 0; scratch = 18432 }; number = 0; detail = 0; front = [] }) ∷
-    asks (record { before = two; call = report (pos 1) (pos 239) (pos 7); lent = record { table = 18432; output = 0; readMap = 512; scratch = 0 }; number = 0; detail = 0; front = [] }) ∷
-    asks (record { before = two; call = top (pos 0) (pos 240) 0; lent = record { table = 18432; output = 0; readMap = 512; scratch = 0 }; number = 0; detail = 0; front = [] }) ∷
-    asks (record { before = two; call = format; lent = record { table = 18432; output = 0; readMap = 0; scratch = 0 }; number = 0; detail = 0; front = [] }) ∷
-    asks (record { before = two; call = count; lent = record { table = 18432; output = 0; readMap = 0; scratch = 0 }; number = 0; detail = 2; front = [] }) ∷
-    asks (record { before = two; call = check; lent = record { table = 18432; output = 0; readMap = 0; scratch = 0 }; number = 0; detail = 1; front = [] }) ∷
+    asks (record { before = two; call = add (pos 0) (pos 8) 3; lent = record { table = 18432; output = 0; readMap = 0; scratch = 18432; counts = 0 }; number = 0; detail = 0; front = [] }) ∷
+    asks (record { before = two; call = withdraw (pos 0) (pos 7); lent = record { table = 18432; output = 0; readMap = 0; scratch = 18432; counts = 0 }; number = 0; detail = 0; front = [] }) ∷
+    asks (record { before = two; call = rebuild; lent = record { table = 18432; output = 0; readMap = 0; scratch = 18432; counts = 0 }; number = 0; detail = 0; front = [] }) ∷
+    asks (record { before = two; call = report (pos 1) (pos 239) (pos 7); lent = record { table = 18432; output = 0; readMap = 512; scratch = 0; counts = 0 }; number = 0; detail = 0; front = [] }) ∷
+    asks (record { before = two; call = top (pos 0) (pos 240) 0; lent = record { table = 18432; output = 0; readMap = 512; scratch = 0; counts = 0 }; number = 0; detail = 0; front = [] }) ∷
+    asks (record { before = two; call = format; lent = record { table = 18432; output = 0; readMap = 0; scratch = 0; counts = 0 }; number = 0; detail = 0; front = [] }) ∷
+    asks (record { before = two; call = count; lent = record { table = 18432; output = 0; readMap = 0; scratch = 0; counts = 0 }; number = 0; detail = 2; front = [] }) ∷
+    asks (record { before = two; call = check; lent = record { table = 18432; output = 0; readMap = 0; scratch = 0; counts = 0 }; number = 0; detail = 1; front = [] }) ∷
     -- 128 spots in 9 blocks: "a new identity gives 4, a present one is replaced. After one withdrawal a new one is accepted."
     asks (record { before = filling 128; call = count; lent = room 0; number = 0; detail = 128; front = [] }) ∷
     asks (record { before = filling 128; call = add (pos 5) (pos 6) 9; lent = room 0; number = 4; detail = 0; front = [] }) ∷
@@ -221,6 +280,11 @@ pub record AskSays (r : Ask) : Type 0 where
   pub detail : found r .answer .detail ≡ r .detail
   pub output : outputAfter (found r) (sevens r) ≡ r .front ++ drop (length (r .front)) (sevens r)
 
+-- and of the counts
+pub record EachSays (r : Ask) (left : List ℕ) : Type 0 where
+  pub ask : AskSays r
+  pub counts : countsAfter (found r) (sevensEach r) ≡ left
+
 -- of a fresh table. Any report, lent a map as it should be: accepted, with no spot, and the output as it was.
 pub record FreshSays (blocks levels held : ℕ) : Type 0 where
   pub isSound : sound (formatted (blocks * 2048)) ≡ true
@@ -232,6 +296,7 @@ pub record FreshSays (blocks levels held : ℕ) : Type 0 where
 
 abbrev pub Says : Row → Type 0
 Says (asks r) = AskSays r
+Says (asksEach r left) = EachSays r left
 Says (fresh blocks levels held) = FreshSays blocks levels held
 
 fresh-report : (n : ℕ) → tableSized n ≡ true → (x1 x2 y : ℤ) → reportTable (formatted n) x1 x2 y ≡ walked [] (1 ∷ [])
@@ -245,15 +310,22 @@ unfolding outputLeft walkAnswer spotsAnswer
 report-none n z x1 x2 y out map r out′ map′ m p =
     let e : r ≡ answer 0 0 =
     p .answered ∙
-    long-enough (withOutput (formatted n) out map) (report x1 x2 y) _ (ap tableSized (fresh-sized n z) ∙ z) (eq-eqb (length map) 512 m) ∙
+    long-enough (withOutput (formatted n) out map) (report x1 x2 y) _ (ap tableSized (fresh-sized n z) ∙ z) (eq-eqb (length map) 512 m) refl ∙
     ap (walkAnswer (length out)) (fresh-report n z x1 x2 y) ∙
     ap (λ (b : Bool). answer (cond b 5 0) 0) (le-ltb (length out / 12) 0 (omega arith)) in
     (e, p .output ∙ ap₂ (λ (a : Answer) (w : Walk). outputLeft (a .number) (spots w) out) e (fresh-report n z x1 x2 y))
 
+ask-says : (r : Ask) → asked r ≡ true → AskSays r
+unfolding asked
+ask-says r t =
+    record { fit = all-at _ t 0; number = eqb-true _ _ (all-at _ t 1); detail = eqb-true _ _ (all-at _ t 2); output = same-lists _ _ (all-at _ t 3) }
+
 says : (r : Row) → right r ≡ true → Says r
 unfolding right
-says (asks r) t =
-    record { fit = all-at _ t 0; number = eqb-true _ _ (all-at _ t 1); detail = eqb-true _ _ (all-at _ t 2); output = same-lists _ _ (all-at _ t 3) }
+says (asks r) t = ask-says r t
+says (asksEach r left) t =
+    let counts = sameList (countsAfter (found r) (sevensEach r)) left in
+    record { ask = ask-says r (and-left (asked r) counts t); counts = same-lists _ _ (and-right (asked r) counts t) }
 says (fresh blocks levels held) t =
     let z : tableSized (blocks * 2048) ≡ true = all-at _ t 0 in
     record {
@@ -268,7 +340,7 @@ pub some-row : Row
 some-row = asks (record { before = []; call = count; lent = room 0; number = 0; detail = 0; front = [] })
 
 all-right : every right rows ≡ true
-unfolding all right rows found after filling sizedFor signed32 unsigned32 argumentsFit eqZ hasIdentity placeBefore topBefore ofPlaces ofReport fromOnward takenOut broughtIn highest fourBytes complement outputAfter refuse accept badTable badLent full handOut ownReply reply
+unfolding all asked right rows found after filling sizedFor signed32 unsigned32 rangeFits argumentsFit eqZ hasIdentity placeBefore topBefore ofPlaces ofReport fromOnward reported takenOut broughtIn highest fourBytes complement outputAfter countsAfter refuse accept badTable badLent tooMany full handOut ownReply reply
 all-right = refl
 
 -- every row of the table says what the definitions give

@@ -17,9 +17,11 @@ use Rattle.spot.specs.Query.{query, topQuery}
 use Rattle.block.specs.declared.Answer.{Answer}
 use Rattle.tree.specs.Lookup.{live}
 use Rattle.tree.specs.Sound.{sound}
-use Rattle.table.specs.Calls.{Call, add, withdraw, report, top, isQuery, argumentsFit}
+use Rattle.ranges.specs.Ranges.{forEach, countEach}
+use Rattle.ranges.specs.declared.Range.{Range}
+use Rattle.table.specs.Calls.{Call, add, withdraw, report, top, reportMany, isQuery, isCounting, argumentsFit}
 use Rattle.table.specs.Answers.{lengths, earlyNumber, spotsAnswer}
-use Rattle.table.specs.Queries.{HandsOut, ReportPost, TopPost}
+use Rattle.table.specs.Queries.{HandsOut, HandsOutEach, ReportPost, ManyPost, TopPost}
 use Rattle.table.specs.Updates.{AddPost, WithdrawPost}
 use Rattle.demands.specs.Model.{PlainSpot, hasIdentity, placeBefore, topBefore, asBytes}
 use Rattle.demands.specs.History.{Event, MetBy, SecondTable, SameOnSecond}
@@ -27,13 +29,13 @@ use Rattle.demands.specs.TopMarks.{MarksFew}
 
 -- ---- demand 1
 
--- the numbers of a refusal
+-- the numbers of a refusal: "6 and every later number join demand 1's five"
 abbrev pub refusals : List ℕ
-refusals = 1 ∷ 2 ∷ 3 ∷ 4 ∷ 5 ∷ []
+refusals = 1 ∷ 2 ∷ 3 ∷ 4 ∷ 5 ∷ 6 ∷ []
 
 -- a call c, turned down at the table t
 pub record TurnedDown (c : Call) (t : List ℕ) (e : Event) : Type 0 where
-  -- "One that is turned down returns one of five numbers"
+  -- "One that is turned down returns one of five numbers", or of those that joined them
   pub number : has (e .answer .number) refusals ≡ true
   -- "detail 0", but for 5
   pub detail : (e .answer .number ≡ 5 → ⊥) → e .answer .detail ≡ 0
@@ -41,11 +43,13 @@ pub record TurnedDown (c : Call) (t : List ℕ) (e : Event) : Type 0 where
   pub table : e .table′ ≡ t
   pub output : isQuery c ≡ true → e .output′ ≡ e .output
   pub readMap : isQuery c ≡ true → e .readMap′ ≡ e .readMap
+  pub counts : isCounting c ≡ true → e .counts′ ≡ e .counts
 
 -- "On an unsound table a call that isn't refused still hands out only spots of its range from blocks marked read"
 pub record OnlyMarked (c : Call) (t : List ℕ) (e : Event) : Type 0 where
   pub reports : (x1 x2 y : ℤ) → c ≡ report x1 x2 y → HandsOut (query x1 x2 y) t (e .output) (e .answer) (e .output′) (e .readMap′)
   pub tops : (x1 x2 : ℤ) (k : ℕ) → c ≡ top x1 x2 k → HandsOut (topQuery x1 x2 0) t (e .output) (e .answer) (e .output′) (e .readMap′)
+  pub manys : (rs : List Range) → c ≡ reportMany rs → HandsOutEach rs t (e .output) (e .answer) (e .counts′) (e .output′) (e .readMap′)
 
 -- what is claimed of a call that ended
 pub record AnyBytes (c : Call) (t : List ℕ) (e : Event) : Type 0 where
@@ -112,6 +116,11 @@ pub record HandedOut (given : List PlainSpot) (out : List ℕ) (r : Answer) (out
   pub output : r .number ≡ 0 → out′ ≡ asBytes given ++ drop (12 * length given) out
   pub refused : (r .number ≡ 0 → ⊥) → out′ ≡ out
 
+-- what is left of the counts, where these are the spots of each range: "one a range", "as the single reports give them"
+pub record CountedOut (given : Range → List PlainSpot) (rs : List Range) (counts : List ℕ) (r : Answer) (counts′ : List ℕ) : Type 0 where
+  pub counted : r .number ≡ 0 → counts′ ≡ countEach given rs
+  pub refused : (r .number ≡ 0 → ⊥) → counts′ ≡ counts
+
 -- "Capacity is 16 spots for each block after block 0": so many are live
 pub record AtCapacity (t : List ℕ) : Type 0 where
   pub spots : List PlainSpot
@@ -135,32 +144,38 @@ pub record WithdrawnFrom (place rank : ℤ) (t : List ℕ) (r : Answer) (t′ : 
   pub staysSound : sound t′ ≡ true
 
 -- a sound table, arguments within their 32 bits, and lengths that are not refused
-pub record OnSound (c : Call) (t out map w : List ℕ) : Type 0 where
+pub record OnSound (c : Call) (t out map w counts : List ℕ) : Type 0 where
   pub table : sound t ≡ true
   pub arguments : argumentsFit c ≡ true
-  pub lent : earlyNumber (lengths t out map w) c ≡ 0
+  pub lent : earlyNumber (lengths t out map w counts) c ≡ 0
 
 -- Demand 2: "On every sound table, addition, withdrawal, report and top k do what the paper's four definitions say of the live spots. A report holds each
 -- live spot of its range once, and nothing else. The paper's search has no upper limit of rank, and since no tour uses one, none shall be added."
 pub record Demand2 : Type 0 where
-  pub adds : (place rank : ℤ) (track : ℕ) (t w : List ℕ) (r : Answer) (t′ w′ : List ℕ) → OnSound (add place rank track) t [] [] w
+  pub adds : (place rank : ℤ) (track : ℕ) (t w : List ℕ) (r : Answer) (t′ w′ : List ℕ) → OnSound (add place rank track) t [] [] w []
       → AddPost place rank track t w r t′ w′
       → AddedTo place rank track t r t′
-  pub withdraws : (place rank : ℤ) (t w : List ℕ) (r : Answer) (t′ w′ : List ℕ) → OnSound (withdraw place rank) t [] [] w
+  pub withdraws : (place rank : ℤ) (t w : List ℕ) (r : Answer) (t′ w′ : List ℕ) → OnSound (withdraw place rank) t [] [] w []
       → WithdrawPost place rank t w r t′ w′
       → WithdrawnFrom place rank t r t′
-  pub reports : (x1 x2 y : ℤ) (t out map : List ℕ) (r : Answer) (out′ map′ : List ℕ) → OnSound (report x1 x2 y) t out map []
+  pub reports : (x1 x2 y : ℤ) (t out map : List ℕ) (r : Answer) (out′ map′ : List ℕ) → OnSound (report x1 x2 y) t out map [] []
       → ReportPost x1 x2 y t out map r out′ map′
       → (given : List PlainSpot) × ReportOf x1 x2 y t given × HandedOut given out r out′
-  pub tops : (x1 x2 : ℤ) (k : ℕ) (t out map : List ℕ) (r : Answer) (out′ map′ : List ℕ) → OnSound (top x1 x2 k) t out map []
+  pub tops : (x1 x2 : ℤ) (k : ℕ) (t out map : List ℕ) (r : Answer) (out′ map′ : List ℕ) → OnSound (top x1 x2 k) t out map [] []
       → TopPost x1 x2 k t out map r out′ map′
       → (given : List PlainSpot) × TopOf x1 x2 k t given × HandedOut given out r out′
+  -- request 2026-01: each range has the spots of its single report
+  pub manys : (rs : List Range) (t counts out map : List ℕ) (r : Answer) (counts′ out′ map′ : List ℕ) → OnSound (reportMany rs) t out map [] counts
+      → ManyPost rs t counts out map r counts′ out′ map′
+      → (given : Range → List PlainSpot) × ((x : Range) → List·Memᴰ x rs → ReportOf (x .x1) (x .x2) (x .y) t (given x)) ×
+      HandedOut (forEach given rs) out r out′ ×
+      CountedOut given rs counts r counts′
 
 -- ---- request 2026-09
 
 -- "on any sound table", so also on one that no history leaves: here y is the rank of the last spot of the list that the paper's definition of Top settles
 pub record LittleReading : Type 0 where
-  pub marks : (x1 x2 : ℤ) (k : ℕ) (t out map : List ℕ) (r : Answer) (out′ map′ : List ℕ) → OnSound (top x1 x2 k) t out map []
+  pub marks : (x1 x2 : ℤ) (k : ℕ) (t out map : List ℕ) (r : Answer) (out′ map′ : List ℕ) → OnSound (top x1 x2 k) t out map [] []
       → TopPost x1 x2 k t out map r out′ map′
       → r .number ≡ 0
       → (given : List PlainSpot)
@@ -169,4 +184,4 @@ pub record LittleReading : Type 0 where
   -- "Top's answer and marks follow the second-table rule"
   pub second : (x1 x2 : ℤ) (k : ℕ) (t u : List ℕ) (e f : Event) → sound t ≡ true → MetBy (top x1 x2 k) t e → e .answer .number ≡ 0
       → SecondTable (top x1 x2 k) t e u f
-      → SameOnSecond e f
+      → SameOnSecond (top x1 x2 k) e f

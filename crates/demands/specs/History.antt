@@ -4,7 +4,7 @@ use mathlib.Core.Path.{_≡_}
 use mathlib.Core.Logic.{_⊎_, _↔_}
 use Prim.Native.Nat.{ℕ, _+_, _*_, _/_, _-_, _≤_, _<_}
 use mathlib.Core.Bool.{true, false}
-use mathlib.Core.List.{List, [], _∷_}
+use mathlib.Core.List.{List, [], _∷_, List·Memᴰ}
 use lib.ListN.{length}
 use lib.IntN.{ℤ}
 use Rattle.octets.specs.Bitmap.{bit}
@@ -15,24 +15,27 @@ use Rattle.block.specs.Fresh.{formatted}
 use Rattle.tree.specs.ReadMap.{ones}
 use Rattle.tree.specs.Sound.{sound}
 use Rattle.tree.specs.Read.{ReadBlock}
-use Rattle.table.specs.Calls.{Call, format, add, withdraw, report, top, count, check, rebuild, kind, mayChange, isQuery, Lengths, argumentsFit}
+use Rattle.ranges.specs.declared.Range.{Range}
+use Rattle.table.specs.Calls.{Call, format, add, withdraw, report, top, count, check, rebuild, reportMany, kind, mayChange, isQuery, isCounting, Lengths, argumentsFit}
 use Rattle.table.specs.Answers.{lengths}
-use Rattle.table.specs.Queries.{ReportPost, TopPost, CountPost, CheckPost}
+use Rattle.table.specs.Queries.{ReportPost, ManyPost, TopPost, CountPost, CheckPost}
 use Rattle.table.specs.Updates.{FormatPost, AddPost, WithdrawPost, RebuildPost}
-use Rattle.demands.specs.Model.{Plain, PlainSpot, begunEmpty, Reply, reply, outputAfter, listed}
+use Rattle.demands.specs.Model.{Plain, PlainSpot, begunEmpty, Reply, reply, outputAfter, countsAfter, listed}
 use Rattle.demands.specs.TopMarks.{MarksFew}
 
 -- a call as it happened: what it was lent beside the table, what it answered, and all that it left. "Outputs, maps and work areas may be of any length
--- and hold anything"; what a call isn't lent is of no account.
+-- and hold anything", and so may counts; what a call isn't lent is of no account.
 pub record Event : Type 0 where
   pub call : Call
   pub output : List ℕ
   pub readMap : List ℕ
   pub scratch : List ℕ
+  pub counts : List ℕ
   pub answer : Answer
   pub output′ : List ℕ
   pub readMap′ : List ℕ
   pub scratch′ : List ℕ
+  pub counts′ : List ℕ
   pub table′ : List ℕ
 
 -- what the call promises of an event on the table t
@@ -45,6 +48,7 @@ Promised (top x1 x2 k) t e = TopPost x1 x2 k t (e .output) (e .readMap) (e .answ
 Promised count t e = CountPost t (e .answer)
 Promised check t e = CheckPost t (e .answer)
 Promised rebuild t e = RebuildPost t (e .scratch) (e .answer) (e .table′) (e .scratch′)
+Promised (reportMany rs) t e = ManyPost rs t (e .counts) (e .output) (e .readMap) (e .answer) (e .counts′) (e .output′) (e .readMap′)
 
 -- the call met its post-condition on the table t; calls that are lent the table to be read leave it as it was
 pub record MetBy (c : Call) (t : List ℕ) (e : Event) : Type 0 where
@@ -56,9 +60,9 @@ abbrev pub History : List ℕ → List Event → Type 0
 History t [] = Unit {0}
 History t (e ∷ es) = (argumentsFit (e .call) ≡ true) × MetBy (e .call) t e × History (e .table′) es
 
--- "the lengths of table, output, read map and work area" of an event on the table t
+-- "the lengths of table, output, read map and work area", and of the counts, of an event on the table t
 abbrev pub lengthsIn : List ℕ → Event → Lengths
-lengthsIn t e = lengths t (e .output) (e .readMap) (e .scratch)
+lengthsIn t e = lengths t (e .output) (e .readMap) (e .scratch) (e .counts)
 
 -- the model's reply to it, and what the model holds afterwards
 abbrev pub replyIn : Call → List ℕ → Plain → Event → Reply
@@ -67,30 +71,33 @@ replyIn c t ps e = reply (lengthsIn t e) c ps
 abbrev pub modelAfter : List ℕ → Plain → Event → Plain
 modelAfter t ps e = replyIn (e .call) t ps e .next
 
--- "On the second table the call has the same arguments and is lent an equal output and map": the same call on a table u of the same length that has the
+-- "On the second table the call has the same arguments and is lent an equal output and map", and equal counts where it takes them: the same call on a table u of the same length that has the
 -- same bytes in every block marked
 pub record SecondTable (c : Call) (t : List ℕ) (e : Event) (u : List ℕ) (f : Event) : Type 0 where
   pub met : MetBy c u f
   pub output : f .output ≡ e .output
   pub readMap : f .readMap ≡ e .readMap
+  pub counts : isCounting c ≡ true → f .counts ≡ e .counts
   pub bytes : length u ≡ length t
   pub marked : (b : ℕ) → bit (e .readMap′) b ≡ true → block u b ≡ block t b
 
--- "equal are number, detail, output and marks"
-pub record SameOnSecond (e f : Event) : Type 0 where
+-- "equal are number, detail, output and marks"; request 2026-01: "counts, spots and marks follow the second-table rule"
+pub record SameOnSecond (c : Call) (e f : Event) : Type 0 where
   pub answer : f .answer ≡ e .answer
   pub output : f .output′ ≡ e .output′
   pub marks : f .readMap′ ≡ e .readMap′
+  pub counts : isCounting c ≡ true → f .counts′ ≡ e .counts′
 
--- what is claimed of the call c at the table t, where the model answers `due` and leaves `left` of the output lent
-pub record Agreed (c : Call) (t : List ℕ) (due : Answer) (left : List ℕ) (e : Event) : Type 0 where
+-- what is claimed of the call c at the table t, where the model answers `due` and leaves `left` of the output lent and `counted` of the counts
+pub record Agreed (c : Call) (t : List ℕ) (due : Answer) (left counted : List ℕ) (e : Event) : Type 0 where
   pub answer : e .answer ≡ due
   pub output : isQuery c ≡ true → e .output′ ≡ left
+  pub counts : isCounting c ≡ true → e .counts′ ≡ counted
   pub staysSound : sound (e .table′) ≡ true
   -- "a Report marks at most 1 + 36h + 9 · (spots reported div 16)"; "Levels are those of the tree as lent to that report"
   pub bounded : (x1 x2 y : ℤ) → c ≡ report x1 x2 y → e .answer .number ≡ 0
       → ones (e .readMap′) ≤ 1 + 36 * (headOf t .levels) + 9 * (e .answer .detail / 16)
-  pub second : isQuery c ≡ true → e .answer .number ≡ 0 → (u : List ℕ) (f : Event) → SecondTable c t e u f → SameOnSecond e f
+  pub second : isQuery c ≡ true → e .answer .number ≡ 0 → (u : List ℕ) (f : Event) → SecondTable c t e u f → SameOnSecond c e f
 
 -- "With scratch enough, "full" comes exactly when the plain list holds 16 spots for each block after the first and the new spot's place and rank are not
 -- among them"
@@ -105,6 +112,12 @@ MarksExactly c t e =
     (x1 x2 y : ℤ) → c ≡ report x1 x2 y → e .answer .number ≡ 0
     → (b : ℕ) → b < 4096 → (bit (e .readMap′) b ≡ true) ↔ ((b ≡ 0) ⊎ ReadBlock t x1 x2 y b)
 
+-- request 2026-01: "The marks are block 0 and the union of the single reports' marks"
+abbrev pub UnionMarked : Call → List ℕ → Event → Type 0
+UnionMarked c t e =
+    (rs : List Range) → c ≡ reportMany rs → e .answer .number ≡ 0
+    → (b : ℕ) → b < 4096 → (bit (e .readMap′) b ≡ true) ↔ ((b ≡ 0) ⊎ ((x : Range) × List·Memᴰ x rs × ReadBlock t (x .x1) (x .x2) (x .y) b))
+
 -- request 2026-09: "Top shall mark no block that Report over the same places from rank y doesn't mark", with y from the spots that the model gives
 abbrev pub TopMarksFew : Call → List ℕ → List PlainSpot → Event → Type 0
 TopMarksFew c t given e = (x1 x2 : ℤ) (k : ℕ) → c ≡ top x1 x2 k → e .answer .number ≡ 0 → MarksFew x1 x2 k given t (e .readMap′)
@@ -114,7 +127,9 @@ abbrev pub AllAgreed : List ℕ → Plain → List Event → Type 0
 AllAgreed t ps [] = Unit {0}
 AllAgreed t ps (e ∷ es) =
     let r = replyIn (e .call) t ps e in
-    Agreed (e .call) t (r .answer) (outputAfter r (e .output)) e × FullExactly (e .call) t ps e × MarksExactly (e .call) t e × TopMarksFew (e .call) t (r .given) e ×
+    Agreed (e .call) t (r .answer) (outputAfter r (e .output)) (countsAfter r (e .counts)) e × FullExactly (e .call) t ps e × MarksExactly (e .call) t e ×
+    UnionMarked (e .call) t e ×
+    TopMarksFew (e .call) t (r .given) e ×
     AllAgreed (e .table′) (modelAfter t ps e) es
 
 -- Demand 3, sentence by sentence:
@@ -132,7 +147,12 @@ AllAgreed t ps (e ∷ es) =
 -- and of request 2026-09:
 --   "Top shall mark no block that Report over the same places from rank y doesn't   `TopMarksFew`: `MarksFew .within`, y = `rankReached` of the spots that the
 --    mark"; "For k = 0 only block 0 is marked"                                      model gives; `MarksFew .none`
---   "Top's answer and marks follow the second-table rule"                           `Agreed .second`, which speaks of both queries
+--   "Top's answer and marks follow the second-table rule"                           `Agreed .second`, which speaks of all queries
+-- and of request 2026-01:
+--   "The counts .. one a range", "the spots .. in the order handed in, as the       `Agreed .counts`, `Agreed .output`: against `reply` of the model
+--    single reports give them"
+--   "The marks are block 0 and the union of the single reports' marks"              `UnionMarked`
+--   "counts, spots and marks follow the second-table rule"                          `Agreed .second`: `SameOnSecond .counts`
 -- "Demand 3 is a single claim about a whole history. The table starts as an accepted Format leaves it, whatever its bytes were"
 abbrev pub Demand3 : Type 0
 Demand3 = (bytes : ℕ) → tableSized bytes ≡ true → (es : List Event) → History (formatted bytes) es → AllAgreed (formatted bytes) begunEmpty es

@@ -1,4 +1,4 @@
--- The plain list, called the model here: spots with their places and ranks as whole numbers, in place order, and the eight calls over them in 01's own words,
+-- The plain list, called the model here: spots with their places and ranks as whole numbers, in place order, and the calls over them in the papers' own words,
 -- fed arguments and lengths alone. It is written apart: of the table's definitions it knows only what a call, its kind, lengths and an answer are.
 -- Assumes nothing.
 use Prim.Native.Nat.{ℕ, suc, _-_, _*_, _/_, _%_}
@@ -9,7 +9,9 @@ use lib.Dec.{ltb, leb, eqb}
 use lib.IntN.{ℤ, pos, negsuc}
 use lib.Signed.{ltZ, leZ}
 use Rattle.block.specs.declared.Answer.{Answer}
-use Rattle.table.specs.Calls.{Call, format, add, withdraw, report, top, count, check, rebuild, Kind, makes, updates, queries, tells, kind, Lengths}
+use Rattle.ranges.specs.declared.Range.{Range}
+use Rattle.ranges.specs.Ranges.{forEach, countEach}
+use Rattle.table.specs.Calls.{Call, format, add, withdraw, report, top, count, check, rebuild, reportMany, Kind, makes, updates, queries, queriesEach, tells, kind, Lengths}
 
 -- "A spot has a place and a rank, and a track number"
 pub record PlainSpot : Type 0 where
@@ -51,6 +53,14 @@ chosen f (s ∷ ss) = cond (f s) (s ∷ chosen f ss) (chosen f ss)
 -- "Report's order is from x1 onward": the spots from x1 up, followed by the others
 unfoldable pub fromOnward : ℤ → List PlainSpot → List PlainSpot
 fromOnward x1 ss = chosen (λ s. leZ x1 (s .place)) ss ++ chosen (λ s. ltZ (s .place) x1) ss
+
+-- the spots of a Report, in its order
+unfoldable pub reported : ℤ → ℤ → ℤ → List PlainSpot → List PlainSpot
+reported x1 x2 y ss = fromOnward x1 (chosen (ofReport x1 x2 y) ss)
+
+-- and those of the single report of a range
+abbrev pub reportedIn : List PlainSpot → Range → List PlainSpot
+reportedIn ss r = reported (r .x1) (r .x2) (r .y) ss
 
 -- a spot put behind the spots that come before it
 abbrev pub insertBy : (PlainSpot → PlainSpot → Bool) → PlainSpot → List PlainSpot → List PlainSpot
@@ -99,56 +109,72 @@ pub record Plain : Type 0 where
 abbrev pub begunEmpty : Plain
 begunEmpty = record { spots = [] }
 
--- what the model answers, hands out, and holds afterwards
+-- what the model answers, hands out (spots, and counts where there is one a range), and holds afterwards
 pub record Reply : Type 0 where
   pub answer : Answer
   pub given : List PlainSpot
+  pub counts : List ℕ
   pub next : Plain
 
 -- "Accepted output is the spots, 12 bytes each as on the card, the rest of the output unchanged"; a refusal hands out none
 unfoldable pub outputAfter : Reply → List ℕ → List ℕ
 outputAfter r out = asBytes (r .given) ++ drop (12 * length (r .given)) out
 
+-- "The counts go to a lent list of 32-bit numbers, one a range"; a call that hands out none leaves the list as lent
+unfoldable pub countsAfter : Reply → List ℕ → List ℕ
+countsAfter r counts = r .counts ++ drop (length (r .counts)) counts
+
 -- "A refused call leaves the list as it was"
 unfoldable pub refuse : ℕ → ℕ → Plain → Reply
-refuse number detail ps = record { answer = record { number = number; detail = detail }; given = []; next = ps }
+refuse number detail ps = record { answer = record { number = number; detail = detail }; given = []; counts = []; next = ps }
 
 -- "An accepted call returns 0"
-unfoldable pub accept : ℕ → List PlainSpot → Plain → Reply
-accept detail given next = record { answer = record { number = 0; detail = detail }; given = given; next = next }
+unfoldable pub accept : ℕ → List PlainSpot → List ℕ → Plain → Reply
+accept detail given counts next = record { answer = record { number = 0; detail = detail }; given = given; counts = counts; next = next }
 
 -- 1: "the table is not a whole number of blocks, or has under 9 or over 4,096"
 unfoldable pub badTable : ℕ → Bool
 badTable bytes = not (eqb (bytes % 2048) 0) || ltb (bytes / 2048) 9 || ltb 4096 (bytes / 2048)
 
--- 2: "the read map isn't 512 bytes, or the work area is shorter than the table", for the calls that are lent them
+-- 2: "the read map isn't 512 bytes, or the work area is shorter than the table", for the calls that are lent them; "one a range (another length gives 2)"
 unfoldable pub badLent : Lengths → Kind → Bool
 badLent l makes = false
 badLent l updates = ltb (l .scratch) (l .table)
 badLent l queries = not (eqb (l .readMap) 512)
+badLent l (queriesEach n) = not (eqb (l .readMap) 512) || not (eqb (l .counts) n)
 badLent l tells = false
+
+-- 6: "if there are more than 64 ranges"
+unfoldable pub tooMany : Kind → Bool
+tooMany makes = false
+tooMany updates = false
+tooMany queries = false
+tooMany (queriesEach n) = ltb 64 n
+tooMany tells = false
 
 -- 4: "the list has 16 spots for each block after block 0 and none of this identity"
 unfoldable pub full : ℕ → ℤ → ℤ → List PlainSpot → Bool
 full bytes place rank ss = leb (16 * (bytes / 2048 - 1)) (length ss) && not (listed place rank ss)
 
--- 5: "more spots than output length div 12", detail the number of spots; else they are handed out
-unfoldable pub handOut : ℕ → List PlainSpot → Plain → Reply
-handOut bytes found ps = cond (ltb (bytes / 12) (length found)) (refuse 5 (length found) ps) (accept (length found) found ps)
+-- 5: "more spots than output length div 12", detail the number of spots; else they are handed out, with their counts
+unfoldable pub handOut : ℕ → List PlainSpot → List ℕ → Plain → Reply
+handOut bytes found counts ps = cond (ltb (bytes / 12) (length found)) (refuse 5 (length found) ps) (accept (length found) found counts ps)
 
--- what each call comes to once its lengths are right
+-- what each call comes to once it is not refused by lengths and arguments alone
 unfoldable pub ownReply : Lengths → Call → Plain → Reply
-ownReply l format ps = accept 0 [] begunEmpty
+ownReply l format ps = accept 0 [] [] begunEmpty
 ownReply l (add place rank track) ps =
     cond (full (l .table) place rank (ps .spots)) (refuse 4 0 ps)
-    (accept 0 [] (record { spots = broughtIn (record { place = place; rank = rank; track = track }) (ps .spots) }))
-ownReply l (withdraw place rank) ps = accept 0 [] (record { spots = takenOut place rank (ps .spots) })
-ownReply l (report x1 x2 y) ps = handOut (l .output) (fromOnward x1 (chosen (ofReport x1 x2 y) (ps .spots))) ps
-ownReply l (top x1 x2 k) ps = handOut (l .output) (highest x1 x2 k (ps .spots)) ps
-ownReply l count ps = accept (length (ps .spots)) [] ps
-ownReply l check ps = accept 1 [] ps
-ownReply l rebuild ps = accept 0 [] ps
+    (accept 0 [] [] (record { spots = broughtIn (record { place = place; rank = rank; track = track }) (ps .spots) }))
+ownReply l (withdraw place rank) ps = accept 0 [] [] (record { spots = takenOut place rank (ps .spots) })
+ownReply l (report x1 x2 y) ps = handOut (l .output) (reported x1 x2 y (ps .spots)) [] ps
+ownReply l (top x1 x2 k) ps = handOut (l .output) (highest x1 x2 k (ps .spots)) [] ps
+ownReply l count ps = accept (length (ps .spots)) [] [] ps
+ownReply l check ps = accept 1 [] [] ps
+ownReply l rebuild ps = accept 0 [] [] ps
+ownReply l (reportMany rs) ps = handOut (l .output) (forEach (reportedIn (ps .spots)) rs) (countEach (reportedIn (ps .spots)) rs) ps
 
--- "Every call: 1 and 2 as the lengths give them; 3 never"; "The order is that of the table"
+-- "Every call: 1 and 2 as the lengths give them; 3 never"; "The order is that of the table"; "It refuses with 6, after 2 and before 3"
 unfoldable pub reply : Lengths → Call → Plain → Reply
-reply l c ps = cond (badTable (l .table)) (refuse 1 0 ps) (cond (badLent l (kind c)) (refuse 2 0 ps) (ownReply l c ps))
+reply l c ps =
+    cond (badTable (l .table)) (refuse 1 0 ps) (cond (badLent l (kind c)) (refuse 2 0 ps) (cond (tooMany (kind c)) (refuse 6 0 ps) (ownReply l c ps)))

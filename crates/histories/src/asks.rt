@@ -49,7 +49,7 @@ fn spot_in_list(list: &[u64; 9568], run: Run, id: u64, track: u64, fine: bool) -
 }
 
 // Compares n spots of an output with the list: each is there with its track and in the range, and they come in the order of a Report or in that of Top's answers.
-fn spots_in_list(
+pub fn spots_in_list(
     output: &[u8; 57408],
     n: usize,
     list: &[u64; 9568],
@@ -75,7 +75,7 @@ fn spots_in_list(
     run
 }
 
-fn call_report(
+pub fn call_report(
     table: &[u8],
     x1: i32,
     x2: i32,

@@ -3,6 +3,7 @@ ghost use Prim.Native.Nat.{_≤_, _<_};
 ghost use lib.ListN.{length};
 
 mod asks;
+mod batches;
 mod kinds;
 mod list;
 
@@ -15,11 +16,27 @@ struct Run {
     digest: u64,
 }
 
+// The same of the calls of many ranges, which are told apart.
+struct Played {
+    run: Run,
+    many: Run,
+}
+
 // A change to be made, and the random number after it.
 struct Change {
     adds: bool,
     id: u64,
     seed: u64,
+}
+
+fn begun(seed: u64) -> Run {
+    Run {
+        seed,
+        calls: 0,
+        refused: 0,
+        wrong: 0,
+        digest: 0,
+    }
 }
 
 fn next(s: u64) -> u64
@@ -135,48 +152,85 @@ fn look_at_times(table: &[u8], list: &[u64; 9568], i: u64, run: Run) -> Run {
     run
 }
 
-fn steps(
+// Many ranges in one call after every 75 steps.
+fn ask_at_times(table: &[u8], scratch: &mut [u8], list: &[u64; 9568], i: u64, run: Run) -> Run {
+    if i % 75 == 74 {
+        return batches::ask(table, scratch, list, run);
+    }
+    run
+}
+
+// A step, and the questions that are due.
+fn turn(
+    table: &mut [u8],
+    scratch: &mut [u8],
+    list: &mut [u64; 9568],
+    capacity: u64,
+    kind: u64,
+    i: u64,
+    played: Played,
+) -> Played
+    requires { ⌜ (0 < capacity) × (capacity ≤ 4784) × (i < 65536) ⌝ }
+{
+    let changed = step(table, scratch, list, capacity, kind, i, played.run);
+    let run = look_at_times(table, list, i, changed);
+    let many = ask_at_times(table, scratch, list, i, played.many);
+    Played { run, many }
+}
+
+fn turns(
     table: &mut [u8],
     scratch: &mut [u8],
     list: &mut [u64; 9568],
     capacity: u64,
     kind: u64,
     n: u64,
-    begun: Run,
-) -> Run
+    begun: Played,
+) -> Played
     requires { ⌜ (0 < capacity) × (capacity ≤ 4784) × (n ≤ 65536) ⌝ }
 {
-    let mut run = begun;
+    let mut played = begun;
     let mut i = 0;
     while i < n {
-        run = step(table, scratch, list, capacity, kind, i, run);
-        run = look_at_times(table, list, i, run);
+        played = turn(table, scratch, list, capacity, kind, i, played);
         i += 1;
     }
-    run
+    played
 }
 
-// All of the table before and after a rebuild.
-fn end(table: &mut [u8], scratch: &mut [u8], list: &[u64; 9568], run: Run) -> Run {
-    let seen = asks::look_at_all(table, list, run);
-    let anew = told(seen, table::rebuild(table, scratch), 0, 0);
-    asks::look_at_all(table, list, anew)
+// All of the table, and many ranges.
+fn see_all(table: &[u8], scratch: &mut [u8], list: &[u64; 9568], played: Played) -> Played {
+    let many = batches::ask(table, scratch, list, played.many);
+    let run = asks::look_at_all(table, list, played.run);
+    Played { run, many }
+}
+
+fn rebuild(table: &mut [u8], scratch: &mut [u8], played: Played) -> Played {
+    let run = told(played.run, table::rebuild(table, scratch), 0, 0);
+    let many = played.many;
+    Played { run, many }
+}
+
+// All before and after a rebuild.
+fn end(table: &mut [u8], scratch: &mut [u8], list: &[u64; 9568], played: Played) -> Played {
+    let seen = see_all(table, scratch, list, played);
+    let anew = rebuild(table, scratch, seen);
+    see_all(table, scratch, list, anew)
+}
+
+fn format(table: &mut [u8], capacity: u64, kind: u64) -> Played {
+    let run = told(begun(kind), table::format(table), 0, 0);
+    let many = begun(std::num::wrapping_add_u64(capacity, kind));
+    Played { run, many }
 }
 
 // A history of n steps on a table just formatted.
-fn play(table: &mut [u8], scratch: &mut [u8], capacity: u64, kind: u64, n: u64) -> Run
+fn play(table: &mut [u8], scratch: &mut [u8], capacity: u64, kind: u64, n: u64) -> Played
     requires { ⌜ (0 < capacity) × (capacity ≤ 4784) × (n ≤ 65536) ⌝ }
 {
     let mut list = [list::NONE; 9568];
-    let begun = Run {
-        seed: kind,
-        calls: 0,
-        refused: 0,
-        wrong: 0,
-        digest: 0,
-    };
-    let formatted = told(begun, table::format(table), 0, 0);
-    let played = steps(table, scratch, &mut list, capacity, kind, n, formatted);
+    let fresh = format(table, capacity, kind);
+    let played = turns(table, scratch, &mut list, capacity, kind, n, fresh);
     end(table, scratch, &list, played)
 }
 
@@ -185,14 +239,20 @@ fn show(name: &[u8], n: u64) {
     io::print_decimal(1, n);
 }
 
-fn show_run(capacity: u64, kind: u64, run: Run) {
-    show(b"capacity ", capacity);
-    show(b", history ", kind);
+fn show_run(run: Run) {
     show(b": calls ", run.calls);
     show(b", refused ", run.refused);
     show(b", wrong ", run.wrong);
     show(b", digest ", run.digest);
     io::write_all(1, b"\n");
+}
+
+fn show_played(capacity: u64, kind: u64, played: Played) {
+    show(b"capacity ", capacity);
+    show(b", history ", kind);
+    show_run(played.run);
+    io::write_all(1, b"  many ranges");
+    show_run(played.many);
 }
 
 // Each kind of history on a table of so many bytes.
@@ -202,8 +262,8 @@ fn each_kind(memory: &mut [u8], scratch: &mut [u8], bytes: usize, n: u64)
     let capacity = (bytes / 2048 - 1) as u64 * 16;
     let mut kind = 0;
     while kind < 5 {
-        let run = play(&mut memory[0..bytes], scratch, capacity, kind, n);
-        show_run(capacity, kind, run);
+        let played = play(&mut memory[0..bytes], scratch, capacity, kind, n);
+        show_played(capacity, kind, played);
         kind += 1;
     }
 }

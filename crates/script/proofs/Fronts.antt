@@ -1,4 +1,4 @@
--- The first n bytes of a list, all of them where it has fewer: lent, left, and put back.
+-- The first n of a list, all of them where it has fewer: lent, left, and put back.
 -- Assumes nothing.
 use mathlib.Core.Path.{_≡_, refl, sym, ap, _∙_}
 use mathlib.Core.List.{List, [], _∷_, _++_}
@@ -8,15 +8,16 @@ use native.Mathlib.Omega.{arith}
 use lib.ListN.{length, take, drop, length-append, length-take, length-drop, take-append-drop}
 use lib.Seq.{length-take-le, take-at, drop-at}
 
-take-min : (n : ℕ) (s : List ℕ) → take (min n (length s)) s ≡ take n s
-take-min zero s = ap (λ (k : ℕ). take k s) (zero-min (length s))
-take-min (suc n) [] = ap (λ (k : ℕ). take {A = ℕ} k []) (min-zero (suc n))
-take-min (suc n) (x ∷ s) = ap (λ (k : ℕ). take k (x ∷ s)) (suc-min-suc n (length s)) ∙ ap (λ (l : List ℕ). x ∷ l) (take-min n s)
+module _ {A : Type 0} where
+  pub take-min : (n : ℕ) (s : List A) → take (min n (length s)) s ≡ take n s
+  take-min zero s = ap (λ (k : ℕ). take k s) (zero-min (length s))
+  take-min (suc n) [] = ap (λ (k : ℕ). take {A = A} k []) (min-zero (suc n))
+  take-min (suc n) (x ∷ s) = ap (λ (k : ℕ). take k (x ∷ s)) (suc-min-suc n (length s)) ∙ ap (λ (l : List A). x ∷ l) (take-min n s)
 
-drop-min : (n : ℕ) (s : List ℕ) → drop (min n (length s)) s ≡ drop n s
-drop-min zero s = ap (λ (k : ℕ). drop k s) (zero-min (length s))
-drop-min (suc n) [] = ap (λ (k : ℕ). drop {A = ℕ} k []) (min-zero (suc n))
-drop-min (suc n) (x ∷ s) = ap (λ (k : ℕ). drop k (x ∷ s)) (suc-min-suc n (length s)) ∙ drop-min n s
+  pub drop-min : (n : ℕ) (s : List A) → drop (min n (length s)) s ≡ drop n s
+  drop-min zero s = ap (λ (k : ℕ). drop k s) (zero-min (length s))
+  drop-min (suc n) [] = ap (λ (k : ℕ). drop {A = A} k []) (min-zero (suc n))
+  drop-min (suc n) (x ∷ s) = ap (λ (k : ℕ). drop k (x ∷ s)) (suc-min-suc n (length s)) ∙ drop-min n s
 
 -- what lies behind them
 pub drop-lent : (n : ℕ) (s : List ℕ) → drop (length (take n s)) s ≡ drop n s

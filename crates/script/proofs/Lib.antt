@@ -1,5 +1,6 @@
-pub mod Cases
 pub mod Fronts
+pub mod Ranged
+pub mod Cases
 pub mod Turns
 pub mod Logs
 pub mod Whole

@@ -7,8 +7,8 @@ use Prim.Native.Nat.{ℕ, _+_, _*_}
 use lib.ListN.{length, take, drop}
 use Rattle.block.specs.declared.Answer.{Answer}
 use Rattle.tree.specs.Sound.{sound}
-use Rattle.table.specs.Calls.{Call, format, add, withdraw, report, top, count, check, rebuild, kind, isQuery, Lengths}
-use Rattle.demands.specs.Model.{PlainSpot, Plain, Reply, asBytes, outputAfter, refuse, accept, badTable, badLent, full, ownReply, reply, fourBytes}
+use Rattle.table.specs.Calls.{Call, format, add, withdraw, report, top, count, check, rebuild, reportMany, kind, isQuery, Lengths}
+use Rattle.demands.specs.Model.{PlainSpot, Plain, Reply, asBytes, outputAfter, refuse, accept, badTable, badLent, tooMany, full, ownReply, reply, fourBytes}
 use Rattle.demands.specs.History.{Event, History, AllAgreed, replyIn, modelAfter}
 use Rattle.script.specs.Script.{Step, lentTo, logAfter}
 use Rattle.script.specs.Run.{entry, RunState, heldAfter, passed, outputOf, InTurn, AllInTurn, entries}
@@ -31,11 +31,13 @@ own-none l (top x1 x2 k) ps q = absurd (true≢false q)
 own-none l count ps q = refl
 own-none l check ps q = refl
 own-none l rebuild ps q = refl
+own-none l (reportMany rs) ps q = absurd (true≢false q)
 
 hands-none : (l : Lengths) (c : Call) (ps : Plain) → isQuery c ≡ false → reply l c ps .given ≡ []
 unfolding reply
 hands-none l c ps q =
-    unless-refused (badTable (l .table)) 1 0 ps _ (unless-refused (badLent l (kind c)) 2 0 ps (ownReply l c ps) (own-none l c ps q))
+    unless-refused (badTable (l .table)) 1 0 ps _
+    (unless-refused (badLent l (kind c)) 2 0 ps _ (unless-refused (tooMany (kind c)) 6 0 ps (ownReply l c ps) (own-none l c ps q)))
 
 output-stays : (r : Reply) (out : List ℕ) → r .given ≡ [] → outputAfter r out ≡ out
 unfolding outputAfter
@@ -54,7 +56,7 @@ module _ (l : Lengths) where
   pub ends-sound : (h : RunState) (ps : Plain) (es : List Event) → sound (h .table) ≡ true → AllAgreed (h .table) ps es
       → sound (heldAfter (l .output) h es .table) ≡ true
   ends-sound h ps [] s g = s
-  ends-sound h ps (e ∷ es) s g = ends-sound (passed (l .output) h e) (modelAfter (h .table) ps e) es (g .0 .staysSound) (g .4)
+  ends-sound h ps (e ∷ es) s g = ends-sound (passed (l .output) h e) (modelAfter (h .table) ps e) es (g .0 .staysSound) (g .5)
 
   module _ (h : RunState) (ps : Plain) (c : Step) (e : Event) (i : InTurn l h c e) where
     reply-is : replyIn (e .call) (h .table) ps e ≡ reply (lentTo c l) (c .call) ps
@@ -100,5 +102,5 @@ module _ (l : Lengths) where
       let rest : RunState = passed (l .output) h e in
       append-assoc (entry (outputOf (l .output) h) e) (entries (l .output) rest es) (heldAfter (l .output) rest es .log)
       ∙ ap₂ (λ (x y : List ℕ). x ++ y) (entry-due h ps c e (a .0) (g .0 .answer) (output-left h ps c e (a .0) (g .0 .output)))
-      (as-model rest (modelAfter (h .table) ps e) cs es (a .1) (g .4)
+      (as-model rest (modelAfter (h .table) ps e) cs es (a .1) (g .5)
       ∙ ap (λ (r : Reply). logAfter l cs (r .next) (drop room (h .log))) (reply-is h ps c e (a .0)))

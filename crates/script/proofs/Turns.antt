@@ -14,11 +14,12 @@ use Rattle.octets.proofs.Bytes.{put-eq, put-length, drop-put-be, length-bytesOf
 use Rattle.octets.proofs.Order.{stride}
 use Rattle.octets.proofs.Records.{records-more}
 use Rattle.block.specs.declared.Answer.{Answer}
+use Rattle.ranges.specs.declared.Range.{Range}
 use Rattle.table.specs.Calls.{Call, Lengths}
 use Rattle.demands.specs.Model.{fourBytes}
 use Rattle.demands.specs.History.{Event}
 use Rattle.demands.proofs.Orders.{four-bytes}
-use Rattle.script.specs.Script.{Step, callAt, stepAt, stepsOf, lentTo}
+use Rattle.script.specs.Script.{Step, allRanges, callAt, stepAt, stepsOf, lentTo}
 use Rattle.script.specs.Run.{Called, eventOf, eventIn, StepCalled, entry, Turned, RunState, runState, outputOf, passed, heldAfter, InTurn, AllInTurn, entries, Run, runLengths}
 use Rattle.script.proofs.Fronts.{put-back, front-lent, front-left, rest-left}
 
@@ -45,11 +46,11 @@ one-entry room h (x ∷ es) e =
     ∙ sym (append-assoc (entry (outputOf room h) x) (entries room (passed room h x) es) (entry (outputOf room after) e))
 
 -- one step more
-one-step : (script : List ℕ) (i : ℕ) → stepsOf script i ++ (stepAt script (28 * i) ∷ []) ≡ stepsOf script (i + 1)
-one-step script i =
-    ap (λ (n : ℕ). stepsOf script i ++ (stepAt script n ∷ [])) (sym (zero-add (28 * i)))
-    ∙ sym (records-more (stepAt script) 28 i 0)
-    ∙ ap (stepsOf script) (sym (add-one i))
+one-step : (rs : List Range) (script : List ℕ) (i : ℕ) → stepsOf rs script i ++ (stepAt rs script (32 * i) ∷ []) ≡ stepsOf rs script (i + 1)
+one-step rs script i =
+    ap (λ (n : ℕ). stepsOf rs script i ++ (stepAt rs script n ∷ [])) (sym (zero-add (32 * i)))
+    ∙ sym (records-more (stepAt rs script) 32 i 0)
+    ∙ ap (stepsOf rs script) (sym (add-one i))
 
 -- ---- parts of lists
 
@@ -86,53 +87,64 @@ module _ (p o : List ℕ) (h : 8 ≤ length p) where
   put-long : length o ≡ length (midOf 8 (length p - 8) p) → 8 ≤ length (putMid 8 (length p - 8) p o)
   put-long e = omega (arith, same-len-mid 8 (length p - 8) p o e)
 
-same-event : (c : Call) (r : Answer) (t′ w m out w′ m′ out′ a b d a′ b′ d′ : List ℕ) → w ≡ a → m ≡ b → out ≡ d → w′ ≡ a′ → m′ ≡ b′ → out′ ≡ d′
-    → eventOf c w m out r t′ w′ m′ out′ ≡ eventOf c a b d r t′ a′ b′ d′
-same-event c r t′ w m out w′ m′ out′ a b d a′ b′ d′ ea eb ed ea′ eb′ ed′ = rw (ea, eb, ed, ea′, eb′, ed′)
+same-event : (c : Call) (r : Answer) (t′ w m v out w′ m′ v′ out′ a b d e a′ b′ d′ e′ : List ℕ) → w ≡ a → m ≡ b → v ≡ d → out ≡ e → w′ ≡ a′ → m′ ≡ b′
+    → v′ ≡ d′
+    → out′ ≡ e′
+    → eventOf c w m v out r t′ w′ m′ v′ out′ ≡ eventOf c a b d e r t′ a′ b′ d′ e′
+same-event c r t′ w m v out w′ m′ v′ out′ a b d e a′ b′ d′ e′ ea eb ed ee ea′ eb′ ed′ ee′ = rw (ea, eb, ed, ee, ea′, eb′, ed′, ee′)
 
--- one step: the call, lent the first i bytes of the scratch, j of the read map and k of the output
-pub lent : (s : List ℕ) (at : ℕ) (t w m out : List ℕ) (r : Answer) (t′ w′ m′ out′ : List ℕ) (i j k : ℕ) → i ≡ min (be 4 s (at + 24)) (length w)
+-- one step: the call, lent the first i bytes of the scratch, j of the read map and k of the output, and the first n counts
+pub lent : (rs : List Range) (s : List ℕ) (at : ℕ) (t w m v out : List ℕ) (r : Answer) (t′ w′ m′ v′ out′ : List ℕ) (i j n k : ℕ)
+    → i ≡ min (be 4 s (at + 24)) (length w)
     → j ≡ min (be 4 s (at + 20)) (length m)
+    → n ≡ min (be 4 s (at + 28)) (length v)
     → k ≡ min (be 4 s (at + 16)) (length out)
     → length w′ ≡ length (take i w)
     → length m′ ≡ length (take j m)
+    → length v′ ≡ length (take n v)
     → length out′ ≡ length (take k out)
-    → Called t (eventOf (callAt s at) (take i w) (take j m) (take k out) r t′ w′ m′ out′)
-    → StepCalled (stepAt s at) t w m out r t′ (w′ ++ drop i w) (m′ ++ drop j m) (out′ ++ drop k out)
+    → Called t (eventOf (callAt rs s at) (take i w) (take j m) (take n v) (take k out) r t′ w′ m′ v′ out′)
+    → StepCalled (stepAt rs s at) t w m v out r t′ (w′ ++ drop i w) (m′ ++ drop j m) (v′ ++ drop n v) (out′ ++ drop k out)
 unfolding stepAt
-lent s at t w m out r t′ w′ m′ out′ i j k ei ej ek nw nm nout c =
+lent rs s at t w m v out r t′ w′ m′ v′ out′ i j n k ei ej en ek nw nm nv nout c =
     let a : ℕ = be 4 s (at + 24) in
     let b : ℕ = be 4 s (at + 20) in
-    let d : ℕ = be 4 s (at + 16) in
+    let d : ℕ = be 4 s (at + 28) in
+    let e : ℕ = be 4 s (at + 16) in
     record {
       called =
           subst (Called t)
-          (same-event (callAt s at) r t′ (take i w) (take j m) (take k out) w′ m′ out′ (take a w) (take b m) (take d out) (take a (w′ ++ drop i w))
+          (same-event (callAt rs s at) r t′ (take i w) (take j m) (take n v) (take k out) w′ m′ v′ out′ (take a w) (take b m) (take d v) (take e out)
+          (take a (w′ ++ drop i w))
           (take b (m′ ++ drop j m))
-          (take d (out′ ++ drop k out))
+          (take d (v′ ++ drop n v))
+          (take e (out′ ++ drop k out))
           (front-lent a i w w′ ei nw)
           (front-lent b j m m′ ej nm)
-          (front-lent d k out out′ ek nout)
+          (front-lent d n v v′ en nv)
+          (front-lent e k out out′ ek nout)
           (sym (front-left a i w w′ ei nw))
           (sym (front-left b j m m′ ej nm))
-          (sym (front-left d k out out′ ek nout)))
+          (sym (front-left d n v v′ en nv))
+          (sym (front-left e k out out′ ek nout)))
           c;
       scratchRest = rest-left a i w w′ ei nw;
       mapRest = rest-left b j m m′ ej nm;
-      outputRest = rest-left d k out out′ ek nout;
+      countsRest = rest-left d n v v′ en nv;
+      outputRest = rest-left e k out out′ ek nout;
     }
 
 -- one turn: the step, on what lies behind the answer's place, and then the answer
-pub turned : (c : Step) (t w m p : List ℕ) (r : Answer) (t′ w′ m′ o u v : List ℕ) → 8 ≤ length p → length o ≡ length (midOf 8 (length p - 8) p)
-    → StepCalled c t w m (midOf 8 (length p - 8) p) r t′ w′ m′ o
+pub turned : (c : Step) (t w m v p : List ℕ) (r : Answer) (t′ w′ m′ v′ o u u′ : List ℕ) → 8 ≤ length p → length o ≡ length (midOf 8 (length p - 8) p)
+    → StepCalled c t w m v (midOf 8 (length p - 8) p) r t′ w′ m′ v′ o
     → u ≡ putBe 4 (putMid 8 (length p - 8) p o) 0 (r .number)
-    → v ≡ putBe 4 u 4 (r .detail)
-    → Turned c t w m p t′ w′ m′ v
-turned c t w m p r t′ w′ m′ o u v h n k eu ev =
+    → u′ ≡ putBe 4 u 4 (r .detail)
+    → Turned c t w m v p t′ w′ m′ v′ u′
+turned c t w m v p r t′ w′ m′ v′ o u u′ h n k eu ev =
     record {
       answer = r;
       output′ = o;
-      lent = subst (λ (x : List ℕ). StepCalled c t w m x r t′ w′ m′ o) (behind p o h) k;
+      lent = subst (λ (x : List ℕ). StepCalled c t w m v x r t′ w′ m′ v′ o) (behind p o h) k;
       written =
           ev ∙ ap (λ (x : List ℕ). putBe 4 x 4 (r .detail)) eu
           ∙ answer-written (putMid 8 (length p - 8) p o) (r .number) (r .detail) (put-long p o h n)
@@ -142,42 +154,44 @@ turned c t w m p r t′ w′ m′ o u v h n k eu ev =
 -- ---- a run
 
 -- a run that has come to the place `at` of the log, with the lengths as they were
-pub record Going (script : List ℕ) (l : Lengths) (h : RunState) (t w m log : List ℕ) (i at : ℕ) : Type 0 where
-  pub run : Run script i l h t w m log
+pub record Going (script g : List ℕ) (l : Lengths) (h : RunState) (t w m v log : List ℕ) (i at : ℕ) : Type 0 where
+  pub run : Run script g i l h t w m v log
   pub place : length (entries (l .output) h (run .events)) ≡ at
   pub table : length t ≡ l .table
   pub scratch : length w ≡ l .scratch
   pub readMap : length m ≡ l .readMap
+  pub counts : length v ≡ l .counts
 
 -- the next part is within the log
 pub part-fits : (part i n at bytes : ℕ) → i < n → at ≡ part * i → part * n ≤ bytes → at + part ≤ bytes
 part-fits part i n at bytes h e l = omega (arith, stride part h)
 
 -- before the first call
-pub start : (script t w m log : List ℕ) (part : ℕ) → Going script (runLengths t w m part) (runState t w m log) t w m log 0 0
-start script t w m log part =
+pub start : (script g t w m v log : List ℕ) (part : ℕ) → Going script g (runLengths t w m v part) (runState t w m v log) t w m v log 0 0
+start script g t w m v log part =
     record {
-      run = record { events = []; inTurn = tt; table = refl; scratch = refl; readMap = refl; log = refl };
+      run = record { events = []; inTurn = tt; table = refl; scratch = refl; readMap = refl; counts = refl; log = refl };
       place = refl;
       table = refl;
       scratch = refl;
       readMap = refl;
+      counts = refl;
     }
 
 -- after the last
-pub ended : (script : List ℕ) (l : Lengths) (h : RunState) (t w m log : List ℕ) (i n at : ℕ) → Going script l h t w m log i at → i ≤ n → n ≤ i
-    → Run script n l h t w m log
-ended script l h t w m log i n at g a b =
+pub ended : (script g : List ℕ) (l : Lengths) (h : RunState) (t w m v log : List ℕ) (i n at : ℕ) → Going script g l h t w m v log i at → i ≤ n → n ≤ i
+    → Run script g n l h t w m v log
+ended script g l h t w m v log i n at going a b =
     let e : i ≡ n = omega arith in
-    subst (λ (k : ℕ). Run script k l h t w m log) e (g .run)
+    subst (λ (k : ℕ). Run script g k l h t w m v log) e (going .run)
 
-same-lengths : (l : Lengths) (a b c d : ℕ) → a ≡ l .table → b ≡ l .output → c ≡ l .readMap → d ≡ l .scratch
-    → _≡_ {A = Lengths} (record { table = a; output = b; readMap = c; scratch = d }) l
-same-lengths l a b c d ea eb ec ed = rw (ea, eb, ec, ed)
+same-lengths : (l : Lengths) (a b c d e : ℕ) → a ≡ l .table → b ≡ l .output → c ≡ l .readMap → d ≡ l .scratch → e ≡ l .counts
+    → _≡_ {A = Lengths} (record { table = a; output = b; readMap = c; scratch = d; counts = e }) l
+same-lengths l a b c d e ea eb ec ed ee = rw (ea, eb, ec, ed, ee)
 
-module _ (script : List ℕ) (l : Lengths) (h : RunState) (t w m log : List ℕ) (i at : ℕ) (g : Going script l h t w m log i at) where
+module _ (script g : List ℕ) (l : Lengths) (h : RunState) (t w m v log : List ℕ) (i at : ℕ) (going : Going script g l h t w m v log i at) where
   es : List Event
-  es = g .run .events
+  es = going .run .events
 
   x : RunState
   x = heldAfter (l .output) h es
@@ -185,22 +199,22 @@ module _ (script : List ℕ) (l : Lengths) (h : RunState) (t w m log : List ℕ)
   -- what lies behind the place is as it was lent
   rest : drop at log ≡ x .log
   unfolding es x
-  rest = ap (drop at) (g .run .log) ∙ drop-at (entries (l .output) h es) (x .log) at (g .place)
+  rest = ap (drop at) (going .run .log) ∙ drop-at (entries (l .output) h es) (x .log) at (going .place)
 
   done : take at log ≡ entries (l .output) h es
   unfolding es x
-  done = ap (take at) (g .run .log) ∙ take-at (entries (l .output) h es) (x .log) at (g .place)
+  done = ap (take at) (going .run .log) ∙ take-at (entries (l .output) h es) (x .log) at (going .place)
 
-  module _ (k : ℕ) (size : k ≡ 8 + l .output) (room : at + k ≤ length log) (t′ w′ m′ p : List ℕ)
-      (u : Turned (stepAt script (28 * i)) t w m (midOf at k log) t′ w′ m′ p) where
+  module _ (k : ℕ) (size : k ≡ 8 + l .output) (room : at + k ≤ length log) (t′ w′ m′ v′ p : List ℕ)
+      (u : Turned (stepAt (allRanges g) script (32 * i)) t w m v (midOf at k log) t′ w′ m′ v′ p) where
     c : Step
-    c = stepAt script (28 * i)
+    c = stepAt (allRanges g) script (32 * i)
 
     out : List ℕ
     out = drop 8 (midOf at k log)
 
     e : Event
-    e = eventIn c w m out (u .answer) t′ w′ m′ (u .output′)
+    e = eventIn c w m v out (u .answer) t′ w′ m′ v′ (u .output′)
 
     output-is : out ≡ outputOf (l .output) x
     unfolding x es out
@@ -219,16 +233,19 @@ module _ (script : List ℕ) (l : Lengths) (h : RunState) (t w m log : List ℕ)
     in-turn =
         record {
           call = refl;
-          called = subst (λ (y : List ℕ). Called y e) (g .run .table) (u .lent .called);
-          scratch = ap (take (c .scratch)) (g .run .scratch);
-          readMap = ap (take (c .readMap)) (g .run .readMap);
+          called = subst (λ (y : List ℕ). Called y e) (going .run .table) (u .lent .called);
+          scratch = ap (take (c .scratch)) (going .run .scratch);
+          readMap = ap (take (c .readMap)) (going .run .readMap);
+          counts = ap (take (c .counts)) (going .run .counts);
           output = ap (take (c .output)) output-is;
           lent =
               same-lengths (lentTo c l) (length (x .table)) (length (take (c .output) out)) (length (take (c .readMap) m)) (length (take (c .scratch) w))
-              (ap length (sym (g .run .table)) ∙ g .table)
+              (length (take (c .counts) v))
+              (ap length (sym (going .run .table)) ∙ going .table)
               (some (l .output) (c .output) out output-long)
-              (some (l .readMap) (c .readMap) m (g .readMap))
-              (some (l .scratch) (c .scratch) w (g .scratch));
+              (some (l .readMap) (c .readMap) m (going .readMap))
+              (some (l .scratch) (c .scratch) w (going .scratch))
+              (some (l .counts) (c .counts) v (going .counts));
         }
 
     -- the part is the entry of its event
@@ -248,43 +265,52 @@ module _ (script : List ℕ) (l : Lengths) (h : RunState) (t w m log : List ℕ)
         ∙ ap (λ (y : List ℕ). y ++ drop (8 + l .output) (x .log))
         (ap (λ (y : List ℕ). entries (l .output) h es ++ y) entry-is ∙ sym (one-entry (l .output) h es e))
 
-    -- scratch and read map: what the call left, and behind it what was there
+    -- scratch, read map and counts: what the call left, and behind it what was there
     scratch-is : w′ ≡ passed (l .output) x e .scratch
     unfolding e x es c
     scratch-is =
         put-back (c .scratch) w w′ (u .lent .scratchRest)
-        ∙ ap (λ (y : List ℕ). take (c .scratch) w′ ++ drop (length (take (c .scratch) w)) y) (g .run .scratch)
+        ∙ ap (λ (y : List ℕ). take (c .scratch) w′ ++ drop (length (take (c .scratch) w)) y) (going .run .scratch)
 
     map-is : m′ ≡ passed (l .output) x e .readMap
     unfolding e x es c
     map-is =
         put-back (c .readMap) m m′ (u .lent .mapRest)
-        ∙ ap (λ (y : List ℕ). take (c .readMap) m′ ++ drop (length (take (c .readMap) m)) y) (g .run .readMap)
+        ∙ ap (λ (y : List ℕ). take (c .readMap) m′ ++ drop (length (take (c .readMap) m)) y) (going .run .readMap)
+
+    counts-is : v′ ≡ passed (l .output) x e .counts
+    unfolding e x es c
+    counts-is =
+        put-back (c .counts) v v′ (u .lent .countsRest)
+        ∙ ap (λ (y : List ℕ). take (c .counts) v′ ++ drop (length (take (c .counts) v)) y) (going .run .counts)
 
     -- and one step more
     pub next : (end : ℕ) → end ≡ at + k → length p ≡ length (midOf at k log) → length t′ ≡ length t → length w′ ≡ length w → length m′ ≡ length m
-        → Going script l h t′ w′ m′ (putMid at k log p) (i + 1) end
+        → length v′ ≡ length v
+        → Going script g l h t′ w′ m′ v′ (putMid at k log p) (i + 1) end
     unfolding e x es c
-    next end ee np nt nw nm =
+    next end ee np nt nw nm nv =
         record {
           run =
               record {
                 events = es ++ (e ∷ []);
                 inTurn =
-                    subst (λ (cs : List Step). AllInTurn l h cs (es ++ (e ∷ []))) (one-step script i)
-                    (one-in-turn l h (stepsOf script i) es c e (g .run .inTurn) in-turn);
+                    subst (λ (cs : List Step). AllInTurn l h cs (es ++ (e ∷ []))) (one-step (allRanges g) script i)
+                    (one-in-turn l h (stepsOf (allRanges g) script i) es c e (going .run .inTurn) in-turn);
                 table = sym (ap (λ (y : RunState). y .table) (one-held (l .output) h es e));
                 scratch = scratch-is ∙ sym (ap (λ (y : RunState). y .scratch) (one-held (l .output) h es e));
                 readMap = map-is ∙ sym (ap (λ (y : RunState). y .readMap) (one-held (l .output) h es e));
+                counts = counts-is ∙ sym (ap (λ (y : RunState). y .counts) (one-held (l .output) h es e));
                 log =
                     log-is ∙ ap (λ (y : RunState). entries (l .output) h (es ++ (e ∷ [])) ++ y .log) (sym (one-held (l .output) h es e));
               };
           place =
               ap length (one-entry (l .output) h es e) ∙ length-append (entries (l .output) h es) (entry (outputOf (l .output) x) e)
-              ∙ ap₂ (λ (a b : ℕ). a + b) (g .place)
+              ∙ ap₂ (λ (a b : ℕ). a + b) (going .place)
               (ap length (sym entry-is) ∙ np ∙ omega (arith, length-take k (drop at log), length-drop at log))
               ∙ sym ee;
-          table = nt ∙ g .table;
-          scratch = nw ∙ g .scratch;
-          readMap = nm ∙ g .readMap;
+          table = nt ∙ going .table;
+          scratch = nw ∙ going .scratch;
+          readMap = nm ∙ going .readMap;
+          counts = nv ∙ going .counts;
         }

@@ -18,8 +18,8 @@ use Rattle.table.specs.Calls.{Lengths}
 use Rattle.demands.specs.Model.{begunEmpty}
 use Rattle.demands.specs.History.{History}
 use Rattle.demands.proofs.Demand.{demand3}
-use Rattle.script.specs.Script.{callsIn, stepsOf, logPart}
-use Rattle.script.specs.Run.{RunState, runState, Run, runLengths, partIn, Happened, Ran}
+use Rattle.script.specs.Script.{allRanges, callsIn, stepsOf, logPart}
+use Rattle.script.specs.Run.{RunState, runState, Run, runLengths, partIn, Happened, SameLengths, Ran}
 use Rattle.script.proofs.Logs.{history-of, ends-sound, as-model}
 
 parts-within : (bytes n : ℕ) → logPart bytes n * n ≤ bytes
@@ -33,60 +33,61 @@ parts-fit bytes n part e = rw e (parts-within bytes n)
 
 -- ---- refused: one of the two tests fails, and nothing changes
 
-module _ (script t w m log : List ℕ) where
-  says-not : tableSized (length t) && leb 8 (partIn script log) ≡ false → Ran script t w m log t w m log false
+module _ (script g t w m v log : List ℕ) where
+  says-not : tableSized (length t) && leb 8 (partIn script log) ≡ false → Ran script g t w m v log t w m v log false
   says-not p =
       record {
         runs = sym p;
-        refused = λ e. (refl, refl, refl, refl);
+        refused = λ e. (refl, refl, refl, refl, refl);
         answers = λ e. absurd (true≢false (sym e));
         staysSound = λ e. absurd (true≢false (sym e));
-        sameLengths = (refl, refl, refl, refl);
+        sameLengths = record { table = refl; scratch = refl; readMap = refl; counts = refl; log = refl };
         happened = λ e. absurd (true≢false (sym e));
       }
 
-  pub says-unsized : tableSized (length t) ≡ false → Ran script t w m log t w m log false
+  pub says-unsized : tableSized (length t) ≡ false → Ran script g t w m v log t w m v log false
   says-unsized e = says-not (ap (λ (b : Bool). b && leb 8 (partIn script log)) e)
 
-  pub says-short : (part : ℕ) → part ≡ partIn script log → part < 8 → tableSized (length t) ≡ true → Ran script t w m log t w m log false
+  pub says-short : (part : ℕ) → part ≡ partIn script log → part < 8 → tableSized (length t) ≡ true → Ran script g t w m v log t w m v log false
   says-short part e h z = says-not (ap₂ (λ (a b : Bool). a && b) z (ap (leb 8) (sym e) ∙ lt-leb 8 part h))
 
 -- ---- run
 
-module _ (script t w m log t′ w′ m′ log′ : List ℕ) (sized : tableSized (length t) ≡ true) where
+module _ (script g t w m v log t′ w′ m′ v′ log′ : List ℕ) (sized : tableSized (length t) ≡ true) where
   -- demand 3 of the run's history
   happens : (part : ℕ) (u : List ℕ) → part ≡ partIn script log → u ≡ formatted (length t)
-      → Run script (callsIn script) (runLengths u w m part) (runState u w m log) t′ w′ m′ log′
-      → Happened script t w m log t′ w′ m′ log′
+      → Run script g (callsIn script) (runLengths u w m v part) (runState u w m v log) t′ w′ m′ v′ log′
+      → Happened script g t w m v log t′ w′ m′ v′ log′
   happens part u ep eu r =
-      let l : Lengths = runLengths t w m (partIn script log) in
-      let h : RunState = runState (formatted (length t)) w m log in
-      let run : Run script (callsIn script) l h t′ w′ m′ log′ =
-      subst (λ (k : Lengths). Run script (callsIn script) k h t′ w′ m′ log′)
-      (ap₂ (λ (bytes p : ℕ). record { table = bytes; output = p - 8; readMap = length m; scratch = length w }) (fresh-sized (length t) sized) ep)
-      (subst (λ (x : List ℕ). Run script (callsIn script) (runLengths x w m part) (runState x w m log) t′ w′ m′ log′) eu r)
+      let l : Lengths = runLengths t w m v (partIn script log) in
+      let h : RunState = runState (formatted (length t)) w m v log in
+      let run : Run script g (callsIn script) l h t′ w′ m′ v′ log′ =
+      subst (λ (k : Lengths). Run script g (callsIn script) k h t′ w′ m′ v′ log′)
+      (ap₂ (λ (bytes p : ℕ). record { table = bytes; output = p - 8; readMap = length m; scratch = length w; counts = length v }) (fresh-sized (length t) sized) ep)
+      (subst (λ (x : List ℕ). Run script g (callsIn script) (runLengths x w m v part) (runState x w m v log) t′ w′ m′ v′ log′) eu r)
       in
-      let past : History (formatted (length t)) (run .events) = history-of l h (stepsOf script (callsIn script)) (run .events) (run .inTurn) in
+      let past : History (formatted (length t)) (run .events) =
+      history-of l h (stepsOf (allRanges g) script (callsIn script)) (run .events) (run .inTurn)
+      in
       record { run = run; history = past; agreed = demand3 (length t) sized (run .events) past }
 
   pub says-run : (part : ℕ) (u : List ℕ) → part ≡ partIn script log → 8 ≤ part → u ≡ cond (tableSized (length t)) (formatted (length t)) t
-      → Run script (callsIn script) (runLengths u w m part) (runState u w m log) t′ w′ m′ log′
-      → length t′ ≡ length t
-      → length w′ ≡ length w
-      → length m′ ≡ length m
-      → length log′ ≡ length log
-      → Ran script t w m log t′ w′ m′ log′ true
-  says-run part u ep p eu r nt nw nm nl =
-      let k : Happened script t w m log t′ w′ m′ log′ =
+      → Run script g (callsIn script) (runLengths u w m v part) (runState u w m v log) t′ w′ m′ v′ log′
+      → SameLengths t w m v log t′ w′ m′ v′ log′
+      → Ran script g t w m v log t′ w′ m′ v′ log′ true
+  says-run part u ep p eu r same =
+      let k : Happened script g t w m v log t′ w′ m′ v′ log′ =
       happens part u ep (eu ∙ ap (λ (b : Bool). cond b (formatted (length t)) t) sized) r
       in
-      let l : Lengths = runLengths t w m (partIn script log) in
-      let h : RunState = runState (formatted (length t)) w m log in
+      let l : Lengths = runLengths t w m v (partIn script log) in
+      let h : RunState = runState (formatted (length t)) w m v log in
       record {
         runs = sym (and-both (tableSized (length t)) (leb 8 (partIn script log)) sized (ap (leb 8) (sym ep) ∙ le-leb 8 part p));
         refused = λ e. absurd (true≢false e);
-        answers = λ e. k .run .log ∙ as-model l h begunEmpty (stepsOf script (callsIn script)) (k .run .events) (k .run .inTurn) (k .agreed);
+        answers =
+            λ e. k .run .log
+            ∙ as-model l h begunEmpty (stepsOf (allRanges g) script (callsIn script)) (k .run .events) (k .run .inTurn) (k .agreed);
         staysSound = λ e. ap sound (k .run .table) ∙ ends-sound l h begunEmpty (k .run .events) (fresh-sound (length t) sized) (k .agreed);
-        sameLengths = (nt, nw, nm, nl);
+        sameLengths = same;
         happened = λ e. k;
       }

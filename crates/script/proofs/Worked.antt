@@ -1,5 +1,6 @@
 -- A script worked out: Add of place 5, rank -3 and track 9; another Add that is lent 100 bytes of scratch; a Report of the first, lent 11 bytes of output and
--- then 12, and one lent no read map; and Count. The log is all ones before.
+-- then 12, and one lent no read map; Count; and Reports of two ranges, of which the second is past the door, and of the second alone. The log is all ones
+-- before.
 -- Assumes nothing.
 use mathlib.Core.Path.{_≡_, refl}
 use mathlib.Core.List.{List, [], _∷_, _++_}
@@ -7,9 +8,11 @@ use Prim.Native.Nat.{ℕ}
 use lib.ListN.{replicate}
 use lib.IntN.{pos, negsuc}
 use Rattle.octets.specs.Bytes.{be}
-use Rattle.table.specs.Calls.{Call, add, report, count, Lengths}
-use Rattle.demands.specs.Model.{begunEmpty, eqZ, hasIdentity, placeBefore, ofPlaces, ofReport, fromOnward, takenOut, broughtIn, fourBytes, complement, outputAfter, refuse, accept, badTable, badLent, full, handOut, ownReply, reply}
-use Rattle.script.specs.Script.{Step, callsIn, callOf, callAt, stepAt, stepsOf, logPart, logAfter}
+use Rattle.ranges.specs.Ranges.{rangeIn}
+use Rattle.ranges.specs.declared.Range.{Range}
+use Rattle.table.specs.Calls.{Call, add, report, count, reportMany, Lengths}
+use Rattle.demands.specs.Model.{begunEmpty, eqZ, hasIdentity, placeBefore, ofPlaces, ofReport, fromOnward, reported, takenOut, broughtIn, fourBytes, complement, outputAfter, refuse, accept, badTable, badLent, tooMany, full, handOut, ownReply, reply}
+use Rattle.script.specs.Script.{Step, allRanges, callsIn, callOf, callAt, stepAt, stepsOf, logPart, logAfter}
 
 -- 65,536 bytes are more than the run has of anything
 all : List ℕ
@@ -18,42 +21,60 @@ all = 0 ∷ 1 ∷ 0 ∷ 0 ∷ []
 some : ℕ → List ℕ
 some n = 0 ∷ 0 ∷ 0 ∷ n ∷ []
 
-find : List ℕ
-find = 0 ∷ 0 ∷ 0 ∷ 3 ∷ 255 ∷ 255 ∷ 255 ∷ 255 ∷ 0 ∷ 0 ∷ 0 ∷ 10 ∷ 255 ∷ 255 ∷ 255 ∷ 0 ∷ []
+around : List ℕ
+around = 255 ∷ 255 ∷ 255 ∷ 255 ∷ 0 ∷ 0 ∷ 0 ∷ 10 ∷ 255 ∷ 255 ∷ 255 ∷ 0 ∷ []
+
+-- two ranges; three bytes at the end are none
+ranges : List ℕ
+ranges = around ++ (0 ∷ 0 ∷ 0 ∷ 6 ∷ 0 ∷ 0 ∷ 0 ∷ 4 ∷ 255 ∷ 255 ∷ 255 ∷ 253 ∷ []) ++ (0 ∷ 0 ∷ 0 ∷ [])
+
+first : Range
+first = record { x1 = negsuc 0; x2 = pos 10; y = negsuc 255 }
+
+second : Range
+second = record { x1 = pos 6; x2 = pos 4; y = negsuc 2 }
+
+two-ranges : allRanges ranges ≡ first ∷ second ∷ []
+unfolding ranges around first second be rangeIn
+two-ranges = refl
 
 -- three bytes at the end are no call
 script : List ℕ
 script =
-    (0 ∷ 0 ∷ 0 ∷ 1 ∷ 0 ∷ 0 ∷ 0 ∷ 5 ∷ 255 ∷ 255 ∷ 255 ∷ 253 ∷ 0 ∷ 0 ∷ 0 ∷ 9 ∷ []) ++ all ++ all ++ all
-    ++ (0 ∷ 0 ∷ 0 ∷ 1 ∷ 0 ∷ 0 ∷ 0 ∷ 6 ∷ 255 ∷ 255 ∷ 255 ∷ 253 ∷ 0 ∷ 0 ∷ 0 ∷ 9 ∷ []) ++ all ++ all ++ some 100
-    ++ find ++ some 11 ++ all ++ all
-    ++ find ++ some 12 ++ all ++ all
-    ++ find ++ all ++ some 0 ++ all
-    ++ (0 ∷ 0 ∷ 0 ∷ 5 ∷ 7 ∷ 7 ∷ 7 ∷ 7 ∷ 7 ∷ 7 ∷ 7 ∷ 7 ∷ 7 ∷ 7 ∷ 7 ∷ 7 ∷ []) ++ some 0 ++ some 0 ++ some 0
+    (some 1 ++ (0 ∷ 0 ∷ 0 ∷ 5 ∷ 255 ∷ 255 ∷ 255 ∷ 253 ∷ 0 ∷ 0 ∷ 0 ∷ 9 ∷ [])) ++ all ++ all ++ all ++ some 0
+    ++ (some 1 ++ (0 ∷ 0 ∷ 0 ∷ 6 ∷ 255 ∷ 255 ∷ 255 ∷ 253 ∷ 0 ∷ 0 ∷ 0 ∷ 9 ∷ [])) ++ all ++ all ++ some 100 ++ all
+    ++ (some 3 ++ around) ++ some 11 ++ all ++ all ++ all
+    ++ (some 3 ++ around) ++ some 12 ++ all ++ all ++ all
+    ++ (some 3 ++ around) ++ all ++ some 0 ++ all ++ all
+    ++ (some 5 ++ (7 ∷ 7 ∷ 7 ∷ 7 ∷ 7 ∷ 7 ∷ 7 ∷ 7 ∷ 7 ∷ 7 ∷ 7 ∷ 7 ∷ [])) ++ some 0 ++ some 0 ++ some 0 ++ some 0
+    ++ (some 8 ++ some 0 ++ some 2 ++ some 7) ++ all ++ all ++ all ++ some 2
+    ++ (some 8 ++ some 1 ++ some 9 ++ some 7) ++ all ++ all ++ all ++ some 1
     ++ (0 ∷ 0 ∷ 0 ∷ [])
 
-step : Call → ℕ → ℕ → ℕ → Step
-step c output readMap scratch = record { call = c; output = output; readMap = readMap; scratch = scratch }
+step : Call → ℕ → ℕ → ℕ → ℕ → Step
+step c output readMap scratch counts = record { call = c; output = output; readMap = readMap; scratch = scratch; counts = counts }
 
+-- the last one asks for nine ranges from the second on, and gets the one that there is
 steps : List Step
 steps =
-    step (add (pos 5) (negsuc 2) 9) 65536 65536 65536 ∷ step (add (pos 6) (negsuc 2) 9) 65536 65536 100
-    ∷ step (report (negsuc 0) (pos 10) (negsuc 255)) 11 65536 65536 ∷ step (report (negsuc 0) (pos 10) (negsuc 255)) 12 65536 65536
-    ∷ step (report (negsuc 0) (pos 10) (negsuc 255)) 65536 0 65536 ∷ step count 0 0 0 ∷ []
+    step (add (pos 5) (negsuc 2) 9) 65536 65536 65536 0 ∷ step (add (pos 6) (negsuc 2) 9) 65536 65536 100 65536
+    ∷ step (report (negsuc 0) (pos 10) (negsuc 255)) 11 65536 65536 65536 ∷ step (report (negsuc 0) (pos 10) (negsuc 255)) 12 65536 65536 65536
+    ∷ step (report (negsuc 0) (pos 10) (negsuc 255)) 65536 0 65536 65536 ∷ step count 0 0 0 0
+    ∷ step (reportMany (first ∷ second ∷ [])) 65536 65536 65536 2 ∷ step (reportMany (second ∷ [])) 65536 65536 65536 1 ∷ []
 
-six-steps : stepsOf script (callsIn script) ≡ steps
-unfolding script all some find step steps be callOf callAt stepAt
-six-steps = refl
+eight-steps : stepsOf (first ∷ second ∷ []) script (callsIn script) ≡ steps
+unfolding script all some around step steps be callOf callAt stepAt
+eight-steps = refl
 
--- 151 bytes are six parts of 25, and one byte more
-part : logPart 151 6 ≡ 25
+-- 201 bytes are eight parts of 25, and one byte more
+part : logPart 201 8 ≡ 25
 unfolding logPart
 part = refl
 
 sizes : Lengths
-sizes = record { table = 18432; output = 17; readMap = 512; scratch = 18432 }
+sizes = record { table = 18432; output = 17; readMap = 512; scratch = 18432; counts = 64 }
 
-model-log : logAfter sizes steps begunEmpty (replicate 151 1)
+model-log : logAfter sizes steps begunEmpty (replicate 201 1)
     ≡ (0 ∷ 0 ∷ 0 ∷ 0 ∷ 0 ∷ 0 ∷ 0 ∷ 0 ∷ [])
     ++ replicate 17 1
     ++ (0 ∷ 0 ∷ 0 ∷ 2 ∷ 0 ∷ 0 ∷ 0 ∷ 0 ∷ [])
@@ -65,6 +86,10 @@ model-log : logAfter sizes steps begunEmpty (replicate 151 1)
     ++ (0 ∷ 0 ∷ 0 ∷ 2 ∷ 0 ∷ 0 ∷ 0 ∷ 0 ∷ [])
     ++ replicate 17 1
     ++ (0 ∷ 0 ∷ 0 ∷ 0 ∷ 0 ∷ 0 ∷ 0 ∷ 1 ∷ [])
+    ++ replicate 17 1
+    ++ (0 ∷ 0 ∷ 0 ∷ 0 ∷ 0 ∷ 0 ∷ 0 ∷ 1 ∷ 0 ∷ 0 ∷ 0 ∷ 5 ∷ 255 ∷ 255 ∷ 255 ∷ 253 ∷ 0 ∷ 0 ∷ 0 ∷ 9 ∷ [])
+    ++ replicate 5 1
+    ++ (0 ∷ 0 ∷ 0 ∷ 0 ∷ 0 ∷ 0 ∷ 0 ∷ 0 ∷ [])
     ++ replicate 18 1
-unfolding sizes step steps eqZ hasIdentity placeBefore ofPlaces ofReport fromOnward takenOut broughtIn fourBytes complement outputAfter refuse accept badTable badLent full handOut ownReply reply
+unfolding first second sizes step steps eqZ hasIdentity placeBefore ofPlaces ofReport fromOnward reported takenOut broughtIn fourBytes complement outputAfter refuse accept badTable badLent tooMany full handOut ownReply reply
 model-log = refl

@@ -1,4 +1,5 @@
--- A run of a script over a table, call by call. t, w, m and log are the table, the scratch, the read map and the log as lent; t′, w′, m′ and log′ as left.
+-- A run of a script over a table, call by call. t, w, m, k and log are the table, the scratch, the read map, the counts and the log as lent; t′, w′, m′, k′ and
+-- log′ as left.
 -- Assumes nothing.
 use mathlib.Core.Path.{_≡_}
 use Prim.Native.Nat.{ℕ, _+_, _-_}
@@ -10,15 +11,27 @@ use Rattle.block.specs.declared.Answer.{Answer}
 use Rattle.block.specs.Table.{tableSized}
 use Rattle.block.specs.Fresh.{formatted}
 use Rattle.tree.specs.Sound.{sound}
-use Rattle.table.specs.Calls.{Call, kind, takesScratch, isQuery, Lengths, argumentsFit}
+use Rattle.table.specs.Calls.{Call, kind, takesScratch, isQuery, isCounting, Lengths, argumentsFit}
 use Rattle.demands.specs.Model.{begunEmpty, fourBytes}
 use Rattle.demands.specs.History.{Event, MetBy, History, AllAgreed, lengthsIn}
-use Rattle.script.specs.Script.{Step, callsIn, stepsOf, lentTo, logPart, logAfter}
+use Rattle.script.specs.Script.{Step, allRanges, callsIn, stepsOf, lentTo, logPart, logAfter}
 
 -- an event of its call, what it was lent beside the table, its answer, and what it left
-abbrev pub eventOf : Call → List ℕ → List ℕ → List ℕ → Answer → List ℕ → List ℕ → List ℕ → List ℕ → Event
-eventOf c w m out r t′ w′ m′ out′ =
-    record { call = c; output = out; readMap = m; scratch = w; answer = r; output′ = out′; readMap′ = m′; scratch′ = w′; table′ = t′ }
+abbrev pub eventOf : Call → List ℕ → List ℕ → List ℕ → List ℕ → Answer → List ℕ → List ℕ → List ℕ → List ℕ → List ℕ → Event
+eventOf c w m k out r t′ w′ m′ k′ out′ =
+    record {
+      call = c;
+      output = out;
+      readMap = m;
+      scratch = w;
+      counts = k;
+      answer = r;
+      output′ = out′;
+      readMap′ = m′;
+      scratch′ = w′;
+      counts′ = k′;
+      table′ = t′;
+    }
 
 -- the call of an event met its post-condition on the table t, with arguments that fit, and what it has no use for stayed as it was
 pub record Called (t : List ℕ) (e : Event) : Type 0 where
@@ -27,46 +40,51 @@ pub record Called (t : List ℕ) (e : Event) : Type 0 where
   pub outputKept : isQuery (e .call) ≡ false → e .output′ ≡ e .output
   pub mapKept : isQuery (e .call) ≡ false → e .readMap′ ≡ e .readMap
   pub scratchKept : takesScratch (kind (e .call)) ≡ false → e .scratch′ ≡ e .scratch
+  pub countsKept : isCounting (e .call) ≡ false → e .counts′ ≡ e .counts
 
--- the event of a step, which is lent the first bytes of scratch, read map and output
-abbrev pub eventIn : Step → List ℕ → List ℕ → List ℕ → Answer → List ℕ → List ℕ → List ℕ → List ℕ → Event
-eventIn c w m out r t′ w′ m′ out′ =
-    eventOf (c .call) (take (c .scratch) w) (take (c .readMap) m) (take (c .output) out) r t′ (take (c .scratch) w′) (take (c .readMap) m′)
+-- the event of a step, which is lent the first bytes of scratch, read map and output, and the first counts
+abbrev pub eventIn : Step → List ℕ → List ℕ → List ℕ → List ℕ → Answer → List ℕ → List ℕ → List ℕ → List ℕ → List ℕ → Event
+eventIn c w m k out r t′ w′ m′ k′ out′ =
+    eventOf (c .call) (take (c .scratch) w) (take (c .readMap) m) (take (c .counts) k) (take (c .output) out) r t′ (take (c .scratch) w′) (take (c .readMap) m′)
+    (take (c .counts) k′)
     (take (c .output) out′)
 
--- the call of a step; the bytes that it isn't lent stayed as they were
-pub record StepCalled (c : Step) (t w m out : List ℕ) (r : Answer) (t′ w′ m′ out′ : List ℕ) : Type 0 where
-  pub called : Called t (eventIn c w m out r t′ w′ m′ out′)
+-- the call of a step; what it isn't lent stayed as it was
+pub record StepCalled (c : Step) (t w m k out : List ℕ) (r : Answer) (t′ w′ m′ k′ out′ : List ℕ) : Type 0 where
+  pub called : Called t (eventIn c w m k out r t′ w′ m′ k′ out′)
   pub scratchRest : drop (c .scratch) w′ ≡ drop (c .scratch) w
   pub mapRest : drop (c .readMap) m′ ≡ drop (c .readMap) m
+  pub countsRest : drop (c .counts) k′ ≡ drop (c .counts) k
   pub outputRest : drop (c .output) out′ ≡ drop (c .output) out
 
 -- one turn: the step c, and its part of the log as lent and as left
-pub record Turned (c : Step) (t w m part t′ w′ m′ part′ : List ℕ) : Type 0 where
+pub record Turned (c : Step) (t w m k part t′ w′ m′ k′ part′ : List ℕ) : Type 0 where
   pub answer : Answer
   pub output′ : List ℕ
-  pub lent : StepCalled c t w m (drop 8 part) answer t′ w′ m′ output′
+  pub lent : StepCalled c t w m k (drop 8 part) answer t′ w′ m′ k′ output′
   pub written : part′ ≡ fourBytes (answer .number) ++ fourBytes (answer .detail) ++ output′
 
--- what a run has between two calls: table, scratch and read map as the last call left them, and the rest of the log as it was lent
+-- what a run has between two calls: table, scratch, read map and counts as the last call left them, and the rest of the log as it was lent
 pub record RunState : Type 0 where
   pub table : List ℕ
   pub scratch : List ℕ
   pub readMap : List ℕ
+  pub counts : List ℕ
   pub log : List ℕ
 
--- of its four lists
-abbrev pub runState : List ℕ → List ℕ → List ℕ → List ℕ → RunState
-runState t w m log = record { table = t; scratch = w; readMap = m; log = log }
+-- of its five lists
+abbrev pub runState : List ℕ → List ℕ → List ℕ → List ℕ → List ℕ → RunState
+runState t w m k log = record { table = t; scratch = w; readMap = m; counts = k; log = log }
 
 -- the output of the next call, where the parts of the log have room for one of so many bytes
 abbrev pub outputOf : ℕ → RunState → List ℕ
 outputOf room h = take room (drop 8 (h .log))
 
--- after an event; the bytes that it wasn't lent stayed as they were
+-- after an event; what it wasn't lent stayed as it was
 abbrev pub passed : ℕ → RunState → Event → RunState
 passed room h e =
     runState (e .table′) (e .scratch′ ++ drop (length (e .scratch)) (h .scratch)) (e .readMap′ ++ drop (length (e .readMap)) (h .readMap))
+    (e .counts′ ++ drop (length (e .counts)) (h .counts))
     (drop (8 + room) (h .log))
 
 -- after one event and then the next
@@ -80,8 +98,9 @@ pub record InTurn (l : Lengths) (h : RunState) (c : Step) (e : Event) : Type 0 w
   pub called : Called (h .table) e
   pub scratch : e .scratch ≡ take (c .scratch) (h .scratch)
   pub readMap : e .readMap ≡ take (c .readMap) (h .readMap)
+  pub counts : e .counts ≡ take (c .counts) (h .counts)
   pub output : e .output ≡ take (c .output) (outputOf (l .output) h)
-  -- "the lengths of table, output, read map and work area"
+  -- "the lengths of table, output, read map and work area", and of the counts
   pub lent : lengthsIn (h .table) e ≡ lentTo c l
 
 -- so is each, an event for each step, and gets what the last one left
@@ -100,35 +119,44 @@ abbrev pub entries : ℕ → RunState → List Event → List ℕ
 entries room h [] = []
 entries room h (e ∷ es) = entry (outputOf room h) e ++ entries room (passed room h e) es
 
--- the first n steps of the script were made, and led from h to what is left
-pub record Run (script : List ℕ) (n : ℕ) (l : Lengths) (h : RunState) (t′ w′ m′ log′ : List ℕ) : Type 0 where
+-- the first n steps of the script were made, where g has the ranges, and led from h to what is left
+pub record Run (script g : List ℕ) (n : ℕ) (l : Lengths) (h : RunState) (t′ w′ m′ k′ log′ : List ℕ) : Type 0 where
   pub events : List Event
-  pub inTurn : AllInTurn l h (stepsOf script n) events
+  pub inTurn : AllInTurn l h (stepsOf (allRanges g) script n) events
   pub table : t′ ≡ heldAfter (l .output) h events .table
   pub scratch : w′ ≡ heldAfter (l .output) h events .scratch
   pub readMap : m′ ≡ heldAfter (l .output) h events .readMap
+  pub counts : k′ ≡ heldAfter (l .output) h events .counts
   pub log : log′ ≡ entries (l .output) h events ++ heldAfter (l .output) h events .log
 
 -- the lengths that a run has, where a part of the log has so many bytes
-abbrev pub runLengths : List ℕ → List ℕ → List ℕ → ℕ → Lengths
-runLengths t w m part = record { table = length t; output = part - 8; readMap = length m; scratch = length w }
+abbrev pub runLengths : List ℕ → List ℕ → List ℕ → List ℕ → ℕ → Lengths
+runLengths t w m k part = record { table = length t; output = part - 8; readMap = length m; scratch = length w; counts = length k }
 
 -- the part of each call in the log of a script
 abbrev pub partIn : List ℕ → List ℕ → ℕ
 partIn script log = logPart (length log) (callsIn script)
 
 -- the whole script, run on a formatted table, is a history; and of it all of demand 3 is said
-pub record Happened (script t w m log t′ w′ m′ log′ : List ℕ) : Type 0 where
-  pub run : Run script (callsIn script) (runLengths t w m (partIn script log)) (runState (formatted (length t)) w m log) t′ w′ m′ log′
+pub record Happened (script g t w m k log t′ w′ m′ k′ log′ : List ℕ) : Type 0 where
+  pub run : Run script g (callsIn script) (runLengths t w m k (partIn script log)) (runState (formatted (length t)) w m k log) t′ w′ m′ k′ log′
   pub history : History (formatted (length t)) (run .events)
   pub agreed : AllAgreed (formatted (length t)) begunEmpty (run .events)
 
+-- every list is as long as it was; s and s′ are the log
+pub record SameLengths (t w m k s t′ w′ m′ k′ s′ : List ℕ) : Type 0 where
+  pub table : length t′ ≡ length t
+  pub scratch : length w′ ≡ length w
+  pub readMap : length m′ ≡ length m
+  pub counts : length k′ ≡ length k
+  pub log : length s′ ≡ length s
+
 -- a script was run, from an empty table on, or refused. It is refused where the table has no size that Format accepts, and where a part of the log is too
 -- short for an answer.
-pub record Ran (script t w m log t′ w′ m′ log′ : List ℕ) (r : Bool) : Type 0 where
+pub record Ran (script g t w m k log t′ w′ m′ k′ log′ : List ℕ) (r : Bool) : Type 0 where
   pub runs : r ≡ (tableSized (length t) && leb 8 (partIn script log))
-  pub refused : r ≡ false → (t′ ≡ t) × (w′ ≡ w) × (m′ ≡ m) × (log′ ≡ log)
-  pub answers : r ≡ true → log′ ≡ logAfter (runLengths t w m (partIn script log)) (stepsOf script (callsIn script)) begunEmpty log
+  pub refused : r ≡ false → (t′ ≡ t) × (w′ ≡ w) × (m′ ≡ m) × (k′ ≡ k) × (log′ ≡ log)
+  pub answers : r ≡ true → log′ ≡ logAfter (runLengths t w m k (partIn script log)) (stepsOf (allRanges g) script (callsIn script)) begunEmpty log
   pub staysSound : r ≡ true → sound t′ ≡ true
-  pub sameLengths : (length t′ ≡ length t) × (length w′ ≡ length w) × (length m′ ≡ length m) × (length log′ ≡ length log)
-  pub happened : r ≡ true → Happened script t w m log t′ w′ m′ log′
+  pub sameLengths : SameLengths t w m k log t′ w′ m′ k′ log′
+  pub happened : r ≡ true → Happened script g t w m k log t′ w′ m′ k′ log′

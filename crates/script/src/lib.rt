@@ -1,21 +1,42 @@
-// A script of calls, run over a table that is formatted first; what the calls answer and hand out goes into a log.
+// A script of calls, run over a table that is formatted first; what the calls answer and hand out goes into a log. The ranges that calls hand in stand beside it.
 ghost use mathlib.Core.Path.{_≡_};
 ghost use Prim.Native.Nat.{_+_, _*_, _≤_, min};
-ghost use lib.ListN.{length};
-ghost use Rattle.script.specs.Script.{callAt, stepAt, logPart};
+ghost use lib.ListN.{length, take, drop};
+ghost use Rattle.ranges.specs.Ranges.{batchOf};
+ghost use Rattle.script.specs.Script.{allRanges, callAt, stepAt, logPart};
 ghost use Rattle.script.specs.Run.{Called, eventOf, StepCalled, Turned, Run, runState, runLengths, Ran};
+
+fn smaller(a: usize, b: usize) -> usize
+    ensures { λ r. ⌜ r ≡ min a b ⌝ }
+{
+    if a < b {
+        return a;
+    }
+    b
+}
+
+// n of the ranges, from one on, or those that there are.
+fn ranges_from(ranges: &[u8], from: usize, n: usize) -> ranges::Batch
+    ensures { λ b. ⌜ b ≡ batchOf (take n (drop from (allRanges (now (ranges .entry))))) ⌝ }
+{
+    let all = ranges.len() / 12;
+    let first = smaller(from, all);
+    ranges::read_batch(ranges, 12 * first, smaller(n, all - first))
+}
 
 // Makes the call that begins at a byte of the script, with all that is lent.
 fn call(
     script: &[u8],
     at: usize,
+    ranges: &[u8],
     table: &mut [u8],
     scratch: &mut [u8],
     read_map: &mut [u8],
+    counts: &mut [u32],
     output: &mut [u8],
 ) -> block::Answer
     requires { ⌜ at + 16 ≤ length (now script) ⌝ }
-    ensures { λ r. ⌜ Called (now (table .entry)) (eventOf (callAt (now (script .entry)) at) (now (scratch .entry)) (now («read_map» .entry)) (now (output .entry)) r (now (table .exit)) (now (scratch .exit)) (now («read_map» .exit)) (now (output .exit))) ⌝ }
+    ensures { λ r. ⌜ Called (now (table .entry)) (eventOf (callAt (allRanges (now (ranges .entry))) (now (script .entry)) at) (now (scratch .entry)) (now («read_map» .entry)) (now (counts .entry)) (now (output .entry)) r (now (table .exit)) (now (scratch .exit)) (now («read_map» .exit)) (now (counts .exit)) (now (output .exit))) ⌝ }
 {
     let op = octets::read32(script, at);
     let a = spot::read_i32(script, at + 4);
@@ -43,39 +64,41 @@ fn call(
     if op == 6 {
         return table::check(table);
     }
-    table::rebuild(table, scratch)
-}
-
-fn smaller(a: usize, b: usize) -> usize
-    ensures { λ r. ⌜ r ≡ min a b ⌝ }
-{
-    if a < b {
-        return a;
+    if op == 7 {
+        return table::rebuild(table, scratch);
     }
-    b
+    let from = octets::read32(script, at + 4) as usize;
+    let n = octets::read32(script, at + 8) as usize;
+    let batch = ranges_from(ranges, from, n);
+    many::report_batch(table, batch, counts, output, read_map)
 }
 
-// Makes the call that begins at a byte of the script, with the first bytes of output, read map and scratch, as many as it says.
+// Makes the call that begins at a byte of the script, with the first bytes of output, read map and scratch and the first counts, as many as it says.
 fn step(
     script: &[u8],
     at: usize,
+    ranges: &[u8],
     table: &mut [u8],
     scratch: &mut [u8],
     read_map: &mut [u8],
+    counts: &mut [u32],
     output: &mut [u8],
 ) -> block::Answer
-    requires { ⌜ at + 28 ≤ length (now script) ⌝ }
-    ensures { λ r. ⌜ StepCalled (stepAt (now (script .entry)) at) (now (table .entry)) (now (scratch .entry)) (now («read_map» .entry)) (now (output .entry)) r (now (table .exit)) (now (scratch .exit)) (now («read_map» .exit)) (now (output .exit)) ⌝ }
+    requires { ⌜ at + 32 ≤ length (now script) ⌝ }
+    ensures { λ r. ⌜ StepCalled (stepAt (allRanges (now (ranges .entry))) (now (script .entry)) at) (now (table .entry)) (now (scratch .entry)) (now («read_map» .entry)) (now (counts .entry)) (now (output .entry)) r (now (table .exit)) (now (scratch .exit)) (now («read_map» .exit)) (now (counts .exit)) (now (output .exit)) ⌝ }
 {
     let a = smaller(octets::read32(script, at + 16) as usize, output.len());
     let b = smaller(octets::read32(script, at + 20) as usize, read_map.len());
     let c = smaller(octets::read32(script, at + 24) as usize, scratch.len());
+    let d = smaller(octets::read32(script, at + 28) as usize, counts.len());
     call(
         script,
         at,
+        ranges,
         table,
         &mut scratch[..c],
         &mut read_map[..b],
+        &mut counts[..d],
         &mut output[..a],
     )
 }
@@ -84,15 +107,26 @@ fn step(
 fn turn(
     script: &[u8],
     at: usize,
+    ranges: &[u8],
     table: &mut [u8],
     scratch: &mut [u8],
     read_map: &mut [u8],
+    counts: &mut [u32],
     part: &mut [u8],
 )
-    requires { ⌜ (at + 28 ≤ length (now script)) × (8 ≤ length (now part)) ⌝ }
-    ensures { λ _. ⌜ Turned (stepAt (now (script .entry)) at) (now (table .entry)) (now (scratch .entry)) (now («read_map» .entry)) (now (part .entry)) (now (table .exit)) (now (scratch .exit)) (now («read_map» .exit)) (now (part .exit)) ⌝ }
+    requires { ⌜ (at + 32 ≤ length (now script)) × (8 ≤ length (now part)) ⌝ }
+    ensures { λ _. ⌜ Turned (stepAt (allRanges (now (ranges .entry))) (now (script .entry)) at) (now (table .entry)) (now (scratch .entry)) (now («read_map» .entry)) (now (counts .entry)) (now (part .entry)) (now (table .exit)) (now (scratch .exit)) (now («read_map» .exit)) (now (counts .exit)) (now (part .exit)) ⌝ }
 {
-    let a = step(script, at, table, scratch, read_map, &mut part[8..]);
+    let a = step(
+        script,
+        at,
+        ranges,
+        table,
+        scratch,
+        read_map,
+        counts,
+        &mut part[8..],
+    );
     octets::write32(part, 0, a.number as u64);
     octets::write32(part, 4, a.detail as u64);
 }
@@ -101,20 +135,31 @@ fn turn(
 fn make_calls(
     script: &[u8],
     n: usize,
+    ranges: &[u8],
     table: &mut [u8],
     scratch: &mut [u8],
     read_map: &mut [u8],
+    counts: &mut [u32],
     log: &mut [u8],
     part: usize,
 )
-    requires { ⌜ (28 * n ≤ length (now script)) × (8 ≤ part) × (part * n ≤ length (now log)) ⌝ }
-    ensures { λ _. ⌜ Run (now (script .entry)) n (runLengths (now (table .entry)) (now (scratch .entry)) (now («read_map» .entry)) part) (runState (now (table .entry)) (now (scratch .entry)) (now («read_map» .entry)) (now (log .entry))) (now (table .exit)) (now (scratch .exit)) (now («read_map» .exit)) (now (log .exit)) ⌝ }
+    requires { ⌜ (32 * n ≤ length (now script)) × (8 ≤ part) × (part * n ≤ length (now log)) ⌝ }
+    ensures { λ _. ⌜ Run (now (script .entry)) (now (ranges .entry)) n (runLengths (now (table .entry)) (now (scratch .entry)) (now («read_map» .entry)) (now (counts .entry)) part) (runState (now (table .entry)) (now (scratch .entry)) (now («read_map» .entry)) (now (counts .entry)) (now (log .entry))) (now (table .exit)) (now (scratch .exit)) (now («read_map» .exit)) (now (counts .exit)) (now (log .exit)) ⌝ }
 {
     let mut i = 0;
     let mut at = 0;
     while i < n {
         let end = at + part;
-        turn(script, 28 * i, table, scratch, read_map, &mut log[at..end]);
+        turn(
+            script,
+            32 * i,
+            ranges,
+            table,
+            scratch,
+            read_map,
+            counts,
+            &mut log[at..end],
+        );
         at = end;
         i += 1;
     }
@@ -133,14 +178,16 @@ fn part_of(bytes: usize, n: usize) -> usize
 // Formats the table and makes the calls of the script; false, with nothing changed, where the table's size or the log's does not do.
 pub fn run(
     script: &[u8],
+    ranges: &[u8],
     table: &mut [u8],
     scratch: &mut [u8],
     read_map: &mut [u8],
+    counts: &mut [u32],
     log: &mut [u8],
 ) -> bool
-    ensures { λ r. ⌜ Ran (now (script .entry)) (now (table .entry)) (now (scratch .entry)) (now («read_map» .entry)) (now (log .entry)) (now (table .exit)) (now (scratch .exit)) (now («read_map» .exit)) (now (log .exit)) r ⌝ }
+    ensures { λ r. ⌜ Ran (now (script .entry)) (now (ranges .entry)) (now (table .entry)) (now (scratch .entry)) (now («read_map» .entry)) (now (counts .entry)) (now (log .entry)) (now (table .exit)) (now (scratch .exit)) (now («read_map» .exit)) (now (counts .exit)) (now (log .exit)) r ⌝ }
 {
-    let n = script.len() / 28;
+    let n = script.len() / 32;
     let part = part_of(log.len(), n);
     if !block::sized(table.len()) {
         return false;
@@ -149,6 +196,16 @@ pub fn run(
         return false;
     }
     table::format(table);
-    make_calls(script, n, table, scratch, read_map, log, part);
+    make_calls(
+        script,
+        n,
+        ranges,
+        table,
+        scratch,
+        read_map,
+        counts,
+        log,
+        part,
+    );
     true
 }

@@ -3,14 +3,13 @@
 use mathlib.Core.Path.{_≡_, refl, ap, sym, subst, _∙_}
 use mathlib.Core.Bool.{Bool, true, false, cond, not, true≢false, false≢true}
 use mathlib.Core.List.{List, _++_}
-use Prim.Native.Nat.{ℕ, zero, suc, _*_, _/_, _≤_, _<_}
+use Prim.Native.Nat.{ℕ, zero, suc, _/_, _≤_, _<_}
 use native.Mathlib.Omega.{arith}
 use lib.ListN.{length, take, drop}
 use lib.Seq.{take-all}
 use lib.IntN.{ℤ}
 use borrow.Author.Tests.{eq-eqb, lt-ltb, le-ltb, not-true, not-false}
 use Rattle.octets.proofs.Lists.{over-all}
-use Rattle.spot.specs.Spots.{spotsBytes}
 use Rattle.spot.specs.Query.{query, everything}
 use Rattle.spot.specs.declared.Query.{Query}
 use Rattle.block.specs.declared.Answer.{Answer}
@@ -21,24 +20,40 @@ use Rattle.tree.specs.Walk.{Walk, broken, walked, isBroken, spots, blocksRead, 
 use Rattle.tree.specs.ReadMap.{readMap}
 use Rattle.tree.specs.Report.{reportTable}
 use Rattle.tree.specs.Sound.{sound}
+use Rattle.query.specs.Walks.{TableCounted}
+use Rattle.query.specs.declared.Sum.{Sum}
+use Rattle.report.specs.Reports.{written}
+use Rattle.report.proofs.Reports.{report-blocks, report-whole, report-length}
 use Rattle.table.specs.Calls.{Call, format, report, count, check, kind, Lengths}
-use Rattle.table.specs.Answers.{ofTable, withOutput, lent, earlyNumber, unlessRefused, spotsAnswer, outputLeft, mapLeft}
-use Rattle.table.specs.Queries.{walkAnswer, QueryPost, ReportPost, countAnswer, CountPost, CheckPost}
+use Rattle.table.specs.Answers.{ofTable, withOutput, lent, fewEnough, earlyNumber, unlessRefused, spotsAnswer, outputLeft, mapLeft}
+use Rattle.table.specs.Queries.{walkAnswer, WalkPost, ReportPost, countAnswer, CountPost, CheckPost}
 use Rattle.table.specs.Updates.{FormatPost}
-use Rattle.table.proofs.Reports.{report-blocks, report-whole, report-length}
 
--- refused by the lengths: 1, then 2; else the call's own answer
-pub short-table : (l : Lengths) (c : Call) (a : Answer) → tableSized (l .table) ≡ false → unlessRefused (earlyNumber l c) a ≡ answer 1 0
-unfolding earlyNumber unlessRefused
-short-table l c a e = rw e
+-- refused by lengths and arguments: 1, then 2, then 6; else the call's own answer
+module _ (l : Lengths) (c : Call) where
+  pub number-short : tableSized (l .table) ≡ false → earlyNumber l c ≡ 1
+  unfolding earlyNumber
+  number-short e = rw e
 
-pub short-lent : (l : Lengths) (c : Call) (a : Answer) → tableSized (l .table) ≡ true → lent l (kind c) ≡ false → unlessRefused (earlyNumber l c) a ≡ answer 2 0
-unfolding earlyNumber unlessRefused
-short-lent l c a e f = rw (e, f)
+  pub number-lent : tableSized (l .table) ≡ true → lent l (kind c) ≡ false → earlyNumber l c ≡ 2
+  unfolding earlyNumber
+  number-lent e f = rw (e, f)
 
-pub long-enough : (l : Lengths) (c : Call) (a : Answer) → tableSized (l .table) ≡ true → lent l (kind c) ≡ true → unlessRefused (earlyNumber l c) a ≡ a
-unfolding earlyNumber unlessRefused
-long-enough l c a e f = rw (e, f)
+  pub number-over : tableSized (l .table) ≡ true → lent l (kind c) ≡ true → fewEnough (kind c) ≡ false → earlyNumber l c ≡ 6
+  unfolding earlyNumber
+  number-over e f g = rw (e, f, g)
+
+  pub number-fine : tableSized (l .table) ≡ true → lent l (kind c) ≡ true → fewEnough (kind c) ≡ true → earlyNumber l c ≡ 0
+  unfolding earlyNumber
+  number-fine e f g = rw (e, f, g)
+
+  pub short-table : (a : Answer) → tableSized (l .table) ≡ false → unlessRefused (earlyNumber l c) a ≡ answer 1 0
+  unfolding unlessRefused
+  short-table a e = ap (λ (n : ℕ). unlessRefused n a) (number-short e)
+
+  pub long-enough : (a : Answer) → tableSized (l .table) ≡ true → lent l (kind c) ≡ true → fewEnough (kind c) ≡ true → unlessRefused (earlyNumber l c) a ≡ a
+  unfolding unlessRefused
+  long-enough a e f g = ap (λ (n : ℕ). unlessRefused n a) (number-fine e f g)
 
 -- Format
 pub formats : (t t′ : List ℕ) (r : Answer) → r ≡ cond (tableSized (length t)) (answer 0 0) (answer 1 0) → t′ ≡ cond (tableSized (length t)) (formatted (length t)) t
@@ -46,7 +61,7 @@ pub formats : (t t′ : List ℕ) (r : Answer) → r ≡ cond (tableSized (lengt
 formats t t′ r a w = record { answered = a ∙ go (tableSized (length t)) refl; written = w }
   where
     go : (b : Bool) → tableSized (length t) ≡ b → cond b (answer 0 0) (answer 1 0) ≡ unlessRefused (earlyNumber (ofTable t) format) (answer 0 0)
-    go true e = sym (long-enough (ofTable t) format (answer 0 0) e refl)
+    go true e = sym (long-enough (ofTable t) format (answer 0 0) e refl refl)
     go false e = sym (short-table (ofTable t) format (answer 0 0) e)
 
 -- Count
@@ -64,21 +79,21 @@ whole-count broken h = absurd (true≢false h)
 whole-count (walked found blocks) h = refl
 
 pub count-broken : (t : List ℕ) (r : Answer) → tableSized (length t) ≡ true → isBroken (walkTable t everything) ≡ true → r ≡ answer 3 0 → CountPost t r
-count-broken t r e b a = record { answered = a ∙ broken-count (walkTable t everything) b ∙ sym (long-enough (ofTable t) count _ e refl) }
+count-broken t r e b a = record { answered = a ∙ broken-count (walkTable t everything) b ∙ sym (long-enough (ofTable t) count _ e refl refl) }
 
 pub count-whole : (t : List ℕ) (r : Answer) → tableSized (length t) ≡ true → isBroken (walkTable t everything) ≡ false → r ≡ answer 0 (length (spots (walkTable t everything)))
     → CountPost t r
-count-whole t r e b a = record { answered = a ∙ whole-count (walkTable t everything) b ∙ sym (long-enough (ofTable t) count _ e refl) }
+count-whole t r e b a = record { answered = a ∙ whole-count (walkTable t everything) b ∙ sym (long-enough (ofTable t) count _ e refl refl) }
 
 -- Check
 pub check-short : (t : List ℕ) (r : Answer) → tableSized (length t) ≡ false → r ≡ answer 1 0 → CheckPost t r
 check-short t r e a = record { answered = a ∙ sym (short-table (ofTable t) check _ e) }
 
 pub check-says : (t : List ℕ) (r : Answer) (b : Bool) → tableSized (length t) ≡ true → sound t ≡ b → r ≡ answer 0 (cond b 1 0) → CheckPost t r
-check-says t r b e s a = record { answered = a ∙ ap (λ (x : Bool). answer 0 (cond x 1 0)) (sym s) ∙ sym (long-enough (ofTable t) check _ e refl) }
+check-says t r b e s a = record { answered = a ∙ ap (λ (x : Bool). answer 0 (cond x 1 0)) (sym s) ∙ sym (long-enough (ofTable t) check _ e refl refl) }
 
--- a call that hands out spots, refused: what it was lent is as it was
-module _ (c : Call) (w : Walk) (t out map : List ℕ) where
+-- a call that hands out the spots of a walk
+module _ (w : Walk) (out map : List ℕ) where
   left-out : (n : ℕ) → 0 < n → out ≡ outputLeft n (spots w) out
   unfolding outputLeft
   left-out zero h = let z : ⊥ = omega arith in absurd z
@@ -89,51 +104,51 @@ module _ (c : Call) (w : Walk) (t out map : List ℕ) where
   left-map zero h = let z : ⊥ = omega arith in absurd z
   left-map (suc n) h = refl
 
-  pub refused-by : (r : Answer) (n d : ℕ) → 0 < n → r ≡ answer n d
-      → answer n d ≡ unlessRefused (earlyNumber (withOutput t out map) c) (walkAnswer (length out) w)
-      → QueryPost c w t out map r out map
-  refused-by r n d h a e =
+  -- refused: what it was lent is as it was
+  refused-by : (early : ℕ) (r : Answer) (n d : ℕ) → 0 < n → r ≡ answer n d → unlessRefused early (walkAnswer (length out) w) ≡ answer n d → WalkPost early w out map r out map
+  refused-by early r n d h a e =
       record {
-        answered = a ∙ e;
+        answered = a ∙ sym e;
         output = left-out n h ∙ ap (λ (x : Answer). outputLeft (x .number) (spots w) out) (sym a);
         marks = left-map n h ∙ ap (λ (x : Answer). mapLeft (x .number) (blocksRead w) map) (sym a);
       }
 
-  pub query-short : (r : Answer) → tableSized (length t) ≡ false → r ≡ answer 1 0 → QueryPost c w t out map r out map
-  query-short r e a = refused-by r 1 0 (omega arith) a (sym (short-table (withOutput t out map) c _ e))
+  -- by lengths and arguments
+  pub walk-early : (n : ℕ) {early : ℕ} (r : Answer) → early ≡ suc n → r ≡ answer (suc n) 0 → WalkPost early w out map r out map
+  unfolding unlessRefused
+  walk-early n {early} r e a = refused-by early r (suc n) 0 (omega arith) a (ap (λ (i : ℕ). unlessRefused i (walkAnswer (length out) w)) e)
 
-  pub query-lent : (r : Answer) → tableSized (length t) ≡ true → lent (withOutput t out map) (kind c) ≡ false → r ≡ answer 2 0 → QueryPost c w t out map r out map
-  query-lent r e f a = refused-by r 2 0 (omega arith) a (sym (short-lent (withOutput t out map) c _ e f))
+  broken-answer : (v : Walk) → isBroken v ≡ true → walkAnswer (length out) v ≡ answer 3 0
+  unfolding walkAnswer
+  broken-answer broken h = refl
+  broken-answer (walked found blocks) h = absurd (false≢true h)
 
-  module _ (e : tableSized (length t) ≡ true) (f : lent (withOutput t out map) (kind c) ≡ true) where
-    broken-answer : (v : Walk) → isBroken v ≡ true → answer 3 0 ≡ walkAnswer (length out) v
-    unfolding walkAnswer
-    broken-answer broken h = refl
-    broken-answer (walked found blocks) h = absurd (false≢true h)
+  whole-answer : (v : Walk) → isBroken v ≡ false → walkAnswer (length out) v ≡ spotsAnswer (length out) (length (spots v))
+  unfolding walkAnswer
+  whole-answer broken h = absurd (true≢false h)
+  whole-answer (walked found blocks) h = refl
 
-    whole-answer : (v : Walk) → isBroken v ≡ false → spotsAnswer (length out) (length (spots v)) ≡ walkAnswer (length out) v
-    unfolding walkAnswer
-    whole-answer broken h = absurd (true≢false h)
-    whole-answer (walked found blocks) h = refl
+  module _ {early : ℕ} (fine : early ≡ 0) (r : Answer) where
+    by-walk : unlessRefused early (walkAnswer (length out) w) ≡ walkAnswer (length out) w
+    unfolding unlessRefused
+    by-walk = ap (λ (i : ℕ). unlessRefused i (walkAnswer (length out) w)) fine
 
-    pub query-broken : (r : Answer) → isBroken w ≡ true → r ≡ answer 3 0 → QueryPost c w t out map r out map
-    query-broken r b a = refused-by r 3 0 (omega arith) a (broken-answer w b ∙ sym (long-enough (withOutput t out map) c _ e f))
+    pub walk-broken : isBroken w ≡ true → r ≡ answer 3 0 → WalkPost early w out map r out map
+    walk-broken b a = refused-by early r 3 0 (omega arith) a (by-walk ∙ broken-answer w b)
 
-    pub query-many : (r : Answer) → isBroken w ≡ false → length out / 12 < length (spots w) → r ≡ answer 5 (length (spots w)) → QueryPost c w t out map r out map
+    pub walk-many : isBroken w ≡ false → length out / 12 < length (spots w) → r ≡ answer 5 (length (spots w)) → WalkPost early w out map r out map
     unfolding spotsAnswer
-    query-many r b h a =
-        refused-by r 5 (length (spots w)) (omega arith) a
-        (rw (lt-ltb (length out / 12) (length (spots w)) h) at (whole-answer w b) ∙ sym (long-enough (withOutput t out map) c _ e f))
+    walk-many b h a =
+        refused-by early r 5 (length (spots w)) (omega arith) a (by-walk ∙ rw (lt-ltb (length out / 12) (length (spots w)) h) at (whole-answer w b))
 
     -- accepted: the spots, and the map of the blocks read
-    pub query-given : (r : Answer) (out′ map′ : List ℕ) → isBroken w ≡ false → length (spots w) ≤ length out / 12 → r ≡ answer 0 (length (spots w))
-        → out′ ≡ spotsBytes (spots w) ++ drop (12 * length (spots w)) out
+    pub walk-given : (out′ map′ : List ℕ) → isBroken w ≡ false → length (spots w) ≤ length out / 12 → r ≡ answer 0 (length (spots w)) → out′ ≡ written (spots w) out
         → map′ ≡ readMap (blocksRead w)
-        → QueryPost c w t out map r out′ map′
+        → WalkPost early w out map r out′ map′
     unfolding spotsAnswer outputLeft mapLeft
-    query-given r out′ map′ b h a o m =
+    walk-given out′ map′ b h a o m =
         record {
-          answered = a ∙ rw (le-ltb (length out / 12) (length (spots w)) h) at (whole-answer w b) ∙ sym (long-enough (withOutput t out map) c _ e f);
+          answered = a ∙ sym (by-walk ∙ rw (le-ltb (length out / 12) (length (spots w)) h) at (whole-answer w b));
           output = o ∙ ap (λ (x : Answer). outputLeft (x .number) (spots w) out) (sym a);
           marks = m ∙ ap (λ (x : Answer). mapLeft (x .number) (blocksRead w) map) (sym a);
         }
@@ -145,51 +160,32 @@ told-broken ok t q e h = not-false (isBroken (walkTable t q)) (sym e ∙ h)
 pub told-whole : (ok : Bool) (t : List ℕ) (q : Query) → ok ≡ not (isBroken (walkTable t q)) → ok ≡ true → isBroken (walkTable t q) ≡ false
 told-whole ok t q e h = not-true (isBroken (walkTable t q)) (sym e ∙ h)
 
--- Report, whose arguments the code has as the machine holds them
-module _ (x1 x2 y a b c : ℤ) (same1 : a ≡ x1) (same2 : b ≡ x2) (same3 : c ≡ y) (t out map : List ℕ) where
-  same : reportTable t a b c ≡ reportTable t x1 x2 y
-  same = rw (same1, same2, same3)
+-- Report, counted
+module _ (x1 x2 y : ℤ) (t out map : List ℕ) {seen : List ℕ} {s : Sum} (e : tableSized (length t) ≡ true) (f : length map ≡ 512) (g : TableCounted t (query x1 x2 y) seen s) (r : Answer) where
+  fine : earlyNumber (withOutput t out map) (report x1 x2 y) ≡ 0
+  fine = number-fine (withOutput t out map) (report x1 x2 y) e (eq-eqb (length map) 512 f) refl
 
-  made : (r : Answer) (out′ map′ : List ℕ) → QueryPost (report x1 x2 y) (reportTable t a b c) t out map r out′ map′ → ReportPost x1 x2 y t out map r out′ map′
-  made r out′ map′ p = subst (λ (w : Walk). QueryPost (report x1 x2 y) w t out map r out′ map′) same p
+  whole : s .ok ≡ true → isBroken (reportTable t x1 x2 y) ≡ false
+  whole h = report-whole t x1 x2 y ∙ told-whole (s .ok) t (query x1 x2 y) (g .ok) h
 
-  pub report-broken : (r : Answer) (ok : Bool) → tableSized (length t) ≡ true → length map ≡ 512 → ok ≡ not (isBroken (walkTable t (query a b c))) → ok ≡ false → r ≡ answer 3 0
-      → ReportPost x1 x2 y t out map r out map
-  report-broken r ok e f k h g =
-      made r out map
-      (query-broken (report x1 x2 y) (reportTable t a b c) t out map e (eq-eqb (length map) 512 f) r (report-whole t a b c ∙ told-broken ok t (query a b c) k h) g)
+  many : s .ok ≡ true → s .tally .spots ≡ length (spots (reportTable t x1 x2 y))
+  many h = g .spots h ∙ sym (report-length t x1 x2 y)
 
-  pub report-many : (r : Answer) (ok : Bool) (n : ℕ) → tableSized (length t) ≡ true → length map ≡ 512 → ok ≡ not (isBroken (walkTable t (query a b c))) → ok ≡ true
-      → n ≡ length (spots (walkTable t (query a b c))) → length out / 12 < n → r ≡ answer 5 n
-      → ReportPost x1 x2 y t out map r out map
-  report-many r ok n e f k h z l g =
-      let many : n ≡ length (spots (reportTable t a b c)) = z ∙ sym (report-length t a b c) in
-      made r out map
-      (query-many (report x1 x2 y) (reportTable t a b c) t out map e (eq-eqb (length map) 512 f) r (report-whole t a b c ∙ told-whole ok t (query a b c) k h)
-      (subst (λ (i : ℕ). length out / 12 < i) many l)
-      (g ∙ ap (answer 5) many))
+  pub report-broken : s .ok ≡ false → r ≡ answer 3 0 → ReportPost x1 x2 y t out map r out map
+  report-broken h a =
+      walk-broken (reportTable t x1 x2 y) out map fine r (report-whole t x1 x2 y ∙ told-broken (s .ok) t (query x1 x2 y) (g .ok) h) a
 
-  pub report-given : (r : Answer) (ok : Bool) (n : ℕ) (out′ map′ : List ℕ) → tableSized (length t) ≡ true → length map ≡ 512 → ok ≡ not (isBroken (walkTable t (query a b c)))
-      → ok ≡ true
-      → n ≡ length (spots (walkTable t (query a b c))) → n ≤ length out / 12 → r ≡ answer 0 n
-      → out′ ≡ outputLeft 0 (spots (reportTable t a b c)) out
-      → map′ ≡ readMap (blocksRead (walkTable t (query a b c)))
+  pub report-many : s .ok ≡ true → length out / 12 < s .tally .spots → r ≡ answer 5 (s .tally .spots) → ReportPost x1 x2 y t out map r out map
+  report-many h l a =
+      walk-many (reportTable t x1 x2 y) out map fine r (whole h) (subst (λ (i : ℕ). length out / 12 < i) (many h) l) (a ∙ ap (answer 5) (many h))
+
+  pub report-given : (out′ map′ : List ℕ) → s .ok ≡ true → s .tally .spots ≤ length out / 12 → r ≡ answer 0 (s .tally .spots) → out′ ≡ written (spots (reportTable t x1 x2 y)) out
+      → map′ ≡ seen
       → ReportPost x1 x2 y t out map r out′ map′
-  unfolding outputLeft
-  report-given r ok n out′ map′ e f k h z l g o m =
-      let many : n ≡ length (spots (reportTable t a b c)) = z ∙ sym (report-length t a b c) in
-      made r out′ map′
-      (query-given (report x1 x2 y) (reportTable t a b c) t out map e (eq-eqb (length map) 512 f) r out′ map′ (report-whole t a b c ∙ told-whole ok t (query a b c) k h)
-      (subst (λ (i : ℕ). i ≤ length out / 12) many l)
-      (g ∙ ap (answer 0) many)
-      o
-      (m ∙ sym (ap readMap (report-blocks t a b c))))
+  report-given out′ map′ h l a o m =
+      walk-given (reportTable t x1 x2 y) out map fine r out′ map′ (whole h) (subst (λ (i : ℕ). i ≤ length out / 12) (many h) l) (a ∙ ap (answer 0) (many h)) o
+      (m ∙ g .marks h ∙ sym (ap readMap (report-blocks t x1 x2 y)))
 
--- a query made of numbers as the machine holds them
-pub query-same : (x1 x2 y a b d : ℤ) (q : Query) → a ≡ x1 → b ≡ x2 → d ≡ y → q ≡ query a b d → q ≡ query x1 x2 y
-query-same x1 x2 y a b d q e f g h = rw (e, f, g) at h
-
--- the map that an accepted Report leaves
-pub map-is : (from to to′ due : List ℕ) → length from ≡ 512 → length to ≡ 512 → from ≡ due → to′ ≡ take 512 from ++ drop 512 to → to′ ≡ due
-map-is from to to′ due f t e h =
-    h ∙ over-all (take 512 from) to 512 (omega arith) ∙ take-all 512 from (omega arith) ∙ e
+-- the map that an accepted call leaves
+pub map-is : (from to to′ : List ℕ) → length from ≡ 512 → length to ≡ 512 → to′ ≡ take 512 from ++ drop 512 to → to′ ≡ from
+map-is from to to′ f t h = h ∙ over-all (take 512 from) to 512 (omega arith) ∙ take-all 512 from (omega arith)

@@ -22,8 +22,9 @@ use Rattle.revise.specs.Numbers.{addNumber}
 use Rattle.revise.specs.Revising.{Lent, Revised}
 use Rattle.revise.proofs.Calls.{two-ways, header-breaks}
 use Rattle.table.specs.Calls.{Call, add, withdraw, kind}
-use Rattle.table.specs.Answers.{withScratch, lent, earlyNumber, outcomes}
+use Rattle.table.specs.Answers.{withScratch, lent, fewEnough, earlyNumber, outcomes}
 use Rattle.table.specs.Updates.{scratchLeft, UpdatePost, ChangePost, AddPost, WithdrawPost}
+use Rattle.table.proofs.Answering.{number-short, number-lent, number-fine}
 
 -- ---- any call that changes the table
 
@@ -32,16 +33,6 @@ number-is a = ap (λ (x : Answer). x .number) a
 
 pub detail-is : {r : Answer} {n : ℕ} → r ≡ answer n 0 → r .detail ≡ 0
 detail-is a = ap (λ (x : Answer). x .detail) a
-
-module _ (c : Call) (t w : List ℕ) (e : tableSized (length t) ≡ false) where
-  pub number-short : earlyNumber (withScratch t w) c ≡ 1
-  unfolding earlyNumber
-  number-short = rw e
-
-module _ (c : Call) (t w : List ℕ) (e : tableSized (length t) ≡ true) where
-  pub number-lent : lent (withScratch t w) (kind c) ≡ false → earlyNumber (withScratch t w) c ≡ 2
-  unfolding earlyNumber
-  number-lent h = rw (e, h)
 
 module _ (c : Call) (due : Answer) (after : ℕ → Option ℕ) (t w : List ℕ) (r : Answer) where
   -- refused by the lengths: everything is as it was
@@ -62,12 +53,12 @@ module _ (c : Call) (due : Answer) (after : ℕ → Option ℕ) (t w : List ℕ)
 
   pub update-short : tableSized (length t) ≡ false → r ≡ answer 1 0 → UpdatePost c due after t w r t w
   unfolding scratchLeft
-  update-short e a = update-refused 1 (λ h. omega arith) (number-short c t w e) refl a
+  update-short e a = update-refused 1 (λ h. omega arith) (number-short (withScratch t w) c e) refl a
 
   -- the scratch is too short
   pub update-lent : tableSized (length t) ≡ true → lent (withScratch t w) (kind c) ≡ false → r ≡ answer 2 0 → UpdatePost c due after t w r t w
   unfolding scratchLeft
-  update-lent e h a = update-refused 2 (λ x. omega arith) (number-lent c t w e h) refl a
+  update-lent e h a = update-refused 2 (λ x. omega arith) (number-lent (withScratch t w) c e h) refl a
 
   change-refused : (j n : ℕ) → n ≢ 0 → n ≢ 4 → earlyNumber (withScratch t w) c ≡ n → r ≡ answer n 0 → UpdatePost c due after t w r t w
       → ChangePost c j due after t w r t w
@@ -82,16 +73,15 @@ module _ (c : Call) (due : Answer) (after : ℕ → Option ℕ) (t w : List ℕ)
       }
 
   pub change-short : (j : ℕ) → tableSized (length t) ≡ false → r ≡ answer 1 0 → ChangePost c j due after t w r t w
-  change-short j e a = change-refused j 1 (λ x. omega arith) (λ x. omega arith) (number-short c t w e) a (update-short e a)
+  change-short j e a = change-refused j 1 (λ x. omega arith) (λ x. omega arith) (number-short (withScratch t w) c e) a (update-short e a)
 
   pub change-lent : (j : ℕ) → tableSized (length t) ≡ true → lent (withScratch t w) (kind c) ≡ false → r ≡ answer 2 0 → ChangePost c j due after t w r t w
-  change-lent j e h a = change-refused j 2 (λ x. omega arith) (λ x. omega arith) (number-lent c t w e h) a (update-lent e h a)
+  change-lent j e h a = change-refused j 2 (λ x. omega arith) (λ x. omega arith) (number-lent (withScratch t w) c e h) a (update-lent e h a)
 
   -- the lengths are right
-  module _ {t′ w₁ : List ℕ} {j n : ℕ} (l : Lent t w) (asks : lent (withScratch t w) (kind c) ≡ leb (length t) (length w)) (plain : due .detail ≡ 0) (g : Revised t t′ w w₁ j (due .number) (outcomes c) after n) (a : r ≡ answer n 0) where
+  module _ {t′ w₁ : List ℕ} {j n : ℕ} (l : Lent t w) (asks : lent (withScratch t w) (kind c) ≡ leb (length t) (length w)) (few : fewEnough (kind c) ≡ true) (plain : due .detail ≡ 0) (g : Revised t t′ w w₁ j (due .number) (outcomes c) after n) (a : r ≡ answer n 0) where
     fine : earlyNumber (withScratch t w) c ≡ 0
-    unfolding earlyNumber
-    fine = rw (l .sized, asks, le-leb (length t) (length w) (l .room))
+    fine = number-fine (withScratch t w) c (l .sized) (asks ∙ le-leb (length t) (length w) (l .room)) few
 
     revised-post : {w′ : List ℕ} → w′ ≡ scratchLeft (length t) n w → ChangePost c j due after t w r t′ w′
     revised-post left =
@@ -151,10 +141,10 @@ module _ (place rank : ℤ) (track : ℕ) (t w : List ℕ) (r : Answer) where
     of-key = subst (λ (i : ℕ). Revised t t′ w w₁ i (addNumber (length t) (liveCount t) (isLive (live t i))) (0 ∷ 3 ∷ 4 ∷ []) (withKey i (some track) (live t)) n) e g
 
     pub add-full : n ≡ 4 → r ≡ answer 4 0 → AddPost place rank track t w r t′ w₁
-    add-full f a = change-full (add place rank track) _ _ t w r l refl refl of-key (a ∙ ap (λ (i : ℕ). answer i 0) (sym f)) f
+    add-full f a = change-full (add place rank track) _ _ t w r l refl refl refl of-key (a ∙ ap (λ (i : ℕ). answer i 0) (sym f)) f
 
     pub add-ends : {w′ : List ℕ} → r ≡ answer n 0 → n ≢ 4 → w′ ≡ replicate (length t) 0 ++ drop (length t) w₁ → AddPost place rank track t w r t′ w′
-    add-ends a d cleared = change-ends (add place rank track) _ _ t w r l refl refl of-key a (three-ways n d (g .numbers)) cleared
+    add-ends a d cleared = change-ends (add place rank track) _ _ t w r l refl refl refl of-key a (three-ways n d (g .numbers)) cleared
 
 -- ---- Withdraw
 
@@ -168,4 +158,4 @@ module _ (place rank : ℤ) (t w : List ℕ) (r : Answer) where
   pub withdraw-ends : {t′ w₁ w′ : List ℕ} {n k : ℕ} → Lent t w → k ≡ key place rank → Revised t t′ w w₁ k 0 (0 ∷ 3 ∷ []) (withKey k none (live t)) n → r ≡ answer n 0
       → w′ ≡ replicate (length t) 0 ++ drop (length t) w₁ → WithdrawPost place rank t w r t′ w′
   withdraw-ends {t′} {w₁} {w′} {n} {k} l e g a cleared =
-      change-ends (withdraw place rank) _ _ t w r l refl refl (subst (λ (i : ℕ). Revised t t′ w w₁ i 0 (0 ∷ 3 ∷ []) (withKey i none (live t)) n) e g) a (two-ways n (g .numbers)) cleared
+      change-ends (withdraw place rank) _ _ t w r l refl refl refl (subst (λ (i : ℕ). Revised t t′ w w₁ i 0 (0 ∷ 3 ∷ []) (withKey i none (live t)) n) e g) a (two-ways n (g .numbers)) cleared

@@ -1,6 +1,4 @@
-pub mod Reports
 pub mod Answering
-pub mod Reporting
 pub mod Rebuilding
 pub mod Changes
 pub mod Topping

@@ -20,7 +20,8 @@ use Rattle.rebuild_theory.proofs.Rebuilt.{rebuilt-sound, rebuilt-spots, rebuilt
 use Rattle.table.specs.Calls.{rebuild, updates}
 use Rattle.table.specs.Answers.{withScratch, lent, earlyNumber, outcomes}
 use Rattle.table.specs.Updates.{scratchLeft, UpdatePost, RebuildPost}
-use Rattle.table.proofs.Changes.{number-is, detail-is, number-short, number-lent, update-short, update-lent}
+use Rattle.table.proofs.Answering.{number-short, number-lent, number-fine}
+use Rattle.table.proofs.Changes.{number-is, detail-is, update-short, update-lent}
 use Rattle.renew.specs.Layable.{layable}
 use Rattle.renew.specs.Renewed.{Renewed}
 use Rattle.renew.proofs.Laying.{laid-header}
@@ -44,19 +45,18 @@ module _ (t w : List ℕ) (r : Answer) where
       }
 
   pub rebuild-short : tableSized (length t) ≡ false → r ≡ answer 1 0 → RebuildPost t w r t w
-  rebuild-short e a = rebuild-refused 1 (λ x. omega arith) (number-short rebuild t w e) a (update-short rebuild _ (live t) t w r e a)
+  rebuild-short e a = rebuild-refused 1 (λ x. omega arith) (number-short (withScratch t w) rebuild e) a (update-short rebuild _ (live t) t w r e a)
 
   pub rebuild-lent : tableSized (length t) ≡ true → length w < length t → r ≡ answer 2 0 → RebuildPost t w r t w
   rebuild-lent e h a =
       let short : lent (withScratch t w) updates ≡ false = lt-leb (length t) (length w) h in
-      rebuild-refused 2 (λ x. omega arith) (number-lent rebuild t w e short) a (update-lent rebuild _ (live t) t w r e short a)
+      rebuild-refused 2 (λ x. omega arith) (number-lent (withScratch t w) rebuild e short) a (update-lent rebuild _ (live t) t w r e short a)
 
 -- the lengths are right: laid out anew, or a rule is broken, and then the scratch is cleared
 module _ (t t′ w w′ w″ : List ℕ) (r : Answer) (ok : Bool) (e : tableSized (length t) ≡ true) (l : length t ≤ length w) (g : Renewed t t′ w w′ (liveSpots t) true ok)
     (cleared : w″ ≡ replicate (length t) 0 ++ drop (length t) w′) where
   fine : asked t w ≡ 0
-  unfolding earlyNumber
-  fine = rw (e, le-leb (length t) (length w) l)
+  fine = number-fine (withScratch t w) rebuild e (le-leb (length t) (length w) l) refl
 
   left : w″ ≡ replicate (length t) 0 ++ drop (length t) w
   left = cleared ∙ ap (λ (x : List ℕ). replicate (length t) 0 ++ x) (g .rest)

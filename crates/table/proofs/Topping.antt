@@ -4,7 +4,7 @@ use mathlib.Core.Path.{_≡_, refl, ap, ap₂, sym, subst, _∙_}
 use mathlib.Core.Logic.{⊎-elim}
 use mathlib.Core.Bool.{Bool, true, false, cond}
 use mathlib.Core.List.{List, [], _∷_, _++_, List·Memᴰ, List·Memᴰ·not-nil}
-use Prim.Native.Nat.{ℕ, zero, suc, _+_, _*_, _/_, _≤_, _<_}
+use Prim.Native.Nat.{ℕ, zero, suc, _*_, _/_, _≤_, _<_}
 use native.Mathlib.Omega.{arith}
 use lib.ListN.{length, take, drop, replicate}
 use lib.Seq.{take-all, take-at}
@@ -34,35 +34,24 @@ use Rattle.tree.proofs.BestFirstSums.{sum}
 use Rattle.tree.proofs.BestFirstTop.{Done, broken-head}
 use Rattle.top.specs.Runs.{Ended, Based}
 use Rattle.table.specs.Calls.{top}
-use Rattle.table.specs.Answers.{lengths, earlyNumber, outputLeft}
-use Rattle.table.specs.Queries.{QueryPost, TopPost}
+use Rattle.table.specs.Answers.{withOutput, earlyNumber, outputLeft}
+use Rattle.table.specs.Queries.{TopPost}
 use Rattle.table.specs.NoneGiven.{NoneGiven}
 use Rattle.table.specs.TopSizes.{Gives}
-use Rattle.table.proofs.Answering.{query-short, query-lent, query-broken, query-many, query-given}
+use Rattle.table.proofs.Answering.{number-short, number-lent, number-fine, walk-early, walk-broken, walk-many, walk-given}
 
 module _ (x1 x2 : ℤ) (k : ℕ) (t out map : List ℕ) where
   -- ---- the lengths
 
-  number-short : tableSized (length t) ≡ false → earlyNumber (lengths t out map []) (top x1 x2 k) ≡ 1
-  unfolding earlyNumber
-  number-short e = rw e
-
-  number-lent : tableSized (length t) ≡ true → eqb (length map) 512 ≡ false → earlyNumber (lengths t out map []) (top x1 x2 k) ≡ 2
-  unfolding earlyNumber
-  number-lent e f = rw (e, f)
-
-  number-fine : tableSized (length t) ≡ true → eqb (length map) 512 ≡ true → earlyNumber (lengths t out map []) (top x1 x2 k) ≡ 0
-  unfolding earlyNumber
-  number-fine e f = rw (e, f)
+  fine : tableSized (length t) ≡ true → eqb (length map) 512 ≡ true → earlyNumber (withOutput t out map) (top x1 x2 k) ≡ 0
+  fine e f = number-fine (withOutput t out map) (top x1 x2 k) e f refl
 
   -- refused by the lengths
-  refused-lengths : (r : Answer) (m : ℕ) → earlyNumber (lengths t out map []) (top x1 x2 k) ≡ m → 0 < m → m < 3 → r ≡ answer m 0
-      → QueryPost (top x1 x2 k) (topTable t x1 x2 k) t out map r out map
-      → TopPost x1 x2 k t out map r out map
-  refused-lengths r m e some few a p =
-      let n : r .number ≡ m = ap (λ (x : Answer). x .number) a in
+  top-early : (m : ℕ) (r : Answer) → earlyNumber (withOutput t out map) (top x1 x2 k) ≡ suc m → m < 2 → r ≡ answer (suc m) 0 → TopPost x1 x2 k t out map r out map
+  top-early m r e few a =
+      let n : r .number ≡ suc m = ap (λ (x : Answer). x .number) a in
       record {
-        exact = λ h. p;
+        exact = λ h. walk-early (topTable t x1 x2 k) out map m r e a;
         byLengths = λ h. a ∙ ap (λ (i : ℕ). answer i 0) (sym e);
         refusals = λ h. let z : ⊥ = omega arith in absurd z;
         ruleBroken = λ h. let z : ⊥ = omega arith in absurd z;
@@ -72,10 +61,10 @@ module _ (x1 x2 : ℤ) (k : ℕ) (t out map : List ℕ) where
       }
 
   pub top-short : (r : Answer) → tableSized (length t) ≡ false → r ≡ answer 1 0 → TopPost x1 x2 k t out map r out map
-  top-short r e a = refused-lengths r 1 (number-short e) (omega arith) (omega arith) a (query-short (top x1 x2 k) (topTable t x1 x2 k) t out map r e a)
+  top-short r e a = top-early 0 r (number-short (withOutput t out map) (top x1 x2 k) e) (omega arith) a
 
   pub top-lent : (r : Answer) → tableSized (length t) ≡ true → eqb (length map) 512 ≡ false → r ≡ answer 2 0 → TopPost x1 x2 k t out map r out map
-  top-lent r e f a = refused-lengths r 2 (number-lent e f) (omega arith) (omega arith) a (query-lent (top x1 x2 k) (topTable t x1 x2 k) t out map r e f a)
+  top-lent r e f a = top-early 1 r (number-lent (withOutput t out map) (top x1 x2 k) e f) (omega arith) a
 
   module _ (e : tableSized (length t) ≡ true) (f : eqb (length map) 512 ≡ true) where
     table-broken : topWalk t x1 x2 k ≡ broken → isBroken (topTable t x1 x2 k) ≡ true
@@ -87,8 +76,8 @@ module _ (x1 x2 : ℤ) (k : ℕ) (t out map : List ℕ) where
     top-broken r h a =
         let n : r .number ≡ 3 = ap (λ (x : Answer). x .number) a in
         record {
-          exact = λ z. query-broken (top x1 x2 k) (topTable t x1 x2 k) t out map e f r (table-broken h) a;
-          byLengths = λ z. absurd (z (number-fine e f));
+          exact = λ z. walk-broken (topTable t x1 x2 k) out map (fine e f) r (table-broken h) a;
+          byLengths = λ z. absurd (z (fine e f));
           refusals = λ z. ap (λ (i : ℕ). has i (0 ∷ 3 ∷ 5 ∷ [])) n;
           ruleBroken = λ z. ap (λ (x : Answer). x .detail) a;
           tooMany = λ z. let y : ⊥ = omega arith in absurd y;
@@ -111,8 +100,8 @@ module _ (x1 x2 : ℤ) (k : ℕ) (t out map : List ℕ) where
         let m = d .many in
         let i : r .number ≡ 5 = ap (λ (x : Answer). x .number) a in
         record {
-          exact = λ z. query-many (top x1 x2 k) (topTable t x1 x2 k) t out map e f r (table-whole (d .intact)) (subst (λ (j : ℕ). length out / 12 < j) m l) (a ∙ ap (answer 5) m);
-          byLengths = λ z. absurd (z (number-fine e f));
+          exact = λ z. walk-many (topTable t x1 x2 k) out map (fine e f) r (table-whole (d .intact)) (subst (λ (j : ℕ). length out / 12 < j) m l) (a ∙ ap (answer 5) m);
+          byLengths = λ z. absurd (z (fine e f));
           refusals = λ z. ap (λ (j : ℕ). has j (0 ∷ 3 ∷ 5 ∷ [])) i;
           ruleBroken = λ z. let y : ⊥ = omega arith in absurd y;
           tooMany = λ z. let g = ap (λ (x : Answer). x .detail) a in omega arith;
@@ -149,10 +138,10 @@ module _ (x1 x2 : ℤ) (k : ℕ) (t out map : List ℕ) where
         record {
           exact = λ z.
               let same : given ≡ spots (topTable t x1 x2 k) = d .same z in
-              query-given (top x1 x2 k) (topTable t x1 x2 k) t out map e f r out′ map′ (table-whole (d .intact)) (subst (λ (j : ℕ). j ≤ length out / 12) m l) (a ∙ ap (answer 0) m)
+              walk-given (topTable t x1 x2 k) out map (fine e f) r out′ map′ (table-whole (d .intact)) (subst (λ (j : ℕ). j ≤ length out / 12) m l) (a ∙ ap (answer 0) m)
               (o ∙ ap (λ (ss : List Spot). spotsBytes ss ++ drop (12 * length ss) out) same)
               (w ∙ sym (d .map));
-          byLengths = λ z. absurd (z (number-fine e f));
+          byLengths = λ z. absurd (z (fine e f));
           refusals = λ z. ap (λ (j : ℕ). has j (0 ∷ 3 ∷ 5 ∷ [])) i;
           ruleBroken = λ z. let y : ⊥ = omega arith in absurd y;
           tooMany = λ z. let y : ⊥ = omega arith in absurd y;

@@ -1,7 +1,7 @@
--- "The five numbers": what a call answers, and what it leaves of the output and the read map.
+-- "The five numbers", and those that requests add: what a call answers, and what it leaves of the output, the read map and the counts.
 -- Assumes nothing.
 use Prim.Native.Nat.{ℕ, zero, suc, _*_, _/_}
-use mathlib.Core.Bool.{Bool, true, cond}
+use mathlib.Core.Bool.{Bool, true, cond, _&&_}
 use mathlib.Core.List.{List, [], _∷_, _++_}
 use lib.ListN.{length, drop}
 use lib.Dec.{ltb, leb, eqb}
@@ -11,34 +11,47 @@ use Rattle.block.specs.declared.Answer.{Answer}
 use Rattle.block.specs.Answers.{answer}
 use Rattle.block.specs.Table.{tableSized, mapBytes}
 use Rattle.tree.specs.ReadMap.{readMap}
-use Rattle.table.specs.Calls.{Call, format, add, withdraw, report, top, count, check, rebuild, Kind, makes, updates, queries, tells, kind, Lengths}
+use Rattle.table.specs.Calls.{Call, format, add, withdraw, report, top, count, check, rebuild, reportMany, Kind, makes, updates, queries, queriesEach, tells, kind, Lengths}
 
-abbrev pub lengths : List ℕ → List ℕ → List ℕ → List ℕ → Lengths
-lengths t out map scratch = record { table = length t; output = length out; readMap = length map; scratch = length scratch }
+abbrev pub lengths : List ℕ → List ℕ → List ℕ → List ℕ → List ℕ → Lengths
+lengths t out map scratch counts =
+    record { table = length t; output = length out; readMap = length map; scratch = length scratch; counts = length counts }
 
--- of a call that is lent nothing beside the table, a work area, or an output and a read map
+-- of a call that is lent nothing beside the table, a work area, an output and a read map, or these and a list of counts
 abbrev pub ofTable : List ℕ → Lengths
-ofTable t = lengths t [] [] []
+ofTable t = lengths t [] [] [] []
 
 abbrev pub withScratch : List ℕ → List ℕ → Lengths
-withScratch t w = lengths t [] [] w
+withScratch t w = lengths t [] [] w []
 
 abbrev pub withOutput : List ℕ → List ℕ → List ℕ → Lengths
-withOutput t out map = lengths t out map []
+withOutput t out map = lengths t out map [] []
 
--- 2: "the read map isn't 512 bytes, or the work area is shorter than the table", for the calls that are lent them
+abbrev pub withCounts : List ℕ → List ℕ → List ℕ → List ℕ → Lengths
+withCounts t out map counts = lengths t out map [] counts
+
+-- 2: "the read map isn't 512 bytes, or the work area is shorter than the table", for the calls that are lent them; "one a range (another length gives 2)"
 abbrev pub lent : Lengths → Kind → Bool
 lent l makes = true
 lent l updates = leb (l .table) (l .scratch)
 lent l queries = eqb (l .readMap) mapBytes
+lent l (queriesEach n) = eqb (l .readMap) mapBytes && eqb (l .counts) n
 lent l tells = true
 
--- the number that lengths and arguments alone decide, before any byte of the table is read; "The order is that of the table": 1, "the table is not a whole
--- number of blocks, or has under 9 or over 4,096", then 2; or 0
-unfoldable pub earlyNumber : Lengths → Call → ℕ
-earlyNumber l c = cond (tableSized (l .table)) (cond (lent l (kind c)) 0 2) 1
+-- 6: "if there are more than 64 ranges"
+abbrev pub fewEnough : Kind → Bool
+fewEnough makes = true
+fewEnough updates = true
+fewEnough queries = true
+fewEnough (queriesEach n) = leb n 64
+fewEnough tells = true
 
--- "1, detail 0", "2, detail 0": an answer by that number where it refuses, else the other
+-- the number that lengths and arguments alone decide, before any byte of the table is read; "The order is that of the table": 1, "the table is not a whole
+-- number of blocks, or has under 9 or over 4,096", then 2; "It refuses with 6, after 2 and before 3"; or 0
+unfoldable pub earlyNumber : Lengths → Call → ℕ
+earlyNumber l c = cond (tableSized (l .table)) (cond (lent l (kind c)) (cond (fewEnough (kind c)) 0 6) 2) 1
+
+-- "1, detail 0", "2, detail 0", "6 and every later number .. where no more is said, have detail 0": an answer by that number where it refuses, else the other
 unfoldable pub unlessRefused : ℕ → Answer → Answer
 unlessRefused zero r = r
 unlessRefused (suc n) r = answer (suc n) 0
@@ -57,6 +70,11 @@ unfoldable pub mapLeft : ℕ → List ℕ → List ℕ → List ℕ
 mapLeft zero blocks map = readMap blocks
 mapLeft (suc n) blocks map = map
 
+-- the counts are written where the call is accepted, one a range, and left as lent after a refusal
+unfoldable pub countsLeft : ℕ → List ℕ → List ℕ → List ℕ
+countsLeft zero found counts = found
+countsLeft (suc n) found counts = counts
+
 -- what a call may answer once it is not refused so, whatever the table holds: "Format gives only 1, as does Check"
 abbrev pub outcomes : Call → List ℕ
 outcomes format = 0 ∷ []
@@ -67,3 +85,4 @@ outcomes (top x1 x2 k) = 0 ∷ 3 ∷ 5 ∷ []
 outcomes count = 0 ∷ 3 ∷ []
 outcomes check = 0 ∷ []
 outcomes rebuild = 0 ∷ 3 ∷ []
+outcomes (reportMany rs) = 0 ∷ 3 ∷ 5 ∷ []

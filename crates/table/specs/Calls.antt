@@ -1,11 +1,15 @@
--- The eight calls with their arguments, what they are lent, and its lengths: all that the table's definitions share with the model.
+-- The calls with their arguments, what they are lent, and its lengths: all that the table's definitions share with the model.
 -- Assumes nothing.
 use Prim.Native.Nat.{ℕ}
 use mathlib.Core.Bool.{Bool, true, false, _&&_}
+use mathlib.Core.List.{List}
 use lib.IntN.{ℤ}
+use lib.ListN.{length}
+use Rattle.octets.specs.Lists.{every}
 use Rattle.spot.specs.Keys.{signed32, unsigned32}
+use Rattle.ranges.specs.declared.Range.{Range}
 
--- "Format, Add, Withdraw, Report, Top, Count, Check, Rebuild"
+-- "Format, Add, Withdraw, Report, Top, Count, Check, Rebuild"; request 2026-01, "Many ranges in one call"
 pub data Call : Type 0 where
   format : Call
   add : ℤ → ℤ → ℕ → Call
@@ -15,13 +19,16 @@ pub data Call : Type 0 where
   count : Call
   check : Call
   rebuild : Call
+  reportMany : List Range → Call
 
--- "the lengths of table, output, read map and work area" (the scratch). A call that is not lent one of them has any number there.
+-- "the lengths of table, output, read map and work area" (the scratch), and of the "lent list of 32-bit numbers". A call that is not lent one of them has any
+-- number there.
 pub record Lengths : Type 0 where
   pub table : ℕ
   pub output : ℕ
   pub readMap : ℕ
   pub scratch : ℕ
+  pub counts : ℕ
 
 -- what a call is lent beside the table, and whether it may change the table: all that follows from this is said of the kind
 pub data Kind : Type 0 where
@@ -31,6 +38,8 @@ pub data Kind : Type 0 where
   updates : Kind
   -- an output and a read map: "Report and Top write a map of 512 bytes"; it may not
   queries : Kind
+  -- an output, a read map and a list of counts, for so many ranges; it may not
+  queriesEach : ℕ → Kind
   -- nothing; it may not
   tells : Kind
 
@@ -43,32 +52,52 @@ kind (top x1 x2 k) = queries
 kind count = tells
 kind check = tells
 kind rebuild = updates
+kind (reportMany rs) = queriesEach (length rs)
 
 abbrev pub takesOutput : Kind → Bool
 takesOutput makes = false
 takesOutput updates = false
 takesOutput queries = true
+takesOutput (queriesEach n) = true
 takesOutput tells = false
 
 abbrev pub takesScratch : Kind → Bool
 takesScratch makes = false
 takesScratch updates = true
 takesScratch queries = false
+takesScratch (queriesEach n) = false
 takesScratch tells = false
+
+-- "The counts go to a lent list of 32-bit numbers"
+abbrev pub takesCounts : Kind → Bool
+takesCounts makes = false
+takesCounts updates = false
+takesCounts queries = false
+takesCounts (queriesEach n) = true
+takesCounts tells = false
 
 -- "Report, Top, Count and Check never change the table"
 abbrev pub mayChange : Kind → Bool
 mayChange makes = true
 mayChange updates = true
 mayChange queries = false
+mayChange (queriesEach n) = false
 mayChange tells = false
 
 -- the calls that hand out spots
 abbrev pub isQuery : Call → Bool
 isQuery c = takesOutput (kind c)
 
+-- the calls that hand out counts
+abbrev pub isCounting : Call → Bool
+isCounting c = takesCounts (kind c)
+
+-- a range's three numbers within their 32 bits
+unfoldable pub rangeFits : Range → Bool
+rangeFits r = signed32 (r .x1) && signed32 (r .x2) && signed32 (r .y)
+
 -- "A spot has a place and a rank, both signed 32-bit, and a track number, unsigned 32-bit"; "Report(x1, x2, y), all signed 32-bit"; "Top(x1, x2, k), k
--- unsigned 32-bit"
+-- unsigned 32-bit"; "each with two places and a lowest rank"
 unfoldable pub argumentsFit : Call → Bool
 argumentsFit format = true
 argumentsFit (add place rank track) = signed32 place && signed32 rank && unsigned32 track
@@ -78,3 +107,4 @@ argumentsFit (top x1 x2 k) = signed32 x1 && signed32 x2 && unsigned32 k
 argumentsFit count = true
 argumentsFit check = true
 argumentsFit rebuild = true
+argumentsFit (reportMany rs) = every rangeFits rs

@@ -1,7 +1,6 @@
 pub mod Calls
 pub mod Answers
 pub mod Queries
-pub mod Reports
 pub mod Updates
 pub mod NoneGiven
 pub mod TopSizes

@@ -1,5 +1,5 @@
--- What Report, Top, Count and Check promise, for all tables, arguments and lengths. t is the table as lent; out and map are the output and the read map as
--- lent, out′ and map′ as left.
+-- What Report, Report of many ranges, Top, Count and Check promise, for all tables, arguments and lengths. t is the table as lent; out, map and counts are the
+-- output, the read map and the counts as lent, out′, map′ and counts′ as left.
 -- Assumes nothing.
 use mathlib.Core.Path.{_≡_}
 use Prim.Native.Nat.{ℕ, _/_, _<_}
@@ -10,7 +10,7 @@ use lib.IntN.{ℤ}
 use Rattle.octets.specs.Lists.{has, every, rising}
 use Rattle.octets.specs.Bitmap.{bit}
 use Rattle.spot.specs.Spots.{keys}
-use Rattle.spot.specs.Query.{topQuery, everything, wants}
+use Rattle.spot.specs.Query.{query, topQuery, everything, wants}
 use Rattle.spot.specs.declared.Spot.{Spot}
 use Rattle.spot.specs.declared.Query.{Query}
 use Rattle.block.specs.Answers.{answer}
@@ -20,24 +20,37 @@ use Rattle.tree.specs.Walk.{Walk, broken, walked, spots, blocksRead, walkTable}
 use Rattle.tree.specs.Sound.{sound}
 use Rattle.tree.specs.Report.{reportTable}
 use Rattle.tree.specs.Top.{topWalk, topTable}
-use Rattle.table.specs.Calls.{Call, report, top, count, check}
-use Rattle.table.specs.Answers.{ofTable, withOutput, earlyNumber, unlessRefused, spotsAnswer, outputLeft, mapLeft, outcomes}
+use Rattle.ranges.specs.Ranges.{forEach, countEach}
+use Rattle.ranges.specs.declared.Range.{Range}
+use Rattle.report.specs.Joined.{joined, countsOf}
+use Rattle.table.specs.Calls.{Call, report, top, count, check, reportMany}
+use Rattle.table.specs.Answers.{ofTable, withOutput, withCounts, earlyNumber, unlessRefused, spotsAnswer, outputLeft, mapLeft, countsLeft, outcomes}
 
 -- 3 where a rule is broken, else 0 or 5
 unfoldable pub walkAnswer : ℕ → Walk → Answer
 walkAnswer bytes broken = answer 3 0
 walkAnswer bytes (walked found blocks) = spotsAnswer bytes (length found)
 
--- a call that hands out the spots of the walk w and marks its blocks; the table is lent to be read
-pub record QueryPost (c : Call) (w : Walk) (t out map : List ℕ) (r : Answer) (out′ map′ : List ℕ) : Type 0 where
-  pub answered : r ≡ unlessRefused (earlyNumber (withOutput t out map) c) (walkAnswer (length out) w)
+-- a call that hands out the spots of the walk w and marks its blocks, where lengths and arguments decide the number `early`; the table is lent to be read
+pub record WalkPost (early : ℕ) (w : Walk) (out map : List ℕ) (r : Answer) (out′ map′ : List ℕ) : Type 0 where
+  pub answered : r ≡ unlessRefused early (walkAnswer (length out) w)
   pub output : out′ ≡ outputLeft (r .number) (spots w) out
   pub marks : map′ ≡ mapLeft (r .number) (blocksRead w) map
+
+abbrev pub QueryPost : Call → Walk → List ℕ → List ℕ → List ℕ → Answer → List ℕ → List ℕ → Type 0
+QueryPost c w t out map = WalkPost (earlyNumber (withOutput t out map) c) w out map
 
 -- "Report(x1, x2, y), all signed 32-bit, gives all live spots with x1 ≤ place ≤ x2 and rank ≥ y, rising in place order"; "A range whose first place is greater
 -- than its last now runs on past the door"; "Report's order is from x1 onward"
 abbrev pub ReportPost : ℤ → ℤ → ℤ → List ℕ → List ℕ → List ℕ → Answer → List ℕ → List ℕ → Type 0
 ReportPost x1 x2 y t = QueryPost (report x1 x2 y) (reportTable t x1 x2 y) t
+
+-- request 2026-01: "Up to 64 ranges, each with two places and a lowest rank, shall be answered together. The counts go to a lent list of 32-bit numbers, one a
+-- range, the spots to the output, in the order handed in, as the single reports give them"; "Refusal 5 compares the total of spots; it and the accepted call have
+-- that total as detail"
+pub record ManyPost (rs : List Range) (t counts out map : List ℕ) (r : Answer) (counts′ out′ map′ : List ℕ) : Type 0 where
+  pub handed : WalkPost (earlyNumber (withCounts t out map counts) (reportMany rs)) (joined t rs) out map r out′ map′
+  pub counted : counts′ ≡ countsLeft (r .number) (countsOf t rs) counts
 
 -- "On an unsound table a call that isn't refused still hands out only spots of its range from blocks marked read": spots that stand in P or I of such a block, a
 -- node's and not block 0
@@ -47,6 +60,17 @@ pub record HandsOut (q : Query) (t out : List ℕ) (r : Answer) (out′ map′ :
   pub detail : r .detail ≡ length given
   pub wanted : every (wants q) given ≡ true
   pub marked : (s : Spot) → List·Memᴰ s given
+      → (b : ℕ) × (bit map′ b ≡ true) × List·Memᴰ s (storeOf t b .points ++ storeOf t b .inserts) × (b ≡ 0 → ⊥)
+  pub header : bit map′ 0 ≡ true
+
+-- the same of many ranges: what is given for each is of that range
+pub record HandsOutEach (rs : List Range) (t out : List ℕ) (r : Answer) (counts′ out′ map′ : List ℕ) : Type 0 where
+  pub given : Range → List Spot
+  pub output : out′ ≡ outputLeft 0 (forEach given rs) out
+  pub detail : r .detail ≡ length (forEach given rs)
+  pub counted : counts′ ≡ countEach given rs
+  pub wanted : (x : Range) → List·Memᴰ x rs → every (wants (query (x .x1) (x .x2) (x .y))) (given x) ≡ true
+  pub marked : (x : Range) → List·Memᴰ x rs → (s : Spot) → List·Memᴰ s (given x)
       → (b : ℕ) × (bit map′ b ≡ true) × List·Memᴰ s (storeOf t b .points ++ storeOf t b .inserts) × (b ≡ 0 → ⊥)
   pub header : bit map′ 0 ≡ true
 

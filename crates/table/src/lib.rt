@@ -2,13 +2,8 @@
 ghost use mathlib.Core.Path.{_≡_};
 ghost use mathlib.Core.Bool.{true};
 ghost use lib.ListN.{length, replicate};
-ghost use Rattle.spot.specs.Spots.{spotsIn, fromOn};
-ghost use Rattle.spot.specs.Query.{query, fromOf};
 ghost use Rattle.block.specs.Answers.{answer};
 ghost use Rattle.block.specs.Table.{tableSized};
-ghost use Rattle.query.specs.Walks.{TableCounted, TableHeld};
-ghost use Rattle.table.specs.Answers.{outputLeft};
-ghost use Rattle.table.specs.Reports.{Reportable, Reported, Turnable};
 ghost use Rattle.table.specs.Queries.{ReportPost, TopPost, CountPost, CheckPost};
 ghost use Rattle.table.specs.Updates.{FormatPost, AddPost, WithdrawPost, RebuildPost};
 ghost use Rattle.table.specs.NoneGiven.{NoneGiven};
@@ -64,43 +59,6 @@ pub fn check(table: &[u8]) -> block::Answer
     }
 }
 
-// A Report counted: whether its walk is whole, the blocks read and the spots found; `seen` becomes the map of the blocks read. If the spots fit, they are at the front
-// of `few`.
-fn report_size(
-    table: &[u8],
-    x1: i32,
-    x2: i32,
-    y: i32,
-    seen: &mut [u8],
-    few: &mut [u8],
-) -> query::Sum
-    requires { ⌜ (tableSized (length (now table)) ≡ true) × (now seen ≡ replicate 512 0) ⌝ }
-    ensures { λ r. ⌜ TableCounted (now (table .entry)) (query x1 x2 y) (now (seen .exit)) r × TableHeld (now (table .entry)) (query x1 x2 y) (now (few .entry)) (now (few .exit)) r ⌝ }
-{
-    query::gather_table(table, seen, spot::make_query(x1, x2, y), few)
-}
-
-// A Report written that was counted, is whole and has room: its spots at the front of the output, which may be a part of a caller's, from x1 onward. Of a plain
-// range nothing is below x1, and nothing moves.
-fn report_into(table: &[u8], x1: i32, x2: i32, y: i32, output: &mut [u8]) -> usize
-    requires { ⌜ Reportable (query x1 x2 y) (now table) (now output) ⌝ }
-    ensures { λ r. ⌜ Reported x1 x2 y (now (table .entry)) (now (output .entry)) (now (output .exit)) r ⌝ }
-{
-    let q = spot::make_query(x1, x2, y);
-    let n = query::collect_table(table, output, q);
-    sort::from_on(output, n, spot::from_key(q));
-    n
-}
-
-// The same of n spots that a buffer holds in place order.
-fn report_held(few: &[u8], n: usize, x1: i32, x2: i32, y: i32, output: &mut [u8])
-    requires { ⌜ Turnable (now few) (now output) n ⌝ }
-    ensures { λ _. ⌜ now (output .exit) ≡ outputLeft 0 (fromOn (fromOf (query x1 x2 y)) (spotsIn (now (few .entry)) n)) (now (output .entry)) ⌝ }
-{
-    octets::copy(few, output, 12 * n);
-    sort::from_on(output, n, spot::from_key(spot::make_query(x1, x2, y)));
-}
-
 // All live spots with x1 ≤ place ≤ x2 and rank ≥ y, rising in place order. If x1 is greater than x2, the range runs on past the door: all places from x1 up, followed
 // by all places up to x2; the report begins at x1. The read map marks the blocks read.
 pub fn report(
@@ -122,7 +80,7 @@ pub fn report(
     let mut seen = [0u8; 512];
     // Nothing may be written before the answer is known: so few spots are gathered in a buffer, and more are found again.
     let mut few = [0u8; 1536];
-    let all = report_size(table, x1, x2, y, &mut seen, &mut few);
+    let all = report::size(table, x1, x2, y, &mut seen, &mut few);
     if !all.ok {
         return plain_answer(3);
     }
@@ -132,11 +90,7 @@ pub fn report(
             detail: all.tally.spots as u32,
         };
     }
-    if all.tally.spots <= 128 {
-        report_held(&few, all.tally.spots, x1, x2, y, output);
-    } else {
-        report_into(table, x1, x2, y, output);
-    }
+    report::give(table, &few, all.tally.spots, x1, x2, y, output);
     octets::copy(&seen, read_map, 512);
     block::Answer {
         number: 0,

@@ -4,6 +4,7 @@
 ghost use Prim.Native.Nat.{_+_, _≤_, _<_};
 ghost use lib.ListN.{length};
 
+mod batches;
 mod marks;
 mod shown;
 
@@ -237,13 +238,26 @@ fn print(table: &[u8], r: Row) {
     }
 }
 
-fn carry_out(table: &mut [u8], scratch: &mut [u8], marks: &mut [u8; 1024], r: Row) {
+fn carry_out(
+    table: &mut [u8],
+    scratch: &mut [u8],
+    marks: &mut [u8; 1024],
+    b: ranges::Batch,
+    r: Row,
+) {
     make_call(table, scratch, r);
     hang(table, scratch, r);
     ask(table, marks, r);
+    batches::ask(table, marks, b, r);
     write(table, marks, r);
     mark(marks, r.op);
     print(table, r);
+}
+
+// What is kept from row to row: the table's length, and the ranges that are handed in.
+struct State {
+    bytes: usize,
+    batch: ranges::Batch,
 }
 
 // < makes the table x bytes long, at most 65,536.
@@ -272,40 +286,48 @@ fn find(s: &[u8], from: usize, b: u8) -> usize
     i
 }
 
-// A line of the file on a table of so many bytes; the number after it.
+// A line of the file; what is kept after it.
 fn obey(
     line: &[u8],
     memory: &mut [u8],
     scratch: &mut [u8],
     marks: &mut [u8; 1024],
-    bytes: usize,
-) -> usize
-    requires { ⌜ (65536 ≤ length (now memory)) × (bytes ≤ 65536) ⌝ }
-    ensures { λ r. ⌜ r ≤ 65536 ⌝ }
+    s: State,
+) -> State
+    requires { ⌜ (65536 ≤ length (now memory)) × (s .bytes ≤ 65536) ⌝ }
+    ensures { λ r. ⌜ r .bytes ≤ 65536 ⌝ }
 {
     let bar = find(line, 0, b'|');
     if bar == 0 {
-        return bytes;
+        return s;
     }
     if bar == line.len() {
-        return bytes;
+        return s;
     }
     let label = &line[bar + 1..];
     say(label);
     let r = row_of(line[0], label.len() == 0, text::parse(&line[1..bar]));
-    let long = length_after(bytes, r);
-    carry_out(&mut memory[0..long], scratch, marks, r);
-    long
+    let bytes = length_after(s.bytes, r);
+    let batch = batches::hand_in(s.batch, r);
+    carry_out(&mut memory[0..bytes], scratch, marks, batch, r);
+    State { bytes, batch }
+}
+
+fn empty_state() -> State
+    ensures { λ r. ⌜ r .bytes ≤ 65536 ⌝ }
+{
+    let batch = batches::begun(0);
+    State { bytes: 0, batch }
 }
 
 fn obey_all(script: &[u8], memory: &mut [u8], scratch: &mut [u8], marks: &mut [u8; 1024])
     requires { ⌜ 65536 ≤ length (now memory) ⌝ }
 {
-    let mut bytes = 0;
+    let mut s = empty_state();
     let mut at = 0;
     while at < script.len() {
         let end = find(script, at, 10);
-        bytes = obey(&script[at..end], memory, scratch, marks, bytes);
+        s = obey(&script[at..end], memory, scratch, marks, s);
         at = end + 1;
     }
 }

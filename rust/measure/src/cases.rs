@@ -2,11 +2,11 @@
 
 use crate::clock::{now, race, Runs};
 use crate::flat;
-use crate::row::Row;
+use crate::row::{self, Row};
 use crate::sqlite::Sqlite;
 use spot_reference::{holds, make, plain, Key, Random};
-use spot_table::{add, check, count, format, rebuild, report, top, withdraw, Spot, BLOCK, MAP, SPOT};
-use std::collections::BTreeMap;
+use spot_table::{add, check, count, format, rebuild, report, report_many, top, withdraw, Range, Spot, BLOCK, MAP, MOST_RANGES, SPOT};
+use std::collections::{BTreeMap, BTreeSet};
 use std::hint::black_box;
 
 /// Laid out anew; grown from nothing by additions in no order; with changes waiting in every inner node.
@@ -56,6 +56,20 @@ fn shuffled<T>(mut list: Vec<T>, random: &mut Random) -> Vec<T> {
 
 fn ones(map: &[u8]) -> f64 {
     map.iter().map(|b| b.count_ones()).sum::<u32>().into()
+}
+
+/// Ranges all along the route at equal distances, each 1/n of it.
+fn spread(n: i32) -> Vec<Range> {
+    let step = 2 * HALF / MOST_RANGES as i32;
+    (0..MOST_RANGES as i32)
+        .map(|i| -HALF + step / 2 + i * step)
+        .map(|x| Range { x1: x - HALF / n, x2: x + HALF / n, y: i32::MIN })
+        .collect()
+}
+
+/// The single reports of the ranges, one behind the other; the number of spots.
+fn one_by_one(ranges: &[Range], out: &mut [u8], mut report: impl FnMut(&Range, &mut [u8]) -> usize) -> usize {
+    ranges.iter().fold(0, |n, r| n + report(r, &mut out[SPOT * n..]))
 }
 
 /// The blocks that differ.
@@ -113,6 +127,9 @@ impl Setting {
         for (name, places, y) in reports {
             out.push(self.report(rounds, name, places, y));
         }
+        for (name, ranges) in [(row::NARROW, spread(1000)), (row::WIDE, spread(100))] {
+            out.push(self.report_many(rounds, name, &ranges));
+        }
         for (name, places) in [("1 %", part(100)), ("10 %", part(10)), ("10 % past the door", past_door(10)), ("all", all)] {
             let held = self.live.keys().filter(|k| holds(places.0, places.1, k.0)).count();
             for (k, text) in [(10, "10"), (1000, "1,000"), (10_000, "10,000"), (u32::MAX, "all")] {
@@ -149,6 +166,36 @@ impl Setting {
             timed(|| plain::report(black_box(&self.table), x1, x2, y, e, &mut seen)),
         ];
         self.row(format!("report {name}"), n, race(rounds, contenders), [Some(marked), Some(read[0]), Some(read[1])])
+    }
+
+    /// 64 ranges in one call; each of the others, and the library's own Report, answers them one by one.
+    fn report_many(&self, rounds: usize, name: &str, ranges: &[Range]) -> Row {
+        let (mut map, mut seen, mut own, mut counts) = ([0; MAP], [0; MAP], [0; MAP], [0; MOST_RANGES]);
+        let held = |r: &Range| self.live.keys().filter(|k| holds(r.x1, r.x2, k.0)).count();
+        let room = SPOT * ranges.iter().map(held).sum::<usize>();
+        let mut outs = vec![vec![0u8; room]; 6];
+        let n = report_many(&self.table, ranges, &mut counts, &mut outs[0], &mut map).result().unwrap() as usize;
+        let [a, b, c, d, e, f] = &mut outs[..] else { unreachable!() };
+        let file = |out: &mut [u8]| one_by_one(ranges, out, |r, o| flat::report(black_box(&self.file), r.x1, r.x2, r.y, o));
+        let halved = |out: &mut [u8]| one_by_one(ranges, out, |r, o| flat::report_halved(black_box(&self.file), r.x1, r.x2, r.y, o));
+        let sqlite = |s: &Sqlite, out: &mut [u8]| one_by_one(ranges, out, |r, o| s.report(r.x1, r.x2, r.y, o));
+        let mut plain =
+            |out: &mut [u8]| one_by_one(ranges, out, |r, o| plain::report(black_box(&self.table), r.x1, r.x2, r.y, o, &mut seen).unwrap());
+        let mut single =
+            |out: &mut [u8]| one_by_one(ranges, out, |r, o| report(black_box(&self.table), r.x1, r.x2, r.y, o, &mut own).detail as usize);
+        let found = [file(b), halved(c), self.sqlite.as_ref().map_or(n, |s| sqlite(s, d)), plain(e), single(f)];
+        assert!(found == [n; 5] && a == b && a == c && (self.sqlite.is_none() || a == d) && a == e && a == f);
+        let read: BTreeSet<usize> = ranges.iter().flat_map(|r| flat::read_halved(&self.file, r.x1, r.x2)).collect();
+        let touched = [ones(&map), flat::blocks(&self.file) as f64, read.len() as f64];
+        let contenders: Contenders = vec![
+            timed(|| report_many(black_box(&self.table), ranges, &mut counts, a, &mut map)),
+            timed(|| file(b)),
+            timed(|| halved(c)),
+            self.sqlite.as_ref().and_then(|s| timed(move || sqlite(s, d))),
+            timed(|| plain(e)),
+            timed(|| single(f)),
+        ];
+        self.row(name.into(), n, race(rounds, contenders), touched.map(Some))
     }
 
     fn top(&self, rounds: usize, name: &str, (x1, x2): (i32, i32), k: u32) -> Row {

@@ -1,6 +1,7 @@
 //! The file that guides read today: spots of 12 bytes, sorted by place. Read through, or searched by halving.
 
 use spot_reference::{stretches, top_order, Key};
+use std::collections::BTreeSet;
 
 const WIDTH: usize = 12;
 /// A block of the card.
@@ -116,9 +117,14 @@ pub fn blocks(file: &[u8]) -> usize {
     file.len().div_ceil(BLOCK)
 }
 
-/// The blocks that a search by halving and the range take.
+/// The number of blocks that a search by halving and the range take.
 pub fn blocks_halved(file: &[u8], x1: i32, x2: i32) -> usize {
-    let mut read = std::collections::BTreeSet::new();
+    read_halved(file, x1, x2).len()
+}
+
+/// These blocks.
+pub fn read_halved(file: &[u8], x1: i32, x2: i32) -> BTreeSet<usize> {
+    let mut read = BTreeSet::new();
     for k in [(x1, i32::MIN), (x2, i32::MAX)] {
         let (mut lo, mut hi) = (0, file.len() / WIDTH);
         while lo < hi {
@@ -136,7 +142,7 @@ pub fn blocks_halved(file: &[u8], x1: i32, x2: i32) -> usize {
         let from = inside.as_ptr() as usize - file.as_ptr() as usize;
         read.extend(from / BLOCK..(from + inside.len()).div_ceil(BLOCK));
     }
-    read.len()
+    read
 }
 
 /// The file cut again with one spot more, or with that spot replaced.

@@ -3,8 +3,12 @@
 use crate::clock::{median, Runs};
 use std::fmt::Write;
 
-/// The library comes first; the others stand in the columns behind it.
-pub const CONTENDERS: [&str; 5] = ["library", "file", "halved", "SQLite", "plain"];
+/// The library comes first; the others stand in the columns behind it, but for the last: the library's own Report for each of many ranges.
+pub const CONTENDERS: [&str; 6] = ["library", "file", "halved", "SQLite", "plain", "single"];
+
+/// The calls with many ranges.
+pub const NARROW: &str = "64 ranges, narrow, 0.1 %";
+pub const WIDE: &str = "64 ranges, wide, 1 %";
 
 pub struct Row {
     pub blocks: usize,
@@ -59,7 +63,7 @@ impl Row {
     pub fn markdown(&self) -> String {
         let mut s = format!("| {} | {} | {} | {} ", self.blocks, self.state, self.call, fixed(self.spots as f64, 0));
         write!(s, "| {} | {} ", short(self.nanoseconds(0).unwrap() / 1e3, 3), self.spread()).unwrap();
-        for i in 1..CONTENDERS.len() {
+        for i in 1..CONTENDERS.len() - 1 {
             write!(s, "| {} ", self.ratio(i)).unwrap();
         }
         for t in self.touched {
@@ -86,7 +90,7 @@ pub const HEAD: &str =
 
 /// Ratios of the library's own calls, where the table has them.
 pub fn within(rows: &[Row]) -> String {
-    let mut s = String::from("| blocks | table | everything ÷ Count | Top of all ÷ everything | Top of all ÷ Top 10,000 | Count, µs a block | Rebuild ÷ sort and copy |\n|---|---|---|---|---|---|---|\n");
+    let mut s = String::from("| blocks | table | everything ÷ Count | Top of all ÷ everything | Top of all ÷ Top 10,000 | Count, µs a block | Rebuild ÷ sort and copy | 64 narrow ranges in one call ÷ 64 single reports | 64 ranges of 1 % ÷ 64 single reports |\n|---|---|---|---|---|---|---|---|---|\n");
     let mut kinds: Vec<(usize, &str)> = rows.iter().map(|r| (r.blocks, r.state)).collect();
     kinds.dedup();
     for (blocks, state) in kinds {
@@ -95,8 +99,9 @@ pub fn within(rows: &[Row]) -> String {
         let ratio = |a: Option<f64>, b: Option<f64>| a.zip(b).map_or(String::new(), |(a, b)| short(a / b, 2));
         let (all, count, best) = (time("report everything"), time("count"), time("top all of all"));
         let each = find("count").and_then(|r| r.touched[0]).zip(count).map_or(String::new(), |(n, ns)| short(ns / 1e3 / n, 2));
-        let sorted = find("rebuild").map_or(String::new(), |r| r.ratio(4));
-        let line = [ratio(all, count), ratio(best, all), ratio(best, time("top 10,000 of all")), each, sorted].join(" | ");
+        let beside = |call: &str, contender: usize| find(call).map_or(String::new(), |r| r.ratio(contender));
+        let tops = [ratio(best, all), ratio(best, time("top 10,000 of all"))].join(" | ");
+        let line = [ratio(all, count), tops, each, beside("rebuild", 4), beside(NARROW, 5), beside(WIDE, 5)].join(" | ");
         writeln!(s, "| {blocks} | {state} | {line} |").unwrap();
     }
     s

@@ -12,6 +12,6 @@ pub mod words;
 
 pub use explain::{faults, sound, Fault, Way, MOST_FAULTS, RULES};
 pub use layout::{top_order, Key};
-pub use range::{holds, reported, stretches};
-pub use tables::{make, read_by_report, some_spots, Entry, Made, Node, Random};
+pub use range::{holds, reported, reported_many, stretches};
+pub use tables::{make, read_by_many, read_by_report, some_spots, Entry, Made, Node, Random};
 pub use tree::{nodes, Placed};

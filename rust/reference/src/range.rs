@@ -1,4 +1,4 @@
-//! The places that a Report or a Top asks for.
+//! The places that a Report or a Top asks for, and what a Report gives of a plain list.
 
 use crate::Key;
 use std::collections::BTreeMap;
@@ -22,6 +22,17 @@ pub fn reported(live: &BTreeMap<Key, u32>, x1: i32, x2: i32, y: i32) -> Vec<(Key
         out.extend(spots.filter(|(k, _)| k.1 >= y).map(|(k, t)| (*k, *t)));
     }
     out
+}
+
+/// What a Report of many ranges gives, each of them x1, x2 and y: how many spots for each, and the spots, those of one range behind those of the other.
+pub fn reported_many(live: &BTreeMap<Key, u32>, ranges: &[(i32, i32, i32)]) -> (Vec<u32>, Vec<(Key, u32)>) {
+    let (mut counts, mut all) = (vec![], vec![]);
+    for (x1, x2, y) in ranges {
+        let own = reported(live, *x1, *x2, *y);
+        counts.push(own.len() as u32);
+        all.extend(own);
+    }
+    (counts, all)
 }
 
 #[cfg(test)]
@@ -55,5 +66,14 @@ mod tests {
         assert_eq!(given(240, 240, 0), [(240, 5), (240, 7)]);
         let two = BTreeMap::from([((0, 7), 1), ((240, 7), 2)]);
         assert_eq!(reported(&two, 240, 0, 7), [((240, 7), 2), ((0, 7), 1)]);
+    }
+
+    #[test]
+    fn reports_many() {
+        let (door, far) = (((0, 7), 1), ((240, 5), 2));
+        let live = BTreeMap::from([door, far]);
+        let given = |ranges: &[(i32, i32, i32)]| reported_many(&live, ranges);
+        assert_eq!(given(&[]), (vec![], vec![]));
+        assert_eq!(given(&[(240, 0, 5), (1, 239, 0), (0, 240, 5), (0, 240, 6)]), (vec![2, 0, 2, 1], vec![far, door, door, far, door]));
     }
 }

@@ -297,3 +297,12 @@ pub fn read_by_report(table: &[u8], x1: i32, x2: i32, y: i32) -> BTreeSet<usize>
     go(table, root(table), None, None, (x1, x2, y), &mut out);
     out
 }
+
+/// The blocks that a Report of many ranges marks: block 0, and those that any of the reports reads.
+pub fn read_by_many(table: &[u8], ranges: &[(i32, i32, i32)]) -> BTreeSet<usize> {
+    let mut out = BTreeSet::from([0]);
+    for (x1, x2, y) in ranges {
+        out.extend(read_by_report(table, *x1, *x2, *y));
+    }
+    out
+}

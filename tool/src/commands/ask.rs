@@ -1,7 +1,7 @@
 //! Commands that answer with spots.
 
 use super::{read_for_question, say};
-use crate::args::{Range, Shape};
+use crate::args::{Range, Shape, Wanted};
 use crate::card::Card;
 use crate::problem::{self, Problem};
 use crate::sheet;
@@ -75,11 +75,27 @@ pub fn diff(path: &Path, sheet: &Path, csv: bool) -> Result<()> {
     }
 }
 
-pub fn report(path: &Path, range: &Range, y: i32, shape: &Shape) -> Result<()> {
+pub fn report(path: &Path, wanted: &[Wanted], shape: &Shape) -> Result<()> {
     let Card { table, .. } = read_for_question(path)?;
-    let found = table.report(range.x1, range.x2, y)?;
-    let title = format!("{} {} with rank {y} or more", words::count(found.spots.len(), "spot"), range.words());
-    show(&found, shape, &title, table.blocks())
+    if let [one] = wanted {
+        let found = table.report(one.range.x1, one.range.x2, one.y)?;
+        return show(&found, shape, &spots_of(one, &found.spots), table.blocks());
+    }
+    let ranges: Vec<_> = wanted.iter().map(|w| (w.range.x1, w.range.x2, w.y)).collect();
+    let (each, blocks) = table.report_many(&ranges)?;
+    let (mut out, mut csv) = (vec![], vec!["range,place,rank,track".to_string()]);
+    for (number, (own, spots)) in (1..).zip(wanted.iter().zip(&each)) {
+        out.push(format!("range {number}: {}", spots_of(own, spots)));
+        out.extend(listed(spots));
+        csv.extend(spots.iter().map(|s| format!("{number},{},{},{}", s.place, s.rank, s.track)));
+    }
+    let total = each.iter().map(Vec::len).sum();
+    out.push(format!("{} in {}", words::count(total, "spot"), words::count(each.len(), "range")));
+    print(if shape.csv { csv } else { out }, &blocks, shape, table.blocks())
+}
+
+fn spots_of(wanted: &Wanted, spots: &[Spot]) -> String {
+    format!("{} {} with rank {} or more", words::count(spots.len(), "spot"), wanted.range.words(), wanted.y)
 }
 
 pub fn top(path: &Path, range: &Range, k: u32, shape: &Shape) -> Result<()> {
@@ -90,24 +106,37 @@ pub fn top(path: &Path, range: &Range, k: u32, shape: &Shape) -> Result<()> {
 }
 
 fn show(found: &Found, shape: &Shape, title: &str, of: usize) -> Result<()> {
-    let numbers: Vec<String> = found.blocks.iter().map(|b| b.to_string()).collect();
-    let blocks = format!("{} read of {}: {}", words::count(found.blocks.len(), "block"), words::number(of as i128), numbers.join(" "));
+    let mut out = vec![];
     if shape.csv {
-        // The blocks are no rows of the sheet.
-        if shape.blocks {
-            problem::print(&blocks);
-        }
-        return say(csv_of(&found.spots).trim_end());
+        out.push(csv_of(&found.spots).trim_end().to_string());
+    } else {
+        out.push(title.to_string());
+        out.extend(listed(&found.spots));
     }
-    let mut out = vec![title.to_string()];
-    if !found.spots.is_empty() {
+    print(out, &found.blocks, shape, of)
+}
+
+/// A line for each spot, under one that names the columns.
+fn listed(spots: &[Spot]) -> Vec<String> {
+    let mut out = vec![];
+    if !spots.is_empty() {
         out.push(format!("{:>11} {:>11} {:>10}", "place", "rank", "track"));
     }
-    for s in &found.spots {
+    for s in spots {
         out.push(format!("{:>11} {:>11} {:>10}", s.place, s.rank, s.track));
     }
-    if shape.blocks {
-        out.push(blocks);
+    out
+}
+
+/// The lines, and the blocks read, where they are asked for.
+fn print(mut out: Vec<String>, blocks: &[usize], shape: &Shape, of: usize) -> Result<()> {
+    let numbers: Vec<String> = blocks.iter().map(|b| b.to_string()).collect();
+    let read = format!("{} read of {}: {}", words::count(blocks.len(), "block"), words::number(of as i128), numbers.join(" "));
+    match (shape.blocks, shape.csv) {
+        (true, false) => out.push(read),
+        // The blocks are no rows of the sheet.
+        (true, true) => problem::print(&read),
+        (false, _) => {}
     }
     say(out.join("\n"))
 }

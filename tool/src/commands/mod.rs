@@ -21,7 +21,7 @@ pub fn run(command: Command) -> Result<()> {
         Command::Rebuild { card, wait } => change::rebuild(&card, wait.time()),
         Command::Export { card, output, force } => ask::export(&card, output.as_deref(), force),
         Command::Diff { card, sheet, csv } => ask::diff(&card, &sheet, csv),
-        Command::Report { card, range, y, shape } => ask::report(&card, &range, y, &shape),
+        Command::Report { card, wanted, more, shape } => ask::report(&card, &wanted.and_more(&more), &shape),
         Command::Top { card, range, k, shape } => ask::top(&card, &range, k, &shape),
         Command::Info { card } => info::info(&card),
         Command::Check { card } => look::check(&card),

@@ -3,7 +3,7 @@
 use mir.Syntax.{w32}
 use mir.ValLaws.{toZ-ofZ}
 use borrow.Author.Needs.{needs}
-use Rattle.commands.proofs.Telling.{query-shown, top-shown, told-add, told-withdraw, told-report, told-top, told-bad}
+use Rattle.commands.proofs.Telling.{walk-shown, top-shown, told-add, told-withdraw, told-report, told-top, told-bad}
 use Rattle.commands.proofs.carry_out.Statement.{statement}
 use Rattle.commands.proofs.carry_out.Tie as tie
 
@@ -34,7 +34,7 @@ returns-2 c =
 show-requires : tie.Need-show-requires
 show-requires c κs =
     let p = c .before .before .before .before .before .before in
-    query-shown _ _ _ (p .report .result) (p .before .before .before .before .before .before .before .before .before .before .before .before .pre) (p .report .kept .1 .1 .1 .1 .0) _ _ _ _ _ (p .report .ensures)
+    walk-shown _ _ _ (p .report .result) (p .before .before .before .before .before .before .before .before .before .before .before .before .pre) (p .report .kept .1 .1 .1 .1 .0) _ _ _ _ (p .report .ensures)
 
 returns-3 : tie.Need-returns-3
 returns-3 c =

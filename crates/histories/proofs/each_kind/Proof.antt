@@ -36,8 +36,8 @@ part-play-end c = omega arith
 play-requires : tie.Need-play-requires Inv-loop μ-loop
 play-requires c κs = search needs
 
-show-run-requires : tie.Need-show-run-requires Inv-loop μ-loop
-show-run-requires c κs = search needs
+show-played-requires : tie.Need-show-played-requires Inv-loop μ-loop
+show-played-requires c κs = search needs
 
 add-kind : tie.Need-add-kind Inv-loop μ-loop
 add-kind c = omega arith
@@ -70,7 +70,7 @@ each-kind-spec =
     part-play-start
     part-play-end
     play-requires
-    show-run-requires
+    show-played-requires
     add-kind
     loop-less
     loop-again

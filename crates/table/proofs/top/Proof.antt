@@ -121,7 +121,7 @@ returns-6 c =
     (c .before .before .before .before .before .before .before .before .before .before .before .if5 .left)
     refl
     (c .before .before .before .before .before .before .before .copy .ensures)
-    (map-is _ (now (a .read-map)) _ _ (z .kept .1 .0 ∙ length-replicate {A = ℕ} 512 0) (mapped p) refl (c .before .before .copy2 .ensures))
+    (map-is _ (now (a .read-map)) _ (z .kept .1 .0 ∙ length-replicate {A = ℕ} 512 0) (mapped p) (c .before .before .copy2 .ensures))
 
 top-write-requires : tie.Need-top-write-requires
 top-write-requires c κs =
@@ -158,7 +158,7 @@ returns-7 c =
     top-wide (a .x1) (a .x2) (a .k) (now (a .table)) (now (a .output)) (now (a .read-map)) (sized p) (lent p) _ _ _ _ _ g (w .ensures .ends (a .x1) (a .x2) (asks p) g)
     (c .before .before .before .before .before .before .before .before .before .before .before .before .if5 .left)
     refl
-    (map-is _ (now (a .read-map)) _ _ (w .kept .1 .0 ∙ z .kept .1 .0 ∙ length-replicate {A = ℕ} 512 0) (mapped p) refl (c .before .before .copy3 .ensures))
+    (map-is _ (now (a .read-map)) _ (w .kept .1 .0 ∙ z .kept .1 .0 ∙ length-replicate {A = ℕ} 512 0) (mapped p) (c .before .before .copy3 .ensures))
 
 pub top-spec : {M : Type 1} → statement M
 top-spec =

@@ -25,10 +25,16 @@ copy-requires c κs = (omega (arith, c .before .before .before .set-bit .kept .0
 
 returns-2 : tie.Need-returns-2
 returns-2 c =
+    let at-copy = c .before .before .before in
+    let at-set-bit = at-copy .before .before .before .before in
+    let at-if1 = at-set-bit .before .before in
+    let start = at-if1 .before .before .before .before in
     inr (
-      sym (c .before .before .before .before .before .before .before .before .before .before .header-ok .ensures) ∙ not-false _ (c .before .before .before .before .before .before .before .before .before .if1 .left),
+      sym (at-if1 .before .header-ok .ensures) ∙ not-false _ (at-if1 .if1 .left),
       c .plain-answer2 .ensures,
-      map-is _ (now (c .before .before .before .before .before .before .before .before .before .before .before .before .before .args .read-map)) _ _ (c .before .before .before .before .before .before .before .set-bit .kept .0 ∙ length-replicate {A = ℕ} 512 0) (c .before .before .before .before .before .before .before .before .before .before .before .before .before .pre .1) (c .before .before .before .before .before .before .before .set-bit .ensures ∙ map-none) (c .before .before .before .copy .ensures),
+      map-is _ (now (start .args .read-map)) _ (at-set-bit .set-bit .kept .0 ∙ length-replicate {A = ℕ} 512 0) (start .pre .1) (at-copy .copy .ensures) ∙
+          at-set-bit .set-bit .ensures ∙
+          map-none,
     )
 
 pub top-none-spec : {M : Type 1} → statement M

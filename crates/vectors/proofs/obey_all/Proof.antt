@@ -9,11 +9,14 @@ use Rattle.vectors.proofs.obey_all.Statement.{statement}
 use Rattle.vectors.proofs.obey_all.Tie as tie
 
 abbrev Inv-loop : tie.InvT-loop
-Inv-loop script memory₀ scratch₀ marks₀ bytes₀ at₀ memory scratch marks bytes at =
-    (length memory ≡ length memory₀) × (length scratch ≡ length scratch₀) × (bytes ≤ 65536)
+Inv-loop script memory₀ scratch₀ marks₀ s₀ at₀ memory scratch marks s at =
+    (length memory ≡ length memory₀) × (length scratch ≡ length scratch₀) × (s .bytes ≤ 65536)
 
 abbrev μ-loop : tie.MeasureT-loop
-μ-loop script memory₀ scratch₀ marks₀ bytes₀ at₀ memory scratch marks bytes at = length script - at
+μ-loop script memory₀ scratch₀ marks₀ s₀ at₀ memory scratch marks s at = length script - at
+
+empty-state-requires : tie.Need-empty-state-requires Inv-loop μ-loop
+empty-state-requires c κs = tt
 
 loop-holds : tie.Need-loop-holds Inv-loop μ-loop
 loop-holds c = search needs
@@ -57,6 +60,7 @@ obey-all-spec =
     (tie.spec
     Inv-loop
     μ-loop
+    empty-state-requires
     loop-holds
     find-requires
     sub-obey
