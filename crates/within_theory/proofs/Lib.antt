@@ -1,0 +1,12 @@
+pub mod Lines
+pub mod Greatest
+pub mod Readings
+pub mod Following
+pub mod Edges
+pub mod Soundly
+pub mod Giving
+pub mod Standing
+pub mod Settled
+pub mod Ending
+pub mod Certain
+pub mod Repeated
