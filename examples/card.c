@@ -41,6 +41,7 @@ int main(void) {
     uint32_t counts[RANGES];
     uint64_t answer;
     uint32_t n, first;
+    int32_t ceiling;
     size_t i;
 
     accepted("format", spot_format(table, sizeof table));
@@ -69,6 +70,10 @@ int main(void) {
 
     n = accepted("top", spot_top(table, sizeof table, INT32_MIN, INT32_MAX, 1, output, sizeof output, read_map, sizeof read_map));
     printf("the best of all:\n");
+    print(n);
+
+    n = accepted("top_within", spot_top_within(table, sizeof table, INT32_MIN, INT32_MAX, 2, 1, output, sizeof output, read_map, sizeof read_map, &ceiling));
+    printf("of the best two, %" PRIu32 " are certain once one node block is read; no other spot has a rank above %" PRId32 ":\n", n, ceiling);
     print(n);
 
     answer = spot_report(table, sizeof table, -200, 700, 0, output, SPOT_BYTES, read_map, sizeof read_map);

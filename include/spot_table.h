@@ -7,10 +7,11 @@
  *   - During a call nothing else may write the table, the ranges, the counts, the output, the read map or the work area; during spot_format, spot_add,
  *     spot_withdraw and spot_rebuild nothing else may read the table either. Any number of calls may read one table at the same time.
  *   - A pointer may be NULL only with length 0. The bytes need no alignment; ranges and counts have that of their types.
+ *   - The ceiling of spot_top_within is a result: one number, in no lent slice, which every call sets. Its pointer is not NULL.
  *
- * The answer is number * 2^32 + detail (spot_number, spot_detail). Number 0 is an accepted call; detail is the number of spots for spot_report, spot_report_many, spot_top
- * and spot_count, 1 or 0 for spot_check's yes or no, else 0. The other numbers are refusals (enum spot_error), asked in their order, but 6 after 2 and before 3. After a
- * refusal every lent byte is as it was, but for a work area after 3: its first table-length bytes are zero then, as after an accepted call.
+ * The answer is number * 2^32 + detail (spot_number, spot_detail). Number 0 is an accepted call; detail is the number of spots for spot_report, spot_report_many, spot_top,
+ * spot_top_within and spot_count, 1 or 0 for spot_check's yes or no, else 0. The other numbers are refusals (enum spot_error), asked in their order, but 6 after 2 and before 3.
+ * After a refusal every lent byte is as it was, but for a work area after 3: its first table-length bytes are zero then, as after an accepted call.
  *
  * The archive is for x86-64 Linux. Of the C library it needs memcpy, memmove, memset and memcmp at most.
  *
@@ -26,6 +27,8 @@
  *                   reads for each range what spot_report reads for it, and marks what it reads for any of them: block 0, and at most 36h + 9 * (spots div 16) a range.
  *   spot_top        reads the blocks of the report from the rank of the last of its k spots (from the least rank, if there are fewer), and marks exactly those;
  *                   only block 0 for k = 0. Each once up to 512 spots, twice above.
+ *   spot_top_within reads block 0 and the first of the node blocks that spot_top reads, at most as many as are allowed, and marks exactly those; only block 0 for k = 0 or an
+ *                   allowance of 0. Each once up to 512 spots, twice above.
  *   spot_add        reads block 0 and the h blocks on the way down, and writes block 0 and the root where the root has room. Where it has none, changes go down in batches:
  *   spot_withdraw   some more blocks a level. Rarely, where no block is spare, all is laid out anew as by spot_rebuild. Both zero as much of the work area as the table is
  *                   long, which is most of their time on a large table. A withdrawal that finds nothing writes nothing to the table.
@@ -59,6 +62,7 @@ extern "C" {
 #define SPOT_STACK_REPORT 24576
 #define SPOT_STACK_REPORT_MANY 147456
 #define SPOT_STACK_TOP 163840
+#define SPOT_STACK_TOP_WITHIN 163840
 #define SPOT_STACK_ADD 245760
 #define SPOT_STACK_WITHDRAW 245760
 #define SPOT_STACK_REBUILD 32768
@@ -74,7 +78,7 @@ enum spot_error {
     SPOT_BROKEN = 3,
     /* spot_add only: 16 live spots for each block after the first, and the new place and rank not among them */
     SPOT_FULL = 4,
-    /* spot_report, spot_report_many and spot_top only: more spots than output length div 12; detail is their number */
+    /* spot_report, spot_report_many, spot_top and spot_top_within only: more spots than output length div 12; detail is their number */
     SPOT_OUTPUT = 5,
     /* spot_report_many only: more than 64 ranges; asked after 2 and before 3, detail 0 */
     SPOT_TOO_MANY_RANGES = 6
@@ -163,6 +167,15 @@ uint64_t spot_report_many(const uint8_t *table, size_t table_len, const spot_ran
  * alone. */
 uint64_t spot_top(const uint8_t *table, size_t table_len, int32_t x1, int32_t x2, uint32_t k,
                   uint8_t *output, size_t output_len, uint8_t *read_map, size_t read_map_len);
+
+/* spot_top with a limit on the node blocks read: the root, which counts, then always the unread child with spots, in range, whose entry shows the highest rank (of equal ranks
+ * the lower block number), until the allowance is used, k spots are given or no such child is left. It gives, in spot_top's order and up to k, the live spots found in range
+ * whose rank is above that of every such child: always the first of those that spot_top gives. The ceiling is the highest rank of such a child or of a live spot found in range
+ * and not given, else INT32_MIN: no other live spot of the range has a rank above it. A larger allowance never gives fewer spots nor a higher ceiling; one of as many node blocks
+ * as spot_top reads gives spot_top's answer. With an allowance or a k of 0 block 0 alone is read, no spot is given, and the ceiling is INT32_MAX; after a refusal it is 0.
+ * Refusal 5 is about the spots that this call gives. Output as for spot_report. The read map marks the blocks read. */
+uint64_t spot_top_within(const uint8_t *table, size_t table_len, int32_t x1, int32_t x2, uint32_t k, uint32_t allowance,
+                         uint8_t *output, size_t output_len, uint8_t *read_map, size_t read_map_len, int32_t *ceiling);
 
 /* Puts the spot in; one of the same place and rank is replaced. */
 uint64_t spot_add(uint8_t *table, size_t table_len, uint8_t *work, size_t work_len, int32_t place, int32_t rank, uint32_t track);

@@ -1,6 +1,6 @@
 //! Safe Rust over the proved spot table: up to 65,520 spots (a place, a rank, a track) in lent memory.
 //!
-//! [`Table`] answers with `Result`; the nine functions of the crate ([`format`], [`add`], ...) give the library's own [`Answer`]. Every call ends on any bytes and
+//! [`Table`] answers with `Result`; the ten functions of the crate ([`format`], [`add`], ...) give the library's own [`Answer`]. Every call ends on any bytes and
 //! arguments, touches only what it was lent, and allocates nothing; a refused call changes no byte but its work area (see [`Refusal`]).
 //!
 //! ```
@@ -28,9 +28,9 @@ mod refusal;
 mod spots;
 mod table;
 
-pub use raw::{add, check, count, format, rebuild, report, report_many, top, withdraw, Answer};
+pub use raw::{add, check, count, format, rebuild, report, report_many, top, top_within, withdraw, Answer};
 pub use refusal::Refusal;
-pub use spots::{marked, reports, spots, Blocks, Range, ReadMap, Reports, Spot, Spots};
+pub use spots::{marked, reports, spots, Blocks, Range, ReadMap, Reports, Spot, Spots, Within};
 pub use table::Table;
 
 /// Bytes of a block.

@@ -39,6 +39,19 @@ extern "C" {
         read_map: *mut u8,
         read_map_len: usize,
     ) -> u64;
+    fn spot_top_within(
+        table: *const u8,
+        len: usize,
+        x1: i32,
+        x2: i32,
+        k: u32,
+        allowance: u32,
+        output: *mut u8,
+        output_len: usize,
+        read_map: *mut u8,
+        read_map_len: usize,
+        ceiling: *mut i32,
+    ) -> u64;
     fn spot_add(table: *mut u8, len: usize, work: *mut u8, work_len: usize, place: i32, rank: i32, track: u32) -> u64;
     fn spot_withdraw(table: *mut u8, len: usize, work: *mut u8, work_len: usize, place: i32, rank: i32) -> u64;
     fn spot_rebuild(table: *mut u8, len: usize, work: *mut u8, work_len: usize) -> u64;
@@ -50,7 +63,7 @@ extern "C" {
 pub struct Answer {
     /// 0, or the number of the refusal.
     pub number: u32,
-    /// The number of spots for Report, Report of many ranges, Top and Count, 1 or 0 for Check, how many spots there are after refusal 5, else 0.
+    /// The number of spots for Report, Report of many ranges, Top, Top within an allowance and Count, 1 or 0 for Check, how many spots there are after refusal 5, else 0.
     pub detail: u32,
 }
 
@@ -150,6 +163,40 @@ pub fn report_many(table: &[u8], ranges: &[Range], counts: &mut [u32], output: &
 pub fn top(table: &[u8], x1: i32, x2: i32, k: u32, output: &mut [u8], read_map: &mut [u8]) -> Answer {
     let (t, n) = (table.as_ptr(), table.len());
     Answer::unpack(unsafe { spot_top(t, n, x1, x2, k, output.as_mut_ptr(), output.len(), read_map.as_mut_ptr(), read_map.len()) })
+}
+
+/// [`top`] with at most so many node blocks read: the first of its spots, those that are certain by then, and the ceiling: no other live spot of the range has a rank above it.
+/// The root counts as a node block, block 0 doesn't. The ceiling is -2147483648 if nothing else is left; 2147483647 with an allowance or a k of 0, where block 0 alone is read; and
+/// 0 after a refusal.
+///
+/// ```
+/// use spot_table::{add, format, top_within, Answer, Spot};
+/// let (mut table, mut work) = ([0; 9 * 2048], [0; 9 * 2048]);
+/// assert_eq!(format(&mut table), Answer::new(0, 0));
+/// assert_eq!(add(&mut table, &mut work, Spot { place: 0, rank: 5, track: 1 }), Answer::new(0, 0));
+/// assert_eq!(add(&mut table, &mut work, Spot { place: 240, rank: 7, track: 2 }), Answer::new(0, 0));
+/// let (mut output, mut map) = ([0; 12], [0; 512]);
+/// assert_eq!(top_within(&table, 0, 240, 1, 4, &mut output, &mut map), (Answer::new(0, 1), 5));
+/// assert_eq!(top_within(&table, 0, 240, 1, 0, &mut output, &mut map), (Answer::new(0, 0), i32::MAX));
+/// ```
+pub fn top_within(table: &[u8], x1: i32, x2: i32, k: u32, allowance: u32, output: &mut [u8], read_map: &mut [u8]) -> (Answer, i32) {
+    let mut ceiling = 0;
+    let answer = Answer::unpack(unsafe {
+        spot_top_within(
+            table.as_ptr(),
+            table.len(),
+            x1,
+            x2,
+            k,
+            allowance,
+            output.as_mut_ptr(),
+            output.len(),
+            read_map.as_mut_ptr(),
+            read_map.len(),
+            &mut ceiling,
+        )
+    });
+    (answer, ceiling)
 }
 
 /// Puts the spot in, in the place of one of the same place and rank, with a work area of at least the table's length.

@@ -11,7 +11,7 @@ pub enum Refusal {
     Broken,
     /// 4: Add only. The table has as many live spots as it holds, and none of this place and rank.
     Full,
-    /// 5: Report, Report of many ranges and Top only. There are more spots than the output has room for.
+    /// 5: Report, Report of many ranges, Top and Top within an allowance only. There are more spots than the output has room for.
     Output {
         /// How many there are; 12 bytes are needed for each.
         spots: u32,

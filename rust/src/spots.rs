@@ -161,6 +161,15 @@ impl fmt::Debug for Reports<'_> {
     }
 }
 
+/// What a Top within an allowance gives: the first of Top's spots, those that are certain, and how high the rest can be.
+#[derive(Clone, Debug)]
+pub struct Within<'a> {
+    /// The spots that are certain, in Top's order.
+    pub spots: Spots<'a>,
+    /// No other live spot of the range has a rank above this one.
+    pub ceiling: i32,
+}
+
 /// The blocks that a map marks, rising: block n is the bit of value 2^(n mod 8) in byte n div 8.
 ///
 /// ```

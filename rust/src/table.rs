@@ -1,4 +1,4 @@
-use crate::{capacity, raw, reports, spots, Range, ReadMap, Refusal, Reports, Spot, Spots};
+use crate::{capacity, raw, reports, spots, Range, ReadMap, Refusal, Reports, Spot, Spots, Within};
 
 /// A table in bytes that are owned or borrowed: `Vec<u8>`, `&mut [u8]`, or `&[u8]` for reading alone.
 ///
@@ -129,6 +129,40 @@ impl<B: AsRef<[u8]>> Table<B> {
     pub fn top<'o>(&self, x1: i32, x2: i32, k: u32, output: &'o mut [u8], map: &mut ReadMap) -> Result<Spots<'o>, Refusal> {
         let n = raw::top(self.bytes(), x1, x2, k, output, map.bytes_mut()).result()?;
         Ok(spots(output, n as usize))
+    }
+
+    /// `top` with a limit on what is read: block 0 and at most so many node blocks, the root first, then always the unread child in range whose entry shows the highest rank. It
+    /// gives the first of Top's spots, those that are certain by then, and the ceiling: no other live spot of the range has a rank above it (-2147483648, if nothing else is left). A
+    /// larger allowance never gives fewer spots nor a higher ceiling; one of as many node blocks as `top` reads gives what `top` gives. With an allowance or a k of 0 block 0 alone
+    /// is read, no spot is given, and the ceiling is 2147483647. Output as for `report`; the map marks the blocks read.
+    ///
+    /// ```
+    /// use spot_table::{ReadMap, Spot, Table};
+    /// let mut work = vec![0; 9 * 2048];
+    /// let mut table = Table::format(vec![0; 9 * 2048])?;
+    /// for (place, rank) in [(0, 7), (120, 3), (240, 5)] {
+    ///     table.add(Spot { place, rank, track: 1 }, &mut work)?;
+    /// }
+    /// let (mut output, mut map) = ([0; 3 * 12], ReadMap::new());
+    /// let best = table.top_within(0, 240, 2, 1, &mut output, &mut map)?;
+    /// assert_eq!(best.spots.map(|s| s.rank).collect::<Vec<_>>(), [7, 5]);
+    /// assert_eq!((best.ceiling, map.blocks().collect::<Vec<_>>()), (3, vec![0, 1]));
+    ///
+    /// let none = table.top_within(0, 240, 2, 0, &mut output, &mut map)?;
+    /// assert_eq!((none.spots.len(), none.ceiling, map.ones()), (0, i32::MAX, 1));
+    /// # Ok::<(), spot_table::Refusal>(())
+    /// ```
+    pub fn top_within<'o>(
+        &self,
+        x1: i32,
+        x2: i32,
+        k: u32,
+        allowance: u32,
+        output: &'o mut [u8],
+        map: &mut ReadMap,
+    ) -> Result<Within<'o>, Refusal> {
+        let (answer, ceiling) = raw::top_within(self.bytes(), x1, x2, k, allowance, output, map.bytes_mut());
+        Ok(Within { spots: spots(output, answer.result()? as usize), ceiling })
     }
 }
 

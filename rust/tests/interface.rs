@@ -69,6 +69,29 @@ fn spots_of_each_range() {
     assert_eq!((none.len(), none.all().len(), map.blocks().collect::<Vec<_>>()), (0, 0, vec![0]));
 }
 
+#[test]
+fn spots_and_ceiling() {
+    let mut work = vec![0; 9 * BLOCK];
+    let mut table = Table::format(vec![0; 9 * BLOCK]).unwrap();
+    for i in 0..10 {
+        table.add(Spot { place: 10 * i, rank: i, track: i as u32 }, &mut work).unwrap();
+    }
+    let (mut output, mut map) = ([0; 10 * SPOT], ReadMap::new());
+    for (x1, x2, k, allowance, ranks, ceiling) in [
+        (0, 90, 3, 1, &[9, 8, 7][..], 6),
+        (0, 90, 10, 1, &[9, 8, 7, 6, 5, 4, 3, 2, 1, 0], i32::MIN),
+        (80, 10, 2, u32::MAX, &[9, 8], 1),
+        (41, 49, 2, 1, &[], i32::MIN),
+        (0, 90, 3, 0, &[], i32::MAX),
+        (0, 90, 0, 1, &[], i32::MAX),
+    ] {
+        let best = table.top_within(x1, x2, k, allowance, &mut output, &mut map).unwrap();
+        assert_eq!((best.spots.clone().map(|s| s.rank).collect::<Vec<_>>(), best.ceiling), (ranks.to_vec(), ceiling));
+        assert_eq!(map.ones(), if k == 0 || allowance == 0 { 1 } else { 2 });
+    }
+    assert_eq!(table.top_within(0, 90, 3, 1, &mut [0; 35], &mut map).unwrap_err(), Refusal::Output { spots: 3 });
+}
+
 /// The C header says the same: version, sizes, and the words of each number.
 #[test]
 fn header() {
@@ -107,6 +130,7 @@ fn stack() {
         assert_eq!(table.report(1, 0, i32::MIN, &mut output, &mut map).unwrap().len(), 2999);
         assert_eq!(table.top(i32::MIN, i32::MAX, u32::MAX, &mut output, &mut map).unwrap().len(), 2999);
         assert_eq!(table.top(1, 0, u32::MAX, &mut output, &mut map).unwrap().len(), 2999);
+        assert_eq!(table.top_within(1, 0, u32::MAX, u32::MAX, &mut output, &mut map).unwrap().spots.len(), 2999);
         let (ranges, mut counts, mut output) = ([Range { x1: 1, x2: 0, y: i32::MIN }; 64], [0; 64], vec![0; 64 * 2999 * SPOT]);
         assert_eq!(table.report_many(&ranges, &mut counts, &mut output, &mut map).unwrap().all().len(), 64 * 2999);
     };

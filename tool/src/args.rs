@@ -44,7 +44,9 @@ Examples:
 const TOP_EXAMPLES: &str = "\
 Examples:
   spotcard top show.card 0 2400 3          the three best of the first 24 metres
-  spotcard top show.card 9000 300 3        the three best from 90 metres on, past the door, to 3 metres";
+  spotcard top show.card 9000 300 3        the three best from 90 metres on, past the door, to 3 metres
+  spotcard top show.card 0 2400 3 --allow 4
+                                           as many of them as are certain once four nodes are read";
 
 #[derive(Parser)]
 #[command(name = "spotcard", version, about = ABOUT, long_about = LONG_ABOUT, after_help = EXIT_CODES)]
@@ -167,6 +169,9 @@ pub enum Command {
     /// Of equal ranks the lower place comes first: a guide takes the cases of a row from the entrance on.
     ///
     /// If the first place is greater than the last, the range runs on past the door: all places from the first up, and all places up to the last.
+    ///
+    /// With --allow at most so many nodes of the tree are read, the most promising first. The spots that are certain by then are shown, always the first of those that are shown
+    /// without it, and a line below them says up to which rank others may still stand there.
     #[command(after_help = TOP_EXAMPLES)]
     Top {
         /// The card
@@ -176,6 +181,9 @@ pub enum Command {
         /// How many
         #[arg(value_parser = unsigned)]
         k: u32,
+        /// Read at most so many nodes, and show what is certain by then
+        #[arg(long, value_name = "N", value_parser = unsigned)]
+        allow: Option<u32>,
         #[command(flatten)]
         shape: Shape,
     },

@@ -132,6 +132,17 @@ impl Table {
         self.ask(1, |table, out, map| spot_table::top(table, x1, x2, k, out, map))
     }
 
+    /// The first of Top's spots, those that are certain once so many nodes are read, and the ceiling: no other live spot of the range has a rank above it.
+    pub fn top_within(&self, x1: i32, x2: i32, k: u32, nodes: u32) -> Result<(Found, i32), Refusal> {
+        let mut ceiling = 0;
+        let found = self.ask(1, |table, out, map| {
+            let (answer, highest) = spot_table::top_within(table, x1, x2, k, nodes, out, map);
+            ceiling = highest;
+            answer
+        })?;
+        Ok((found, ceiling))
+    }
+
     /// All live spots, rising in place order.
     pub fn all(&self) -> Result<Vec<Spot>, Refusal> {
         Ok(self.report(i32::MIN, i32::MAX, i32::MIN)?.spots)

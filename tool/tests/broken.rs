@@ -68,6 +68,7 @@ fn explained(change: impl Fn(&mut Vec<u8>, Node), expected: impl Fn(&[u8], Node)
     f.run(&["add", "a.card", "1", "1", "1"]).exit(1).complains("is not sound");
     f.run(&["report", "a.card", "1", "1", "1"]).exit(1).complains("is not sound");
     f.run(&["report", "a.card", "1", "1", "1", "2", "2", "2"]).exit(1).complains("is not sound");
+    f.run(&["top", "a.card", "1", "1", "1", "--allow", "0"]).exit(1).complains("is not sound");
     assert_eq!(f.read("a.card"), bytes);
 }
 

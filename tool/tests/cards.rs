@@ -182,6 +182,64 @@ range 4: 1 spot from 0 to 100 cm with rank 8 or more
 }
 
 #[test]
+fn a_top_with_few_nodes_says_what_is_certain() {
+    let f = Folder::new();
+    f.card("a.card", 32, &[(0, 5, 1), (240, 7, 2), (0, 7, 3), (300, 1, 4)]);
+    let ask = |k: &str, nodes: &str, more: &[&str]| f.run(&[&["top", "a.card", "0", "300", k, "--allow", nodes], more].concat()).exit(0);
+    let two = "\
+the best 2 spots from 0 to 300 cm
+      place        rank      track
+          0           7          3
+        240           7          2
+1 node read: these are all that were asked for
+";
+    let ran = ask("2", "1", &[]);
+    assert_eq!((ran.out.as_str(), ran.err.as_str()), (two, ""));
+    assert_eq!(ask("2", "4294967295", &["--blocks"]).out, format!("{two}2 blocks read of 32: 0 1\n"));
+    let ran = ask("9", "5", &["--csv", "--blocks"]);
+    assert_eq!(ran.out, sheet(&[(0, 7, 3), (240, 7, 2), (0, 5, 1), (300, 1, 4)]));
+    assert_eq!(ran.err, "spotcard: 1 node read: nothing else stands there\nspotcard: 2 blocks read of 32: 0 1\n");
+    ask("9", "1", &[]).says("\n1 node read: nothing else stands there, except perhaps with the lowest rank of all, -2147483648\n");
+    assert_eq!(ask("0", "9", &[]).out, "the best 0 spots from 0 to 300 cm\n0 nodes read: these are all that were asked for\n");
+    let nothing = "the best 0 spots from 0 to 300 cm\n0 nodes read: others may still stand there, up to rank 2147483647\n";
+    assert_eq!(ask("9", "0", &[]).out, nothing);
+    f.run(&["help", "top"]).exit(0).says("--allow <N>").says("certain");
+}
+
+/// More nodes show no fewer spots and no higher rank, up to the whole top; what is shown begins it, and what isn't is no higher than is said.
+#[test]
+fn every_number_of_nodes_leads_to_the_top() {
+    let f = Folder::new();
+    f.card("a.card", 80, &spots(900, 9));
+    let mut between = 0;
+    for (x1, x2, k) in [("0", "100000", 40), ("20000", "70000", 5000), ("70000", "20000", 200)] {
+        let top = |args: &[&str]| {
+            let ran = f.run(&[&["top", "a.card", x1, x2], args, &["--csv"]].concat()).exit(0);
+            (ran.out.lines().skip(1).map(String::from).collect::<Vec<_>>(), ran.err)
+        };
+        let rank = |row: &String| row.split(',').nth(1).unwrap().parse::<i32>().unwrap();
+        let (all, _) = top(&["5000"]);
+        let (mut least, mut most) = (0, i32::MAX);
+        for nodes in 0.. {
+            let (shown, words) = top(&[&k.to_string(), "--allow", &nodes.to_string()]);
+            assert!(all.starts_with(&shown) && least <= shown.len(), "{nodes}: {shown:?}");
+            least = shown.len();
+            let Some((_, highest)) = words.split_once("others may still stand there, up to rank ") else {
+                let end = if least == k { "these are all that were asked for" } else { "nothing else stands there" };
+                assert!(words.contains(end) && least == all.len().min(k), "{nodes}: {words}");
+                break;
+            };
+            let highest: i32 = highest.trim_end().parse().unwrap();
+            assert!(highest <= most && shown.iter().all(|row| rank(row) > highest), "{nodes}: {words}");
+            assert!(all[least..].iter().all(|row| rank(row) <= highest), "{nodes}: {words}");
+            most = highest;
+            between += (least > 0) as usize;
+        }
+    }
+    assert!(between > 5, "{between} answers between nothing and all");
+}
+
+#[test]
 fn many_reports_and_tops_agree_with_a_plain_list() {
     let f = Folder::new();
     agree_with_a_plain_list(&f, "a.card", spots(900, 9));
@@ -277,7 +335,7 @@ fn the_digest_is_the_one_that_sha256sum_knows() {
 #[test]
 fn wrong_command_lines_end_with_2() {
     let f = Folder::new();
-    let rows: [&[&str]; 9] = [
+    let rows: [&[&str]; 10] = [
         &[],
         &["make", "a.card"],
         &["new"],
@@ -286,6 +344,7 @@ fn wrong_command_lines_end_with_2() {
         &["add", "a.card", "1", "2"],
         &["add", "a.card", "1", "2147483648", "3"],
         &["top", "a.card", "0", "9", "-1"],
+        &["top", "a.card", "0", "9", "1", "--allow", "-1"],
         &["picture", "a.card", "--top", "0", "9", "-1", "-o", "a.svg"],
     ];
     for args in rows {

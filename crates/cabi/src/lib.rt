@@ -1,7 +1,7 @@
 // The calls for C and Rust: a slice is a pointer and a length, in elements; the answer is number · 2^32 + detail.
 ghost use mathlib.Core.Path.{_≡_};
 ghost use Prim.Native.Nat.{_+_, _*_};
-ghost use Rattle.table.specs.Queries.{ReportPost, ManyPost, TopPost, CountPost, CheckPost};
+ghost use Rattle.table.specs.Queries.{ReportPost, ManyPost, TopPost, WithinPost, CountPost, CheckPost};
 ghost use Rattle.table.specs.Updates.{FormatPost, AddPost, WithdrawPost, RebuildPost};
 ghost use Rattle.cabi.specs.Packed.{Packed};
 
@@ -98,4 +98,20 @@ pub extern "C" fn spot_report_many(
     ensures { λ r. ⌜ Packed r (λ a. ManyPost (now (ranges .entry)) (now (table .entry)) (now (counts .entry)) (now (output .entry)) (now («read_map» .entry)) a (now (counts .exit)) (now (output .exit)) (now («read_map» .exit))) ⌝ }
 {
     pack(many::report_many(table, ranges, counts, output, read_map))
+}
+
+#[no_mangle]
+pub extern "C" fn spot_top_within(
+    table: &[u8],
+    x1: i32,
+    x2: i32,
+    k: u32,
+    allowance: u32,
+    output: &mut [u8],
+    read_map: &mut [u8],
+    ceiling: &mut i32,
+) -> u64
+    ensures { λ r. ⌜ Packed r (λ a. WithinPost x1 x2 k allowance (now (table .entry)) (now (output .entry)) (now («read_map» .entry)) a (now (output .exit)) (now («read_map» .exit)) (now (ceiling .exit))) ⌝ }
+{
+    pack(within::top_within(table, x1, x2, k, allowance, output, read_map, ceiling))
 }

@@ -83,6 +83,10 @@ in-plain : (ss : List Spot) {s : Spot} → List·Memᴰ s ss → List·Memᴰ (t
 in-plain [] i = absurd (List·Memᴰ·not-nil i)
 in-plain (x ∷ ss) {s} i = ⊎-elim (λ (e : s ≡ x). List·Memᴰ·head (ap toPlain e)) (λ (j : List·Memᴰ s ss). List·Memᴰ·tail (in-plain ss j)) (List·Memᴰ·cases-cons i)
 
+pub plain-keyed : (ss : List PlainSpot) → AllFit ss → plain (keyed ss) ≡ ss
+plain-keyed [] h = refl
+plain-keyed (s ∷ ss) h = ap₂ (λ (x : PlainSpot) (l : List PlainSpot). x ∷ l) (key-plain s (h .0)) (plain-keyed ss (h .1))
+
 -- a spot is in the one list as its key is in the other
 pub plain-mem : (ss : List Spot) → Small ss → (p : PlainSpot) → List·Memᴰ p (plain ss) → SpotFits p × List·Memᴰ (toKeySpot p) ss
 plain-mem ss h p i =

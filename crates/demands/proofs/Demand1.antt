@@ -8,7 +8,7 @@ use mathlib.Core.Option.{Option}
 use Prim.Native.Nat.{ℕ, zero, suc, _/_}
 use native.Mathlib.Omega.{arith}
 use lib.Dec.{eqb, ltb}
-use lib.IntN.{ℤ}
+use lib.IntN.{ℤ, pos}
 use lib.ListN.{length}
 use borrow.Author.Tests.{ne-eqb, eqb-true}
 use Rattle.octets.specs.Lists.{every, has}
@@ -24,7 +24,7 @@ use Rattle.block.specs.Answers.{answer}
 use Rattle.block.specs.Table.{tableSized}
 use Rattle.block.specs.Fresh.{formatted}
 use Rattle.block.specs.Node.{storeOf}
-use Rattle.tree.specs.Walk.{Walk, broken, walked, isBroken, spots, blocksRead, walkTable}
+use Rattle.tree.specs.Walk.{Walk, broken, walked, spots, blocksRead, walkTable}
 use Rattle.tree.specs.ReadMap.{readMap}
 use Rattle.tree.specs.Report.{reportTable}
 use Rattle.tree.proofs.Fresh.{fresh-sized}
@@ -32,13 +32,13 @@ use Rattle.tree.proofs.Marks.{zero-marked}
 use Rattle.tree.proofs.Sources.{walk-sources, read-in-table, read-marked}
 use Rattle.ranges.specs.declared.Range.{Range}
 use Rattle.report.specs.Joined.{reportOf, joined, countsOf}
-use Rattle.table.specs.Calls.{Call, format, add, withdraw, report, top, count, check, rebuild, reportMany, kind, isQuery, isCounting, Lengths}
+use Rattle.table.specs.Calls.{Call, format, add, withdraw, report, top, count, check, rebuild, reportMany, topWithin, kind, isQuery, isCounting, hasCeiling, Lengths}
 use Rattle.table.specs.Answers.{ofTable, withScratch, withOutput, withCounts, lent, fewEnough, earlyNumber, unlessRefused, spotsAnswer, outputLeft, countsLeft, outcomes}
-use Rattle.table.specs.Queries.{walkAnswer, countAnswer, WalkPost, ReportPost, ManyPost, TopPost, HandsOut, HandsOutEach}
+use Rattle.table.specs.Queries.{walkAnswer, countAnswer, WalkPost, ReportPost, ManyPost, SearchPost, HandsOut, HandsOutEach}
 use Rattle.table.specs.Updates.{UpdatePost}
 use Rattle.demands.specs.History.{Event, MetBy}
 use Rattle.demands.specs.Demands.{refusals, TurnedDown, OnlyMarked, Demand1}
-use Rattle.demands.proofs.Histories.{map-accepted, output-refused, map-refused, counts-refused, no-counts}
+use Rattle.demands.proofs.Histories.{map-accepted, walk-accepted, output-refused, map-refused, counts-refused, no-counts, no-ceiling}
 use Rattle.report.proofs.Reports.{report-spots, report-blocks}
 use Rattle.report.proofs.Joined.{spots-joined, blocks-joined, read-joined}
 use Rattle.demands.proofs.Onward.{from-on-mem}
@@ -122,6 +122,7 @@ module _ (c : Call) (due : Answer) (after : ℕ → Option ℕ) (t : List ℕ) (
         output = λ i. absurd (false≢true (sym q ∙ i));
         readMap = λ i. absurd (false≢true (sym q ∙ i));
         counts = λ i. absurd (false≢true (sym (no-counts c q) ∙ i));
+        ceiling = λ i. absurd (false≢true (sym (no-ceiling c q) ∙ i));
       }
 
 -- ---- calls that hand out no spots and leave the table
@@ -135,13 +136,14 @@ still-down c t e r same q z =
       output = λ i. absurd (false≢true (sym q ∙ i));
       readMap = λ i. absurd (false≢true (sym q ∙ i));
       counts = λ i. absurd (false≢true (sym (no-counts c q) ∙ i));
+      ceiling = λ i. absurd (false≢true (sym (no-ceiling c q) ∙ i));
     }
 
 -- ---- calls that hand out the spots of a walk, where lengths and arguments decide the number l
 
 module _ (l : ℕ) (w : Walk) (e : Event) (p : WalkPost l w (e .output) (e .readMap) (e .answer) (e .output′) (e .readMap′)) where
-  walk-down : (c : Call) (t : List ℕ) → has l early ≡ true → e .table′ ≡ t → (z : e .answer .number ≡ 0 → ⊥) → (isCounting c ≡ true → e .counts′ ≡ e .counts) → TurnedDown c t e
-  walk-down c t h same z counts =
+  walk-down : (c : Call) (t : List ℕ) → has l early ≡ true → e .table′ ≡ t → (z : e .answer .number ≡ 0 → ⊥) → (isCounting c ≡ true → e .counts′ ≡ e .counts) → hasCeiling c ≡ false → TurnedDown c t e
+  walk-down c t h same z counts n =
       record {
         number = r .number z;
         detail = r .detail z;
@@ -149,17 +151,11 @@ module _ (l : ℕ) (w : Walk) (e : Event) (p : WalkPost l w (e .output) (e .read
         output = λ i. p .output ∙ output-refused (e .answer .number) (spots w) (e .output) z;
         readMap = λ i. p .marks ∙ map-refused (e .answer .number) (blocksRead w) (e .readMap) z;
         counts = counts;
+        ceiling = λ i. absurd (false≢true (sym n ∙ i));
       }
     where
       r : Refusal (e .answer)
       r = subst Refusal (sym (p .answered)) (refusal-lengths l _ h (refusal-walk (length (e .output)) w))
-
--- accepted: the walk is whole, and the detail is the number of spots
-walk-accepted : (l bytes : ℕ) (w : Walk) (r : Answer) → r ≡ unlessRefused l (walkAnswer bytes w) → r .number ≡ 0 → (isBroken w ≡ false) × (r .detail ≡ length (spots w))
-unfolding unlessRefused walkAnswer spotsAnswer
-walk-accepted zero bytes broken r a z = let h : _≡_ {A = ℕ} 3 0 = sym (ap (λ (x : Answer). x .number) a) ∙ z in let y : ⊥ = omega arith in absurd y
-walk-accepted zero bytes (walked found blocks) r a z = (refl, ap (λ (x : Answer). x .detail) a)
-walk-accepted (suc l) bytes w r a z = let h : suc l ≡ 0 = sym (ap (λ (x : Answer). x .number) a) ∙ z in let y : ⊥ = omega arith in absurd y
 
 -- a spot of a single report is of its range, and stands in a block read, which is not block 0
 module _ (t : List ℕ) (x1 x2 y : ℤ) where
@@ -212,35 +208,40 @@ many-out rs t e p z =
       header = ap (λ (m : List ℕ). bit m 0) marks ∙ zero-marked (blocksRead (joined t rs));
     }
 
--- ---- Top
+-- ---- Top, and Top within an allowance
 
-module _ (x1 x2 : ℤ) (k : ℕ) (t : List ℕ) (e : Event) (same : e .table′ ≡ t) (p : TopPost x1 x2 k t (e .output) (e .readMap) (e .answer) (e .output′) (e .readMap′)) where
-  top-number : (e .answer .number ≡ 0 → ⊥) → has (e .answer .number) refusals ≡ true
-  top-number z =
-      ⊎-elim (λ l. of-refusals (e .answer .number) (0 ∷ 3 ∷ 5 ∷ []) refl (p .refusals l) z)
+module _ (c : Call) (x1 x2 : ℤ) (exactly : Type 0) (t : List ℕ) (e : Event) (same : e .table′ ≡ t) (numbers : outcomes c ≡ 0 ∷ 3 ∷ 5 ∷ [])
+    (p : SearchPost c x1 x2 exactly t (e .output) (e .readMap) (e .answer) (e .output′) (e .readMap′)) where
+  named : earlyNumber (withOutput t (e .output) (e .readMap)) c ≡ 0 → has (e .answer .number) (0 ∷ 3 ∷ 5 ∷ []) ≡ true
+  named l = ap (has (e .answer .number)) (sym numbers) ∙ p .refusals l
+
+  search-number : (e .answer .number ≡ 0 → ⊥) → has (e .answer .number) refusals ≡ true
+  search-number z =
+      ⊎-elim (λ l. of-refusals (e .answer .number) (0 ∷ 3 ∷ 5 ∷ []) refl (named l) z)
       (λ l.
       of-refusals (e .answer .number) early refl
-      (ap (λ (r : Answer). has (r .number) early) (p .byLengths l) ∙ by-lengths (withOutput t (e .output) (e .readMap)) (top x1 x2 k))
+      (ap (λ (r : Answer). has (r .number) early) (p .byLengths l) ∙ by-lengths (withOutput t (e .output) (e .readMap)) c)
       z)
-      (same-or-not (earlyNumber (withOutput t (e .output) (e .readMap)) (top x1 x2 k)) 0)
+      (same-or-not (earlyNumber (withOutput t (e .output) (e .readMap)) c) 0)
 
-  top-detail : (e .answer .number ≡ 0 → ⊥) → (e .answer .number ≡ 5 → ⊥) → e .answer .detail ≡ 0
-  top-detail z y =
-      ⊎-elim (λ l. p .ruleBroken (three (e .answer .number) (p .refusals l) z y)) (λ l. ap (λ (r : Answer). r .detail) (p .byLengths l))
-      (same-or-not (earlyNumber (withOutput t (e .output) (e .readMap)) (top x1 x2 k)) 0)
+  search-detail : (e .answer .number ≡ 0 → ⊥) → (e .answer .number ≡ 5 → ⊥) → e .answer .detail ≡ 0
+  search-detail z y =
+      ⊎-elim (λ l. p .ruleBroken (three (e .answer .number) (named l) z y)) (λ l. ap (λ (r : Answer). r .detail) (p .byLengths l))
+      (same-or-not (earlyNumber (withOutput t (e .output) (e .readMap)) c) 0)
     where
       three : (n : ℕ) → has n (0 ∷ 3 ∷ 5 ∷ []) ≡ true → (n ≡ 0 → ⊥) → (n ≡ 5 → ⊥) → n ≡ 3
       three n h z y = eqb-true n 3 (or-right (eqb n 3) (eqb n 5 || false) (or-left (eqb n 0) (eqb n 3 || (eqb n 5 || false)) h (ne-eqb n 0 z)) (rw (ne-eqb n 5 y)))
 
-  top-down : (e .answer .number ≡ 0 → ⊥) → TurnedDown (top x1 x2 k) t e
-  top-down z =
+  search-down : isCounting c ≡ false → (hasCeiling c ≡ true → (e .answer .number ≡ 0 → ⊥) → e .ceiling′ ≡ pos 0) → (e .answer .number ≡ 0 → ⊥) → TurnedDown c t e
+  search-down n ceiling z =
       record {
-        number = top-number z;
-        detail = top-detail z;
+        number = search-number z;
+        detail = search-detail z;
         table = same;
         output = λ i. p .unchanged z .0;
         readMap = λ i. p .unchanged z .1;
-        counts = λ i. absurd (false≢true i);
+        counts = λ i. absurd (false≢true (sym n ∙ i));
+        ceiling = λ i. ceiling i z;
       }
 
 -- ---- the demand
@@ -272,6 +273,7 @@ ends format t e p =
         output = λ i. absurd (false≢true i);
         readMap = λ i. absurd (false≢true i);
         counts = λ i. absurd (false≢true i);
+        ceiling = λ i. absurd (false≢true i);
       },
       formatted-long t (e .table′) (p .promised .written),
     )
@@ -279,10 +281,14 @@ ends (add place rank track) t e p = (update-down (add place rank track) _ _ t e 
 ends (withdraw place rank) t e p = (update-down (withdraw place rank) _ _ t e (p .promised .update) refl refl (p .promised .detail), p .promised .update .sized)
 ends (report x1 x2 y) t e p = (
   λ z. walk-down _ (reportTable t x1 x2 y) e (p .promised) (report x1 x2 y) t (by-lengths (withOutput t (e .output) (e .readMap)) (report x1 x2 y)) (p .unchanged refl) z
-      (λ i. absurd (false≢true i)),
+      (λ i. absurd (false≢true i))
+      refl,
   ap length (p .unchanged refl),
 )
-ends (top x1 x2 k) t e p = (top-down x1 x2 k t e (p .unchanged refl) (p .promised), ap length (p .unchanged refl))
+ends (top x1 x2 k) t e p = (
+  search-down (top x1 x2 k) x1 x2 _ t e (p .unchanged refl) refl (p .promised) refl (λ i. absurd (false≢true i)),
+  ap length (p .unchanged refl),
+)
 ends count t e p = (
   still-down count t e (subst Refusal (sym (p .promised .answered)) (refusal-lengths _ _ (by-lengths (ofTable t) count) (refusal-count _))) (p .unchanged refl) refl,
   ap length (p .unchanged refl),
@@ -294,7 +300,12 @@ ends check t e p = (
 ends rebuild t e p = (update-down rebuild _ _ t e (p .promised .update) refl refl (p .promised .detail), p .promised .update .sized)
 ends (reportMany rs) t e p = (
   λ z. walk-down _ (joined t rs) e (p .promised .handed) (reportMany rs) t (by-lengths (withCounts t (e .output) (e .readMap) (e .counts)) (reportMany rs)) (p .unchanged refl) z
-      (λ i. p .promised .counted ∙ counts-refused (e .answer .number) (countsOf t rs) (e .counts) z),
+      (λ i. p .promised .counted ∙ counts-refused (e .answer .number) (countsOf t rs) (e .counts) z)
+      refl,
+  ap length (p .unchanged refl),
+)
+ends (topWithin x1 x2 k a) t e p = (
+  search-down (topWithin x1 x2 k a) x1 x2 _ t e (p .unchanged refl) refl (p .promised .search) refl (λ i. p .promised .refused),
   ap length (p .unchanged refl),
 )
 
@@ -304,6 +315,7 @@ only-marked c t e p z =
       reports = λ x1 x2 y q. let m : MetBy (report x1 x2 y) t e = subst (λ (d : Call). MetBy d t e) q p in report-out x1 x2 y t e (m .promised) z;
       tops = λ x1 x2 k q. let m : MetBy (top x1 x2 k) t e = subst (λ (d : Call). MetBy d t e) q p in m .promised .handsOut z;
       manys = λ rs q. let m : MetBy (reportMany rs) t e = subst (λ (d : Call). MetBy d t e) q p in many-out rs t e (m .promised) z;
+      withins = λ x1 x2 k a q. let m : MetBy (topWithin x1 x2 k a) t e = subst (λ (d : Call). MetBy d t e) q p in m .promised .search .handsOut z;
     }
 
 pub demand1 : Demand1

@@ -36,23 +36,26 @@ use Rattle.tree.specs.Top.{topTable}
 use Rattle.tree.specs.Sound.{sound}
 use Rattle.tree.proofs.Tables.{live-rises, report-finds, counted, sound-header}
 use Rattle.tree.proofs.Tops.{top-finds, top-rises}
+use Rattle.within_theory.specs.Reading.{reading, givenOf, withinTable}
+use Rattle.within_theory.proofs.Certain.{within-once, within-first}
 use Rattle.revise.specs.Numbers.{addNumber}
 use Rattle.ranges.specs.Ranges.{forEach}
 use Rattle.ranges.specs.declared.Range.{Range}
 use Rattle.report.specs.Joined.{joined, countsOf}
-use Rattle.table.specs.Calls.{add, withdraw, report, top, reportMany, rangeFits, argumentsFit}
+use Rattle.table.specs.Calls.{add, withdraw, report, top, reportMany, topWithin, rangeFits, argumentsFit}
 use Rattle.table.specs.Answers.{withScratch, withOutput, withCounts, earlyNumber, unlessRefused, spotsAnswer, outputLeft, countsLeft}
-use Rattle.table.specs.Queries.{walkAnswer, WalkPost, ReportPost, ManyPost, TopPost}
+use Rattle.table.specs.Queries.{walkAnswer, WalkPost, ReportPost, ManyPost, TopPost, WithinPost}
 use Rattle.table.specs.Updates.{AddPost, WithdrawPost}
 use Rattle.demands.specs.Model.{PlainSpot, hasIdentity, topBefore, asBytes}
 use Rattle.demands.specs.TopMarks.{MarksFew}
-use Rattle.demands.specs.Demands.{LiveSpot, OfPlaces, InOrder, reportBefore, AtCapacity, ReportOf, TopOf, HandedOut, CountedOut, AddedTo, WithdrawnFrom, Demand2}
+use Rattle.demands.specs.Demands.{LiveSpot, OfPlaces, InOrder, reportBefore, AtCapacity, ReportOf, TopOf, WithinOf, HandedOut, CountedOut, AddedTo, WithdrawnFrom, Demand2}
 use Rattle.demands.proofs.Plain.{toKeySpot, SpotFits, identity-key, keyed-bytes, two-fit, three-fit, range-fit}
 use Rattle.table.proofs.Changes.{number-is}
-use Rattle.demands.proofs.Keyed.{singlyIn}
+use Rattle.demands.proofs.Keyed.{singlyIn, highestBy}
 use Rattle.demands.proofs.Histories.{map-accepted, output-refused, counts-refused, many-finds, many-counts}
 use Rattle.demands.proofs.Demand.{tree-laws}
 use Rattle.demands.proofs.MarksFew.{marks-few}
+use Rattle.demands.proofs.Withins.{given-few, within-finds, within-left, under-ceiling}
 use Rattle.report.proofs.Reports.{report-turned}
 use Rattle.report.proofs.Joined.{for-each-map, for-each-mem, count-each-same}
 use Rattle.demands.proofs.Onward.{from-on-mem, mem-from-on, report-apart, turned-small, turned-in-order}
@@ -204,11 +207,13 @@ module _ (t : List ℕ) (g : sound t ≡ true) where
         let l = kept-live t g (wants (topQuery x1 x2 0)) s (m .0, byTop-from of-places (m .1)) in
         record { alive = l .0; of = asked-places s (m .0) ∙ l .1 }
 
+    places-in : (s : PlainSpot) → OfPlaces x1 x2 t s → List·Memᴰ (toKeySpot s) of-places
+    unfolding of-places
+    places-in s h = live-kept t g (wants (topQuery x1 x2 0)) s (h .alive) (sym (asked-places s (alive-fits t s (h .alive))) ∙ h .of)
+
     from-places : (s : PlainSpot) → OfPlaces x1 x2 t s → List·Memᴰ s ranked
-    unfolding of-places ranked
-    from-places s h =
-        let f = alive-fits t s (h .alive) in
-        mem-plain (byTop of-places) s f (byTop-in of-places (live-kept t g (wants (topQuery x1 x2 0)) s (h .alive) (sym (asked-places s f) ∙ h .of)))
+    unfolding ranked
+    from-places s h = mem-plain (byTop of-places) s (alive-fits t s (h .alive)) (byTop-in of-places (places-in s h))
 
     falls : InOrder topBefore ranked
     unfolding of-places ranked
@@ -242,14 +247,21 @@ module _ (t : List ℕ) (g : sound t ≡ true) where
     pub top-settled : (given other : List PlainSpot) → TopOf x1 x2 k t given → TopOf x1 x2 k t other → given ≡ other
     top-settled given other g h = is-first given g ∙ sym (is-first other h)
 
+    -- the same, of the spots as the table has them
+    few-first : Small (take k (byTop of-places))
+    few-first s i = few-ranked s (mem-take k (byTop of-places) i)
+
+    first-of : TopOf x1 x2 k t (plain (take k (byTop of-places)))
+    unfolding ranked
+    first-of = subst (TopOf x1 x2 k t) (sym (plain-take k (byTop of-places))) top-of
+
     top-given : (out map : List ℕ) (r : Answer) (out′ map′ : List ℕ) → earlyNumber (withOutput t out map) (top x1 x2 k) ≡ 0 → TopPost x1 x2 k t out map r out′ map′
         → (given : List PlainSpot) × TopOf x1 x2 k t given × HandedOut given out r out′
-    unfolding of-places ranked
+    unfolding of-places
     top-given out map r out′ map′ l p = (
       plain (take k (byTop of-places)),
-      subst (TopOf x1 x2 k t) (sym (plain-take k (byTop of-places))) top-of,
-      handed-out _ (topTable t x1 x2 k) (take k (byTop of-places)) (top-finds t g x1 x2 k) (λ s i. few-ranked s (mem-take k (byTop of-places) i)) out map r out′ map′ l
-          (p .exact (top-rises t g x1 x2 k)),
+      first-of,
+      handed-out _ (topTable t x1 x2 k) (take k (byTop of-places)) (top-finds t g x1 x2 k) few-first out map r out′ map′ l (p .exact (top-rises t g x1 x2 k)),
     )
 
     -- and what it marks
@@ -259,10 +271,35 @@ module _ (t : List ℕ) (g : sound t ≡ true) where
     top-little out map r out′ map′ p z given h =
         let found = take k (byTop of-places) in
         subst (λ (l : List PlainSpot). MarksFew x1 x2 k l t map′) (plain-take k (byTop of-places) ∙ sym (is-first given h))
-        (marks-few t g x1 x2 (fits-signed x1 f1) (fits-signed x2 f2) k (plain found) (plain-fit found (λ s i. few-ranked s (mem-take k (byTop of-places) i)))
+        (marks-few t g x1 x2 (fits-signed x1 f1) (fits-signed x2 f2) k (plain found) (plain-fit found few-first)
         (keyed-plain found ∙ sym (ap spots (top-finds t g x1 x2 k .1)))
         map′
         (p .exact (top-rises t g x1 x2 k) .marks ∙ map-accepted _ _ _ z))
+
+  -- ---- Top within an allowance
+
+  within-given : (x1 x2 : ℤ) → Fits x1 → Fits x2 → (k a : ℕ) (out map : List ℕ) (r : Answer) (out′ map′ : List ℕ) (c : ℤ)
+      → earlyNumber (withOutput t out map) (topWithin x1 x2 k a) ≡ 0
+      → WithinPost x1 x2 k a t out map r out′ map′ c
+      → (given : List PlainSpot) × WithinOf x1 x2 k t given r c × HandedOut given out r out′
+  unfolding of-places
+  within-given x1 x2 f1 f2 k a out map r out′ map′ c l p =
+      let n = length (givenOf k (reading t x1 x2 k a)) in
+      let found = highestBy x1 x2 n (liveSpots t) in
+      let same = within-first t g x1 x2 k a in
+      let long : length (plain found) ≡ n = plain-length found ∙ ap length (sym same) in (
+        plain found,
+        record {
+          first = subst (λ (m : ℕ). TopOf x1 x2 m t (plain found)) (sym long) (first-of x1 x2 f1 f2 n);
+          few = omega (arith, long, given-few k (reading t x1 x2 k a));
+          over = λ z s h out.
+              let f = alive-fits t s (h .alive) in
+              ap (leZ (s .rank)) (within-left t g x1 x2 k a _ _ r _ map′ c p z .ceiling) ∙
+              under-ceiling t g x1 x2 k a s f (places-in x1 x2 f1 f2 n s h) (λ j. out (mem-plain found s f (mem-same same j)));
+        },
+        handed-out _ (withinTable t x1 x2 k a) found (within-finds t g x1 x2 k a) (few-first x1 x2 f1 f2 n) out map r out′ map′ l
+            (p .search .exact (within-once t g x1 x2 k a)),
+      )
 
 -- ---- Add and Withdraw
 
@@ -416,4 +453,8 @@ demand2 =
           let f = two-fit x1 x2 (and-left (signed32 x1 && signed32 x2) (unsigned32 k) (h .arguments)) in
           top-given t (h .table) x1 x2 (f .0) (f .1) k out map r out′ map′ (h .lent) p;
       manys = λ rs t counts out map r counts′ out′ map′ h p. many-given t (h .table) rs counts out map r counts′ out′ map′ (h .arguments) (h .lent) p;
+      withins = λ x1 x2 k a t out map r out′ map′ c h p.
+          let b = and-left (signed32 x1 && signed32 x2 && unsigned32 k) (unsigned32 a) (h .arguments) in
+          let f = two-fit x1 x2 (and-left (signed32 x1 && signed32 x2) (unsigned32 k) b) in
+          within-given t (h .table) x1 x2 (f .0) (f .1) k a out map r out′ map′ c (h .lent) p;
     }

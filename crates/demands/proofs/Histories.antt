@@ -7,18 +7,18 @@ use mathlib.Core.List.{List, [], _++_}
 use mathlib.Core.Option.{Option, none, some}
 use Prim.Native.Nat.{ℕ, zero, suc, _+_, _*_, _/_, _≤_}
 use native.Mathlib.Omega.{arith}
-use lib.ListN.{length, take, drop}
+use lib.ListN.{length, drop}
 use lib.Dec.{leb, eqb}
-use lib.IntN.{ℤ}
+use lib.IntN.{ℤ, pos}
 use borrow.Author.Tests.{eqb-true}
 use Rattle.octets.specs.Lists.{keep, rising}
 use Rattle.octets.specs.Bitmap.{bit}
 use Rattle.octets.proofs.Lists.{over-all}
 use Rattle.spot.specs.declared.Spot.{Spot}
 use Rattle.spot.specs.Keys.{key}
-use Rattle.spot.specs.Spots.{keys, find, byTop, put, without}
+use Rattle.spot.specs.Spots.{keys, find, put, without}
 use Rattle.spot.specs.declared.Query.{Query}
-use Rattle.spot.specs.Query.{query, topQuery, wants, everything}
+use Rattle.spot.specs.Query.{query, wants, everything}
 use Rattle.spot.proofs.Canon.{canon, find-without, without-rises}
 use Rattle.block.specs.Answers.{answer}
 use Rattle.block.specs.Table.{block, tableSized}
@@ -26,22 +26,24 @@ use Rattle.block.specs.Header.{headOf}
 use Rattle.block.specs.HeaderRules.{headerOk}
 use Rattle.block.specs.Fresh.{formatted}
 use Rattle.block.specs.declared.Answer.{Answer}
-use Rattle.tree.specs.Walk.{Finds, Walk, walked, isBroken, spots, blocksRead, walkTable, liveSpots, liveCount}
+use Rattle.tree.specs.Walk.{Finds, Walk, broken, walked, isBroken, spots, blocksRead, walkTable, liveSpots, liveCount}
 use Rattle.tree.specs.Report.{reportTable}
 use Rattle.tree.specs.Top.{topWalk, topTable}
 use Rattle.tree.specs.ReadMap.{readMap, ones}
 use Rattle.tree.specs.Sound.{sound}
 use Rattle.tree.specs.Lookup.{live, withKey}
+use Rattle.within_theory.specs.Reading.{reading, givenOf, withinTable, ceilingWithin, foundOnce}
 use Rattle.tree.proofs.Says.{find-replaced, replaced-rises}
 use Rattle.ranges.specs.Ranges.{forEach, countEach}
 use Rattle.ranges.specs.declared.Range.{Range}
 use Rattle.report.specs.Joined.{reportOf, joined, countsOf}
-use Rattle.table.specs.Calls.{Call, format, add, withdraw, report, top, count, check, rebuild, reportMany, Kind, makes, updates, queries, queriesEach, tells, kind, takesOutput, takesCounts, isQuery, isCounting}
+use Rattle.table.specs.Calls.{Call, format, add, withdraw, report, top, count, check, rebuild, reportMany, topWithin, Kind, makes, updates, queries, queriesEach, tells, kind, takesOutput, takesCounts, isQuery, isCounting, hasCeiling}
 use Rattle.table.specs.Answers.{withScratch, withOutput, withCounts, earlyNumber, spotsAnswer, outputLeft, unlessRefused, mapLeft, countsLeft}
 use Rattle.table.specs.Queries.{walkAnswer, countAnswer, WalkPost}
 use Rattle.table.specs.Updates.{UpdatePost}
-use Rattle.demands.specs.History.{Event, MetBy, lengthsIn, SecondTable, SameOnSecond, Agreed}
-use Rattle.demands.proofs.Keyed.{KeyReply, keyReply, replyTo, refusedOr, accepted, changed, nextBy, gives, singlyIn}
+use Rattle.demands.specs.Model.{told}
+use Rattle.demands.specs.History.{Event, MetBy, lengthsIn, certainIn, SecondTable, SameOnSecond, Agreed}
+use Rattle.demands.proofs.Keyed.{KeyReply, keyReply, replyTo, refusedOr, accepted, changed, nextBy, gives, singlyIn, highestBy}
 use Rattle.report.proofs.Reports.{report-blocks, report-length, report-turned, report-same}
 use Rattle.report.proofs.Joined.{count-each-long, count-each-same, joined-finds, second-joined, second-counts}
 
@@ -55,7 +57,7 @@ pub record TreeLaws : Type 0 where
   pub finds : (t : List ℕ) → sound t ≡ true → (k : ℕ) → find k (liveSpots t) ≡ live t k
   pub reports : (t : List ℕ) → sound t ≡ true → (q : Query) → Finds (walkTable t q) (keep (wants q) (liveSpots t))
   pub counts : (t : List ℕ) → sound t ≡ true → Finds (walkTable t everything) (liveSpots t)
-  pub tops : (t : List ℕ) → sound t ≡ true → (x1 x2 : ℤ) (k : ℕ) → Finds (topTable t x1 x2 k) (take k (byTop (keep (wants (topQuery x1 x2 0)) (liveSpots t))))
+  pub tops : (t : List ℕ) → sound t ≡ true → (x1 x2 : ℤ) (k : ℕ) → Finds (topTable t x1 x2 k) (highestBy x1 x2 k (liveSpots t))
   pub bound : (t : List ℕ) → sound t ≡ true → (q : Query)
       → ones (readMap (blocksRead (walkTable t q))) ≤ 1 + 36 * (headOf t .levels) + 9 * (length (spots (walkTable t q)) / 16)
   pub second : (t u : List ℕ) → sound t ≡ true → (q : Query) → length u ≡ length t
@@ -65,6 +67,12 @@ pub record TreeLaws : Type 0 where
       → ((b : ℕ) → bit (readMap (blocksRead (topTable t x1 x2 k))) b ≡ true → block u b ≡ block t b)
       → (topWalk u x1 x2 k ≡ topWalk t x1 x2 k) × (topTable u x1 x2 k ≡ topTable t x1 x2 k)
   pub top-rises : (t : List ℕ) → sound t ≡ true → (x1 x2 : ℤ) (k : ℕ) → rising (keys (spots (topWalk t x1 x2 k))) ≡ true
+  pub withins : (t : List ℕ) → sound t ≡ true → (x1 x2 : ℤ) (k a : ℕ)
+      → Finds (withinTable t x1 x2 k a) (highestBy x1 x2 (length (givenOf k (reading t x1 x2 k a))) (liveSpots t))
+  pub within-once : (t : List ℕ) → sound t ≡ true → (x1 x2 : ℤ) (k a : ℕ) → foundOnce t x1 x2 k a ≡ true
+  pub second-within : (t u : List ℕ) → sound t ≡ true → (x1 x2 : ℤ) (k a : ℕ) → length u ≡ length t
+      → ((b : ℕ) → bit (readMap (blocksRead (withinTable t x1 x2 k a))) b ≡ true → block u b ≡ block t b)
+      → reading u x1 x2 k a ≡ reading t x1 x2 k a
 
 -- a refusal by the lengths is the same on both sides
 refused-same : (l : ℕ) (ss : List Spot) (a : Answer) (r : KeyReply) → a ≡ r .answer → unlessRefused l a ≡ refusedOr l ss r .answer
@@ -117,6 +125,13 @@ unfolding mapLeft
 map-accepted zero bs map e = refl
 map-accepted (suc n) bs map e = let z : ⊥ = omega arith in absurd z
 
+-- its walk is whole, and its detail the number of spots
+pub walk-accepted : (l bytes : ℕ) (w : Walk) (r : Answer) → r ≡ unlessRefused l (walkAnswer bytes w) → r .number ≡ 0 → (isBroken w ≡ false) × (r .detail ≡ length (spots w))
+unfolding unlessRefused walkAnswer spotsAnswer
+walk-accepted zero bytes broken r a z = let h : _≡_ {A = ℕ} 3 0 = sym (ap (λ (x : Answer). x .number) a) ∙ z in let y : ⊥ = omega arith in absurd y
+walk-accepted zero bytes (walked found blocks) r a z = (refl, ap (λ (x : Answer). x .detail) a)
+walk-accepted (suc l) bytes w r a z = let h : suc l ≡ 0 = sym (ap (λ (x : Answer). x .number) a) ∙ z in let y : ⊥ = omega arith in absurd y
+
 -- a refusal leaves what was lent
 pub output-refused : (n : ℕ) (found : List Spot) (out : List ℕ) → (n ≡ 0 → ⊥) → outputLeft n found out ≡ out
 unfolding outputLeft
@@ -133,9 +148,9 @@ unfolding countsLeft
 counts-refused zero found counts z = absurd (z refl)
 counts-refused (suc n) found counts z = refl
 
--- the reply of the plain list over keys
+-- the reply of the plain list over keys, told of the table what the model is told
 abbrev pub keyReplyIn : Call → List ℕ → List Spot → Event → KeyReply
-keyReplyIn c t ss e = keyReply (lengthsIn t e) c ss
+keyReplyIn c t ss e = keyReply (lengthsIn t e) (told c (certainIn c t)) ss
 
 -- what a step of the history keeps: the claim, and that list as the live spots
 pub record Kept (c : Call) (t : List ℕ) (e : Event) : Type 0 where
@@ -162,6 +177,7 @@ early-again c t u e f counts again h n = rw (h .bytes, h .output, h .readMap, n)
 record Again (c : Call) (l : ℕ) (w : Walk) (e f : Event) : Type 0 where
   shown : Shows l w f
   counts : isCounting c ≡ true → f .answer ≡ e .answer → f .counts′ ≡ e .counts′
+  ceiling : hasCeiling c ≡ true → f .answer ≡ e .answer → f .ceiling′ ≡ e .ceiling′
 
 second-same : (c : Call) (l : ℕ) (w : Walk) (e f : Event) → Shows l w e → Again c l w e f → f .output ≡ e .output → f .readMap ≡ e .readMap → SameOnSecond c e f
 second-same c l w e f p q o m =
@@ -170,6 +186,7 @@ second-same c l w e f p q o m =
       output = q .shown .output ∙ rw (answers, o) (sym (p .output));
       marks = q .shown .marks ∙ rw (answers, m) (sym (p .marks));
       counts = λ i. q .counts i answers;
+      ceiling = λ i. q .ceiling i answers;
     }
   where
     answers : f .answer ≡ e .answer
@@ -184,10 +201,11 @@ record Counted (l : ℕ) (counts : List ℕ) (e : Event) : Type 0 where
 query-kept : (c : Call) (l : ℕ) (w : Walk) (found : List Spot) (counts t : List ℕ) (e : Event) → sound t ≡ true → e .table′ ≡ t → Finds w found → Shows l w e
     → keyReplyIn c t (liveSpots t) e ≡ queryDue l (length (e .output)) found counts (liveSpots t)
     → (isCounting c ≡ true → Counted l counts e)
+    → (hasCeiling c ≡ true → (e .answer .number ≡ 0 → ⊥) → e .ceiling′ ≡ pos 0)
     → ((x1 x2 y : ℤ) → c ≡ report x1 x2 y → ones (readMap (blocksRead w)) ≤ 1 + 36 * (headOf t .levels) + 9 * (length (spots w) / 16))
     → ((u : List ℕ) (f : Event) → SecondTable c t e u f → ((b : ℕ) → bit (readMap (blocksRead w)) b ≡ true → block u b ≡ block t b) → Again c l w e f)
     → Kept c t e
-query-kept c l w found counts t e s same whole p model counted bound second =
+query-kept c l w found counts t e s same whole p model counted refused bound second =
     record {
       agreed =
           record {
@@ -199,6 +217,7 @@ query-kept c l w found counts t e s same whole p model counted bound second =
             counts = λ q. rw model
                 (counted q .left ∙ ap (λ (a : Answer). countsLeft (a .number) counts (e .counts)) as-model ∙
                 counts-same l (length (e .output)) found counts ss (e .counts) (counted q .long));
+            ceiling = refused;
             staysSound = rw same s;
             bounded = λ x1 x2 y q z.
                 rw (marks-are z, found-detail l (length (e .output)) found counts ss (e .answer) as-model z, ← ap spots (whole .1)) (bound x1 x2 y q);
@@ -261,6 +280,19 @@ no-counts c = go (kind c)
     go (queriesEach n) h = h
     go tells h = refl
 
+-- nor has it a ceiling
+pub no-ceiling : (c : Call) → isQuery c ≡ false → hasCeiling c ≡ false
+no-ceiling format h = refl
+no-ceiling (add place rank track) h = refl
+no-ceiling (withdraw place rank) h = refl
+no-ceiling (report x1 x2 y) h = refl
+no-ceiling (top x1 x2 k) h = refl
+no-ceiling count h = refl
+no-ceiling check h = refl
+no-ceiling rebuild h = refl
+no-ceiling (reportMany rs) h = refl
+no-ceiling (topWithin x1 x2 k a) h = h
+
 no-query : (c : Call) (t : List ℕ) (due : Answer) (left counted : List ℕ) (e : Event) → isQuery c ≡ false → e .answer ≡ due → sound (e .table′) ≡ true
     → Agreed c t due left counted e
 no-query c t due left counted e n a s =
@@ -268,6 +300,7 @@ no-query c t due left counted e n a s =
       answer = a;
       output = λ q. absurd (true≢false (sym q ∙ n));
       counts = λ q. absurd (true≢false (sym q ∙ no-counts c n));
+      ceiling = λ q. absurd (true≢false (sym q ∙ no-ceiling c n));
       staysSound = s;
       bounded = λ x1 x2 y q. absurd (true≢false (sym (ap isQuery q) ∙ n));
       second = λ q. absurd (true≢false (sym q ∙ n));
@@ -342,6 +375,12 @@ module _ (laws : TreeLaws) where
   pub many-counts : (t : List ℕ) → sound t ≡ true → (rs : List Range) → countsOf t rs ≡ countEach (singlyIn (liveSpots t)) rs
   many-counts t s rs = count-each-same (λ r. spots (reportOf t r)) (singlyIn (liveSpots t)) rs (λ r i. ap (λ (w : Walk). length (spots w)) (single-finds t s r .1))
 
+  -- where all of what was read is the same, so is what a Top within an allowance shows
+  within-same : (t u : List ℕ) (x1 x2 : ℤ) (k a : ℕ) → reading u x1 x2 k a ≡ reading t x1 x2 k a
+      → (foundOnce u x1 x2 k a ≡ foundOnce t x1 x2 k a) × (withinTable u x1 x2 k a ≡ withinTable t x1 x2 k a) × (ceilingWithin u x1 x2 k a ≡ ceilingWithin t x1 x2 k a)
+  unfolding foundOnce withinTable ceilingWithin
+  within-same t u x1 x2 k a e = (rw e, rw e, rw e)
+
   -- each call keeps the model's list and the live spots one
   pub step : (c : Call) (t : List ℕ) (e : Event) → tableSized (length t) ≡ true → sound t ≡ true → MetBy c t e → Kept c t e
   unfolding keyReply replyTo earlyNumber refusedOr unlessRefused accepted changed nextBy countAnswer liveCount
@@ -366,6 +405,7 @@ module _ (laws : TreeLaws) where
       (p .promised)
       refl
       (λ q. absurd (false≢true q))
+      (λ q. absurd (false≢true q))
       (λ a b d q. rw (report-blocks t x1 x2 y, report-length t x1 x2 y) (laws .bound t s (query x1 x2 y)))
       (λ u f h m. record {
         shown =
@@ -373,11 +413,13 @@ module _ (laws : TreeLaws) where
             (report-same t x1 x2 y u (laws .second t u s (query x1 x2 y) (h .bytes) (λ b i. m b (rw (report-blocks t x1 x2 y) i))))
             (h .met .promised);
         counts = λ q. absurd (false≢true q);
+        ceiling = λ q. absurd (false≢true q);
       })
   step (top x1 x2 k) t e z s p =
       query-kept (top x1 x2 k) (earlyNumber (withOutput t (e .output) (e .readMap)) (top x1 x2 k)) (topTable t x1 x2 k) _ [] t e s (p .unchanged refl) (laws .tops t s x1 x2 k)
       (p .promised .exact (laws .top-rises t s x1 x2 k))
       refl
+      (λ q. absurd (false≢true q))
       (λ q. absurd (false≢true q))
       (λ a b d q. let z : _≡_ {A = ℕ} 0 1 = cc in omega arith)
       (λ u f h m.
@@ -385,6 +427,7 @@ module _ (laws : TreeLaws) where
       record {
         shown = shows-as f (early-again (top x1 x2 k) t u e f [] [] h refl) (same .1) (h .met .promised .exact (rw (same .0) (laws .top-rises t s x1 x2 k)));
         counts = λ q. absurd (false≢true q);
+        ceiling = λ q. absurd (false≢true q);
       })
   step count t e z s p =
       plain-kept count t e (p .promised .answered ∙ rw (z, laws .counts t s .1)) (rw (p .unchanged refl) s) (ap length (p .unchanged refl)) (rw (z, p .unchanged refl)) refl
@@ -402,8 +445,26 @@ module _ (laws : TreeLaws) where
         left = p .promised .counted ∙ ap (λ (ns : List ℕ). countsLeft (e .answer .number) ns (e .counts)) (many-counts t s rs);
         long = λ h. counts-long t (e .output) (e .readMap) (e .counts) rs h ∙ sym (count-each-long (singlyIn (liveSpots t)) rs);
       })
+      (λ q. absurd (false≢true q))
       (λ a b d q. let z : _≡_ {A = ℕ} 0 1 = cc in omega arith)
       (λ u f h m. record {
         shown = shows-as f (early-again (reportMany rs) t u e f (e .counts) (f .counts) h (h .counts refl)) (second-joined t u (h .bytes) rs unbroken m) (h .met .promised .handed);
         counts = λ q a. h .met .promised .counted ∙ rw (a, second-counts t u (h .bytes) rs unbroken m, h .counts refl) (sym (p .promised .counted));
+        ceiling = λ q. absurd (false≢true q);
+      })
+  step (topWithin x1 x2 k a) t e z s p =
+      let once = laws .within-once t s x1 x2 k a in
+      query-kept (topWithin x1 x2 k a) (earlyNumber (withOutput t (e .output) (e .readMap)) (topWithin x1 x2 k a)) (withinTable t x1 x2 k a) _ [] t e s (p .unchanged refl)
+      (laws .withins t s x1 x2 k a)
+      (p .promised .search .exact once)
+      refl
+      (λ q. absurd (false≢true q))
+      (λ q. p .promised .refused)
+      (λ a b d q. let z : _≡_ {A = ℕ} 0 1 = cc in omega arith)
+      (λ u f h m.
+      let same = within-same t u x1 x2 k a (laws .second-within t u s x1 x2 k a (h .bytes) m) in
+      record {
+        shown = shows-as f (early-again (topWithin x1 x2 k a) t u e f [] [] h refl) (same .1) (h .met .promised .search .exact (same .0 ∙ once));
+        counts = λ q. absurd (false≢true q);
+        ceiling = λ q r. h .met .promised .ceiling (same .0 ∙ once) ∙ rw (r, same .2) (sym (p .promised .ceiling once));
       })

@@ -14,7 +14,7 @@ use Rattle.block.specs.Answers.{answer}
 use Rattle.tree.specs.Lookup.{isLive}
 use Rattle.ranges.specs.Ranges.{forEach, countEach}
 use Rattle.ranges.specs.declared.Range.{Range}
-use Rattle.table.specs.Calls.{Call, format, add, withdraw, report, top, count, check, rebuild, reportMany, Lengths}
+use Rattle.table.specs.Calls.{Call, format, add, withdraw, report, top, count, check, rebuild, reportMany, topWithin, Lengths}
 use Rattle.revise.specs.Numbers.{addNumber}
 use Rattle.table.specs.Answers.{earlyNumber, spotsAnswer, countsLeft}
 
@@ -59,6 +59,10 @@ singly x1 x2 y ss = fromOn (fromOf (query x1 x2 y)) (keep (wants (query x1 x2 y)
 abbrev pub singlyIn : List Spot → Range → List Spot
 singlyIn ss r = singly (r .x1) (r .x2) (r .y) ss
 
+-- and those of a Top
+abbrev pub highestBy : ℤ → ℤ → ℕ → List Spot → List Spot
+highestBy x1 x2 k ss = take k (byTop (keep (wants (topQuery x1 x2 0)) ss))
+
 -- a call that lengths and arguments don't refuse
 unfoldable pub replyTo : Lengths → Call → List Spot → KeyReply
 replyTo l format ss = accepted 0 []
@@ -67,11 +71,12 @@ replyTo l (add place rank track) ss =
     (put (record { key = key place rank; track = track }) (without (key place rank) ss))
 replyTo l (withdraw place rank) ss = changed (answer 0 0) ss (without (key place rank) ss)
 replyTo l (report x1 x2 y) ss = gives (l .output) (singly x1 x2 y ss) [] ss
-replyTo l (top x1 x2 k) ss = gives (l .output) (take k (byTop (keep (wants (topQuery x1 x2 0)) ss))) [] ss
+replyTo l (top x1 x2 k) ss = gives (l .output) (highestBy x1 x2 k ss) [] ss
 replyTo l count ss = accepted (length ss) ss
 replyTo l check ss = accepted 1 ss
 replyTo l rebuild ss = changed (answer 0 0) ss ss
 replyTo l (reportMany rs) ss = gives (l .output) (forEach (singlyIn ss) rs) (countEach (singlyIn ss) rs) ss
+replyTo l (topWithin x1 x2 k a) ss = gives (l .output) (highestBy x1 x2 k ss) [] ss
 
 -- what the model answers, in keys
 unfoldable pub keyReply : Lengths → Call → List Spot → KeyReply

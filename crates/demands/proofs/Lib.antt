@@ -6,6 +6,7 @@ pub mod Onward
 pub mod Sorted
 pub mod Histories
 pub mod MarksFew
+pub mod Withins
 pub mod Demand
 pub mod Worked
 pub mod Demand2

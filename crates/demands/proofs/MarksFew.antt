@@ -1,7 +1,7 @@
 -- Request 2026-09, from the promise of Top alone: Top marks no block that a Report over the same places, from the rank of the last spot given, doesn't mark.
 -- Assumes nothing.
 use mathlib.Core.Path.{_≡_, refl, ap, sym, subst, _∙_}
-use mathlib.Core.Logic.{_⊎_, inl, ⊎-elim}
+use mathlib.Core.Logic.{_⊎_, inl, ⊎-elim, _↔_}
 use mathlib.Core.Bool.{Bool, true, false, cond, not, _&&_}
 use mathlib.Core.List.{List, [], _∷_, _++_, List·Memᴰ, List·Memᴰ·not-nil, List·Memᴰ·cases-cons}
 use Prim.Native.Nat.{ℕ, zero, suc, _<_}
@@ -21,13 +21,20 @@ use Rattle.tree.specs.Top.{topTable}
 use Rattle.tree.specs.Read.{ReadBlock}
 use Rattle.tree.specs.ReadMap.{readMap}
 use Rattle.tree.specs.Sound.{sound}
-use Rattle.tree.proofs.Marks.{map-bit, read-in, zero-marked}
+use Rattle.tree.proofs.Marks.{map-bit, read-in, read-mem, zero-marked}
 use Rattle.tree.proofs.Sources.{read-marked}
 use Rattle.tree.proofs.ReadWords.{marks-exact-words}
 use Rattle.tree.proofs.TopMarks.{top-within, top-within-all, top-zero}
 use Rattle.demands.specs.Model.{PlainSpot}
 use Rattle.demands.specs.TopMarks.{leastRank, lastRank, rankReached, MarksFew}
 use Rattle.demands.proofs.Plain.{toKeySpot, keyed, SpotFits, AllFit, keyed-length}
+
+-- what a map of the blocks read marks: block 0 and those
+pub map-words : (bs : List ℕ) (b : ℕ) → b < 4096 → (bit (readMap bs) b ≡ true) ↔ ((b ≡ 0) ⊎ List·Memᴰ b bs)
+map-words bs b l = (
+  λ m. List·Memᴰ·cases-cons (read-in bs b (sym (map-bit bs b l) ∙ m)),
+  ⊎-elim (λ (q : b ≡ 0). rw q (zero-marked bs)) (λ i. map-bit bs b l ∙ read-mem bs b i),
+)
 
 -- ---- the last spot of a list
 
@@ -99,17 +106,13 @@ module _ (t : List ℕ) (g : sound t ≡ true) (x1 x2 : ℤ) (h1 : signed32 x1 �
       go true e = rw (ne-eqb (suc k) 0 (λ h. omega arith)) (found-words k (s ∷ ss) same (eqb-true _ _ e) (ends leastRank s ss f) b l i)
       go false e = least-words k b l i
 
-  -- a block marked by Top's map is block 0 or one of its walk
-  marked : (bs : List ℕ) (b : ℕ) → b < 4096 → bit (readMap bs) b ≡ true → (b ≡ 0) ⊎ List·Memᴰ b bs
-  marked bs b l m = List·Memᴰ·cases-cons (read-in bs b (sym (map-bit bs b l) ∙ m))
-
   pub marks-few : (k : ℕ) (given : List PlainSpot) → AllFit given → keyed given ≡ spots (topTable t x1 x2 k) → (map : List ℕ) → map ≡ readMap (blocksRead (topTable t x1 x2 k))
       → MarksFew x1 x2 k given t map
   marks-few k given f same map e =
       record {
-        within = λ b l m. ⊎-elim inl (reached k given f same b l) (marked (blocksRead (topTable t x1 x2 k)) b l (rw e at m));
+        within = λ b l m. ⊎-elim inl (reached k given f same b l) (map-words (blocksRead (topTable t x1 x2 k)) b l .0 (rw e at m));
         none = λ z b l. (
-          λ m. ⊎-elim (λ (q : b ≡ 0). q) (λ i. absurd (List·Memᴰ·not-nil (rw (z, top-zero t g x1 x2) at i))) (marked (blocksRead (topTable t x1 x2 k)) b l (rw e at m)),
+          λ m. ⊎-elim (λ (q : b ≡ 0). q) (λ i. absurd (List·Memᴰ·not-nil (rw (z, top-zero t g x1 x2) at i))) (map-words (blocksRead (topTable t x1 x2 k)) b l .0 (rw e at m)),
           λ q. rw (e, q) (zero-marked (blocksRead (topTable t x1 x2 k))),
         );
       }

@@ -1,17 +1,18 @@
 -- The model's orders, equality and bytes, which are written over whole numbers, are those of keys.
 -- Assumes nothing.
 use mathlib.Core.Path.{_≡_, sym, ap, ap₂, _∙_}
-use mathlib.Core.Bool.{_&&_, _||_}
+use mathlib.Core.Logic.{⊎-elim}
+use mathlib.Core.Bool.{true, _&&_, _||_}
 use mathlib.Core.List.{List, _++_}
-use Prim.Native.Nat.{ℕ, suc, _+_, _-_, _/_, _%_}
+use Prim.Native.Nat.{ℕ, suc, _+_, _-_, _/_, _%_, _≤_, _<_}
 use native.Mathlib.Omega.{arith}
 use lib.Dec.{leb, ltb, eqb}
-use borrow.Author.Tests.{ne-eqb}
+use borrow.Author.Tests.{le-leb, lt-leb, ne-eqb}
 use lib.IntN.{ℤ, pos, negsuc}
 use lib.Signed.{leZ, ltZ}
 use Rattle.octets.specs.Bytes.{bytesOf}
-use Rattle.octets.proofs.Order.{eqb-same}
-use Rattle.spot.specs.Keys.{biased, key, topKey, turned}
+use Rattle.octets.proofs.Order.{less-or-not, eqb-same}
+use Rattle.spot.specs.Keys.{half, biased, unbiased, key, topKey, turned}
 use Rattle.spot.specs.Spots.{keyBytes}
 use Rattle.spot.specs.Query.{query, fromOf}
 use Rattle.spot.proofs.Signed.{Fits}
@@ -27,6 +28,16 @@ eqZ-biased (pos a) (negsuc b) f g = sym (ne-eqb (2147483648 + a) (2147483648 - s
 eqZ-biased (negsuc a) (pos b) f g = sym (ne-eqb (2147483648 - suc a) (2147483648 + b) (λ h. omega arith))
 eqZ-biased (negsuc a) (negsuc b) f g =
     eqb-same a b (2147483648 - suc a) (2147483648 - suc b) (λ h. omega arith) (λ h. omega (arith, f .sfits, g .sfits))
+
+-- what is moved down keeps its order, whatever its size
+pub unbiased-rises : (u v : ℕ) → u ≤ v → leZ (unbiased u) (unbiased v) ≡ true
+unfolding unbiased
+unbiased-rises u v l =
+    ⊎-elim (λ (h : half ≤ u). rw (le-leb half u h, le-leb half v (omega arith)) (le-leb (u - half) (v - half) (omega arith)))
+    (λ (h : u < half).
+    ⊎-elim (λ (m : half ≤ v). rw (lt-leb half u h, le-leb half v m)) (λ (m : v < half). rw (lt-leb half u h, lt-leb half v m) (le-leb (half - suc v) (half - suc u) (omega arith)))
+    (less-or-not half v))
+    (less-or-not half u)
 
 module _ (p r q s : ℤ) (fp : Fits p) (fr : Fits r) (fq : Fits q) (fs : Fits s) where
   -- place order, "places, then ranks", is the order of keys
@@ -61,7 +72,7 @@ four-bytes v =
     let b : v / 65536 % 256 ≡ v / 256 / 256 % 256 = omega arith in
     rw (a, b)
 
-turned-biased : (z : ℤ) → Fits z → complement z ≡ turned (biased z)
+pub turned-biased : (z : ℤ) → Fits z → complement z ≡ turned (biased z)
 unfolding complement
 turned-biased (pos n) f = omega (arith, f .sfits)
 turned-biased (negsuc n) f = omega (arith, f .sfits)

@@ -25,11 +25,11 @@ use Rattle.tree.specs.Lookup.{isLive}
 use Rattle.ranges.specs.Ranges.{forEach, countEach}
 use Rattle.ranges.specs.declared.Range.{Range}
 use Rattle.report.proofs.Joined.{for-each-same, for-each-map, count-each-same}
-use Rattle.table.specs.Calls.{Call, format, add, withdraw, report, top, count, check, rebuild, reportMany, Kind, makes, updates, queries, queriesEach, tells, kind, Lengths, rangeFits, argumentsFit}
+use Rattle.table.specs.Calls.{Call, format, add, withdraw, report, top, count, check, rebuild, reportMany, topWithin, Kind, makes, updates, queries, queriesEach, tells, kind, Lengths, rangeFits, argumentsFit}
 use Rattle.revise.specs.Numbers.{addNumber}
 use Rattle.table.specs.Answers.{lent, fewEnough, earlyNumber, spotsAnswer, outputLeft, countsLeft}
 use Rattle.demands.specs.Model.{PlainSpot, hasIdentity, placeBefore, topBefore, ofPlaces, ofReport, chosen, fromOnward, reported, reportedIn, insertBy, sortBy, listed, takenOut, broughtIn, highest, fourBytes, complement, asBytes, Plain, begunEmpty, Reply, outputAfter, refuse, accept, badTable, badLent, tooMany, full, handOut, ownReply, reply}
-use Rattle.demands.proofs.Keyed.{KeyReply, keyReply, replyTo, refusedOr, accepted, changed, nextBy, gives, singly, singlyIn}
+use Rattle.demands.proofs.Keyed.{KeyReply, keyReply, replyTo, refusedOr, accepted, changed, nextBy, gives, singly, singlyIn, highestBy}
 use Rattle.demands.proofs.Orders.{model-places, model-tops, model-identity, model-from, model-under, four-bytes, key-bytes}
 
 -- a spot of the model as the table's definitions have it
@@ -226,7 +226,7 @@ module _ (x1 x2 : ℤ) (f1 : Fits x1) (f2 : Fits x2) where
       (keyed-chosen (ofReport x1 x2 y) (wants (query x1 x2 y)) (λ s f. report-wants x1 x2 f1 f2 (s .place) (s .rank) (f .place) (f .rank) y fy) ss h)
 
   -- what Top gives, and that it fits
-  pub keyed-highest : (k : ℕ) (ss : List PlainSpot) → AllFit ss → keyed (highest x1 x2 k ss) ≡ take k (byTop (keep (wants (topQuery x1 x2 0)) (keyed ss)))
+  pub keyed-highest : (k : ℕ) (ss : List PlainSpot) → AllFit ss → keyed (highest x1 x2 k ss) ≡ highestBy x1 x2 k (keyed ss)
   unfolding highest ofPlaces ofRange
   keyed-highest k ss h =
       keyed-take k (sortBy topBefore (chosen (ofPlaces x1 x2) ss)) ∙
@@ -363,6 +363,15 @@ full-number : (bytes : ℕ) (place rank : ℤ) (ss : List PlainSpot) → Fits pl
 unfolding full addNumber
 full-number bytes place rank ss fp fr h = rw (keyed-length ss, ← listed-live place rank fp fr ss h)
 
+-- the highest, for a call of Top's kind
+like-top : (l : Lengths) (x1 x2 : ℤ) (k : ℕ) (ps : Plain) → signed32 x1 && signed32 x2 ≡ true → (h : AllFit (ps .spots))
+    → Like (handOut (l .output) (highest x1 x2 k (ps .spots)) [] ps) (gives (l .output) (highestBy x1 x2 k (keyed (ps .spots))) [] (keyed (ps .spots)))
+like-top l x1 x2 k ps a h =
+    let f = two-fit x1 x2 a in
+    like-given ps h (l .output) (highest x1 x2 k (ps .spots)) _ [] [] (highest-fit x1 x2 (f .0) (f .1) k (ps .spots) h)
+    (keyed-highest x1 x2 (f .0) (f .1) k (ps .spots) h)
+    refl
+
 -- every call is answered alike
 like-own : (l : Lengths) (c : Call) (ps : Plain) → argumentsFit c ≡ true → AllFit (ps .spots) → Like (ownReply l c ps) (replyTo l c (keyed (ps .spots)))
 unfolding ownReply replyTo argumentsFit
@@ -378,11 +387,7 @@ like-own l (withdraw place rank) ps a h =
 like-own l (report x1 x2 y) ps a h =
     let f = three-fit x1 x2 y a in
     like-given ps h (l .output) (reported x1 x2 y (ps .spots)) _ [] [] (report-fit x1 x2 y (ps .spots) h) (keyed-report x1 x2 (f .0) (f .1) y (f .2) (ps .spots) h) refl
-like-own l (top x1 x2 k) ps a h =
-    let f = two-fit x1 x2 (and-left (signed32 x1 && signed32 x2) (unsigned32 k) a) in
-    like-given ps h (l .output) (highest x1 x2 k (ps .spots)) _ [] [] (highest-fit x1 x2 (f .0) (f .1) k (ps .spots) h)
-    (keyed-highest x1 x2 (f .0) (f .1) k (ps .spots) h)
-    refl
+like-own l (top x1 x2 k) ps a h = like-top l x1 x2 k ps (and-left (signed32 x1 && signed32 x2) (unsigned32 k) a) h
 like-own l count ps a h = rw (keyed-length (ps .spots)) (like-accept (length (ps .spots)) ps h)
 like-own l check ps a h = like-accept 1 ps h
 like-own l rebuild ps a h = like-full ps h false ps _ h refl
@@ -390,6 +395,8 @@ like-own l (reportMany rs) ps a h =
     like-given ps h (l .output) (forEach (reportedIn (ps .spots)) rs) _ (countEach (reportedIn (ps .spots)) rs) _ (each-fit (ps .spots) h rs)
     (keyed-each (ps .spots) h rs a)
     (counts-each (ps .spots) h rs a)
+like-own l (topWithin x1 x2 k a) ps b h =
+    like-top l x1 x2 k ps (and-left (signed32 x1 && signed32 x2) (unsigned32 k) (and-left (signed32 x1 && signed32 x2 && unsigned32 k) (unsigned32 a) b)) h
 
 pub like : (l : Lengths) (c : Call) (ps : Plain) → argumentsFit c ≡ true → AllFit (ps .spots) → Like (reply l c ps) (keyReply l c (keyed (ps .spots)))
 unfolding reply keyReply earlyNumber

@@ -15,7 +15,7 @@ use Rattle.octets.proofs.Tests.{and-left, and-right, and-both, every-mem, every
 use Rattle.octets.proofs.Order.{less-or-not}
 use Rattle.spot.specs.Keys.{key, signed32, unsigned32}
 use Rattle.ranges.specs.Ranges.{forEach}
-use Rattle.table.specs.Calls.{Call, format, add, withdraw, report, top, count, check, rebuild, reportMany, kind, Lengths, argumentsFit}
+use Rattle.table.specs.Calls.{Call, format, add, withdraw, report, top, count, check, rebuild, reportMany, topWithin, kind, Lengths, argumentsFit}
 use Rattle.demands.specs.Model.{PlainSpot, hasIdentity, placeBefore, chosen, reported, reportedIn, insertBy, listed, takenOut, broughtIn, highest, Plain, Reply, refuse, accept, badTable, badLent, tooMany, full, handOut, ownReply, reply}
 use Rattle.demands.specs.Demands.{InOrder}
 use Rattle.demands.proofs.Plain.{toKeySpot, SpotFits, AllFit, before-is, identity-key, out-fit, two-fit}
@@ -156,6 +156,7 @@ module _ (P : List PlainSpot → Type 0) (l : Lengths) (ps : Plain) (kept : P (p
     after-call check a = kept
     after-call rebuild a = kept
     after-call (reportMany rs) a = refused-or (ltb (l .output / 12) (length (forEach (reportedIn (ps .spots)) rs))) 5 _ _ (λ z. kept)
+    after-call (topWithin x1 x2 k b) a = refused-or (ltb (l .output / 12) (length (highest x1 x2 k (ps .spots)))) 5 _ _ (λ z. kept)
 
     stays : (c : Call) → argumentsFit c ≡ true → P (reply l c ps .next .spots)
     unfolding reply

@@ -1,4 +1,4 @@
--- The marked cases M1 to M8 of the paper and those of rings, of many ranges, of a full table, of lengths and of the ends of 32 bits, as rows of one table: a test that antt
+-- The marked cases M1 to M8 of the paper and those of rings, of many ranges, of an allowance, of a full table, of lengths and of the ends of 32 bits, as rows of one table: a test that antt
 -- computes over all of them, and one law that turns it into the equations. A row asks the model, but for M1's, which is of the table's bytes.
 -- Assumes nothing.
 use mathlib.Core.Path.{_≡_, refl, ap, ap₂, _∙_}
@@ -25,10 +25,10 @@ use Rattle.tree.specs.Report.{reportTable}
 use Rattle.tree.specs.Sound.{sound}
 use Rattle.tree.proofs.Fresh.{fresh-sized, fresh-walk, fresh-sound, fresh-levels}
 use Rattle.ranges.specs.declared.Range.{Range}
-use Rattle.table.specs.Calls.{Call, format, add, withdraw, report, top, count, check, rebuild, reportMany, Lengths, rangeFits, argumentsFit}
+use Rattle.table.specs.Calls.{Call, format, add, withdraw, report, top, count, check, rebuild, reportMany, topWithin, Lengths, rangeFits, argumentsFit}
 use Rattle.table.specs.Answers.{withOutput, spotsAnswer, outputLeft}
 use Rattle.table.specs.Queries.{walkAnswer, ReportPost}
-use Rattle.demands.specs.Model.{Plain, begunEmpty, eqZ, hasIdentity, placeBefore, topBefore, ofPlaces, ofReport, fromOnward, reported, takenOut, broughtIn, highest, fourBytes, complement, Reply, outputAfter, countsAfter, refuse, accept, badTable, badLent, tooMany, full, handOut, ownReply, reply}
+use Rattle.demands.specs.Model.{Plain, begunEmpty, eqZ, hasIdentity, placeBefore, topBefore, ofPlaces, ofReport, fromOnward, reported, takenOut, broughtIn, highest, fourBytes, complement, Reply, outputAfter, countsAfter, refuse, accept, badTable, badLent, tooMany, full, handOut, ownReply, reply, told}
 use Rattle.table.proofs.Answering.{long-enough}
 
 -- a table of this many blocks, a read map and a work area as they should be, an output of this many bytes, and this many counts
@@ -117,6 +117,10 @@ range x1 x2 y = record { x1 = x1; x2 = x2; y = y }
 abbrev overlapping : Call
 overlapping = reportMany (range (pos 0) (pos 100) (pos 7) ∷ range (pos 100) (pos 240) (pos 7) ∷ [])
 
+-- a Top for as many spots, and with as large an allowance, as 32 bits hold
+abbrev within : Call
+within = topWithin (pos 0) (pos 240) 4294967295 4294967295
+
 -- the range of place 0, n times
 abbrev times : ℕ → Call
 times n = reportMany (replicate n (range (pos 0) (pos 0) least))
@@ -139,6 +143,13 @@ rows =
     asks (record { before = row; call = top (negsuc 2) (pos 240) 3; lent = room 36; number = 0; detail = 3; front = 0 ∷ 0 ∷ 0 ∷ 100 ∷ 0 ∷ 0 ∷ 0 ∷ 8 ∷ 0 ∷ 0 ∷ 0 ∷ 4 ∷ 255 ∷ 255 ∷ 255 ∷ 253 ∷ 0 ∷ 0 ∷ 0 ∷ 7 ∷ 0 ∷ 0 ∷ 0 ∷ 3 ∷ 0 ∷ 0 ∷ 0 ∷ 0 ∷ 0 ∷ 0 ∷ 0 ∷ 7 ∷ 0 ∷ 0 ∷ 0 ∷ 1 ∷ [] }) ∷
     asks (record { before = row; call = top (negsuc 2) (pos 240) 4; lent = room 48; number = 0; detail = 4; front = 0 ∷ 0 ∷ 0 ∷ 100 ∷ 0 ∷ 0 ∷ 0 ∷ 8 ∷ 0 ∷ 0 ∷ 0 ∷ 4 ∷ 255 ∷ 255 ∷ 255 ∷ 253 ∷ 0 ∷ 0 ∷ 0 ∷ 7 ∷ 0 ∷ 0 ∷ 0 ∷ 3 ∷ 0 ∷ 0 ∷ 0 ∷ 0 ∷ 0 ∷ 0 ∷ 0 ∷ 7 ∷ 0 ∷ 0 ∷ 0 ∷ 1 ∷ 0 ∷ 0 ∷ 0 ∷ 240 ∷ 0 ∷ 0 ∷ 0 ∷ 7 ∷ 0 ∷ 0 ∷ 0 ∷ 2 ∷ [] }) ∷
     asks (record { before = row; call = top (negsuc 1) (pos 99) 1; lent = room 12; number = 0; detail = 1; front = 0 ∷ 0 ∷ 0 ∷ 0 ∷ 0 ∷ 0 ∷ 0 ∷ 7 ∷ 0 ∷ 0 ∷ 0 ∷ 1 ∷ [] }) ∷
+    -- within an allowance: untold, as a Top; told how many it can give, as a Top for so many, and 5 is about those
+    asks (record { before = two; call = within; lent = room 24; number = 0; detail = 2; front = 0 ∷ 0 ∷ 0 ∷ 0 ∷ 0 ∷ 0 ∷ 0 ∷ 7 ∷ 0 ∷ 0 ∷ 0 ∷ 1 ∷ 0 ∷ 0 ∷ 0 ∷ 240 ∷ 0 ∷ 0 ∷ 0 ∷ 7 ∷ 0 ∷ 0 ∷ 0 ∷ 2 ∷ [] }) ∷
+    asks (record { before = two; call = within; lent = room 23; number = 5; detail = 2; front = [] }) ∷
+    asks (record { before = two; call = told within 1; lent = room 23; number = 0; detail = 1; front = 0 ∷ 0 ∷ 0 ∷ 0 ∷ 0 ∷ 0 ∷ 0 ∷ 7 ∷ 0 ∷ 0 ∷ 0 ∷ 1 ∷ [] }) ∷
+    asks (record { before = two; call = told within 1; lent = room 11; number = 5; detail = 1; front = [] }) ∷
+    asks (record { before = two; call = told within 0; lent = room 0; number = 0; detail = 0; front = [] }) ∷
+    asks (record { before = two; call = within; lent = record { table = 18432; output = 24; readMap = 511; scratch = 0; counts = 0 }; number = 2; detail = 0; front = [] }) ∷
     -- M5: "gives both spots, place 240 first"
     asks (record { before = two; call = report (pos 240) (pos 0) (pos 7); lent = room 24; number = 0; detail = 2; front = 0 ∷ 0 ∷ 0 ∷ 240 ∷ 0 ∷ 0 ∷ 0 ∷ 7 ∷ 0 ∷ 0 ∷ 0 ∷ 2 ∷ 0 ∷ 0 ∷ 0 ∷ 0 ∷ 0 ∷ 0 ∷ 0 ∷ 7 ∷ 0 ∷ 0 ∷ 0 ∷ 1 ∷ [] }) ∷
     -- x1 just above x2: every place, begun at x1. Top of such a range: its order stays.

@@ -8,7 +8,7 @@ use mathlib.Core.Bool.{Bool, true, false, cond, _&&_, _||_}
 use mathlib.Core.List.{List, [], _∷_, _++_, List·Memᴰ}
 use mathlib.Core.Option.{some}
 use lib.ListN.{length, drop}
-use lib.IntN.{ℤ}
+use lib.IntN.{ℤ, pos}
 use lib.Signed.{leZ, ltZ}
 use Rattle.octets.specs.Lists.{every, has}
 use Rattle.spot.specs.Keys.{key, signed32}
@@ -19,9 +19,9 @@ use Rattle.tree.specs.Lookup.{live}
 use Rattle.tree.specs.Sound.{sound}
 use Rattle.ranges.specs.Ranges.{forEach, countEach}
 use Rattle.ranges.specs.declared.Range.{Range}
-use Rattle.table.specs.Calls.{Call, add, withdraw, report, top, reportMany, isQuery, isCounting, argumentsFit}
+use Rattle.table.specs.Calls.{Call, add, withdraw, report, top, reportMany, topWithin, isQuery, isCounting, hasCeiling, argumentsFit}
 use Rattle.table.specs.Answers.{lengths, earlyNumber, spotsAnswer}
-use Rattle.table.specs.Queries.{HandsOut, HandsOutEach, ReportPost, ManyPost, TopPost}
+use Rattle.table.specs.Queries.{HandsOut, HandsOutEach, ReportPost, ManyPost, TopPost, WithinPost}
 use Rattle.table.specs.Updates.{AddPost, WithdrawPost}
 use Rattle.demands.specs.Model.{PlainSpot, hasIdentity, placeBefore, topBefore, asBytes}
 use Rattle.demands.specs.History.{Event, MetBy, SecondTable, SameOnSecond}
@@ -44,12 +44,15 @@ pub record TurnedDown (c : Call) (t : List ℕ) (e : Event) : Type 0 where
   pub output : isQuery c ≡ true → e .output′ ≡ e .output
   pub readMap : isQuery c ≡ true → e .readMap′ ≡ e .readMap
   pub counts : isCounting c ≡ true → e .counts′ ≡ e .counts
+  -- the ceiling is a result: "(0 if refused)"
+  pub ceiling : hasCeiling c ≡ true → e .ceiling′ ≡ pos 0
 
 -- "On an unsound table a call that isn't refused still hands out only spots of its range from blocks marked read"
 pub record OnlyMarked (c : Call) (t : List ℕ) (e : Event) : Type 0 where
   pub reports : (x1 x2 y : ℤ) → c ≡ report x1 x2 y → HandsOut (query x1 x2 y) t (e .output) (e .answer) (e .output′) (e .readMap′)
   pub tops : (x1 x2 : ℤ) (k : ℕ) → c ≡ top x1 x2 k → HandsOut (topQuery x1 x2 0) t (e .output) (e .answer) (e .output′) (e .readMap′)
   pub manys : (rs : List Range) → c ≡ reportMany rs → HandsOutEach rs t (e .output) (e .answer) (e .counts′) (e .output′) (e .readMap′)
+  pub withins : (x1 x2 : ℤ) (k a : ℕ) → c ≡ topWithin x1 x2 k a → HandsOut (topQuery x1 x2 0) t (e .output) (e .answer) (e .output′) (e .readMap′)
 
 -- what is claimed of a call that ended
 pub record AnyBytes (c : Call) (t : List ℕ) (e : Event) : Type 0 where
@@ -107,6 +110,13 @@ pub record TopOf (x1 x2 : ℤ) (k : ℕ) (t : List ℕ) (given : List PlainSpot)
   pub most : length given ≤ k
   pub all : length given < k → (s : PlainSpot) → OfPlaces x1 x2 t s → List·Memᴰ s given
   pub highest : (s : PlainSpot) → OfPlaces x1 x2 t s → (List·Memᴰ s given → ⊥) → (r : PlainSpot) → List·Memᴰ r given → topBefore r s ≡ true
+
+-- request 2026-10: the first of the live spots of the places in Top's order, up to k, "whose rank is above every such child's", and the ceiling c: "no other live
+-- spot of the range is above it"
+pub record WithinOf (x1 x2 : ℤ) (k : ℕ) (t : List ℕ) (given : List PlainSpot) (r : Answer) (c : ℤ) : Type 0 where
+  pub first : TopOf x1 x2 (length given) t given
+  pub few : length given ≤ k
+  pub over : r .number ≡ 0 → (s : PlainSpot) → OfPlaces x1 x2 t s → (List·Memᴰ s given → ⊥) → leZ (s .rank) c ≡ true
 
 -- what a query answers and leaves of the output, where these are its spots
 pub record HandedOut (given : List PlainSpot) (out : List ℕ) (r : Answer) (out′ : List ℕ) : Type 0 where
@@ -170,6 +180,10 @@ pub record Demand2 : Type 0 where
       → (given : Range → List PlainSpot) × ((x : Range) → List·Memᴰ x rs → ReportOf (x .x1) (x .x2) (x .y) t (given x)) ×
       HandedOut (forEach given rs) out r out′ ×
       CountedOut given rs counts r counts′
+  -- request 2026-10
+  pub withins : (x1 x2 : ℤ) (k a : ℕ) (t out map : List ℕ) (r : Answer) (out′ map′ : List ℕ) (c : ℤ) → OnSound (topWithin x1 x2 k a) t out map [] []
+      → WithinPost x1 x2 k a t out map r out′ map′ c
+      → (given : List PlainSpot) × WithinOf x1 x2 k t given r c × HandedOut given out r out′
 
 -- ---- request 2026-09
 

@@ -11,7 +11,7 @@ use lib.Signed.{ltZ, leZ}
 use Rattle.block.specs.declared.Answer.{Answer}
 use Rattle.ranges.specs.declared.Range.{Range}
 use Rattle.ranges.specs.Ranges.{forEach, countEach}
-use Rattle.table.specs.Calls.{Call, format, add, withdraw, report, top, count, check, rebuild, reportMany, Kind, makes, updates, queries, queriesEach, tells, kind, Lengths}
+use Rattle.table.specs.Calls.{Call, format, add, withdraw, report, top, count, check, rebuild, reportMany, topWithin, Kind, makes, updates, queries, queriesEach, tells, kind, Lengths}
 
 -- "A spot has a place and a rank, and a track number"
 pub record PlainSpot : Type 0 where
@@ -173,8 +173,23 @@ ownReply l count ps = accept (length (ps .spots)) [] [] ps
 ownReply l check ps = accept 1 [] [] ps
 ownReply l rebuild ps = accept 0 [] [] ps
 ownReply l (reportMany rs) ps = handOut (l .output) (forEach (reportedIn (ps .spots)) rs) (countEach (reportedIn (ps .spots)) rs) ps
+ownReply l (topWithin x1 x2 k a) ps = handOut (l .output) (highest x1 x2 k (ps .spots)) [] ps
 
 -- "Every call: 1 and 2 as the lengths give them; 3 never"; "The order is that of the table"; "It refuses with 6, after 2 and before 3"
 unfoldable pub reply : Lengths → Call → Plain → Reply
 reply l c ps =
     cond (badTable (l .table)) (refuse 1 0 ps) (cond (badLent l (kind c)) (refuse 2 0 ps) (cond (tooMany (kind c)) (refuse 6 0 ps) (ownReply l c ps)))
+
+-- request 2026-10: how many spots a Top within an allowance can give hangs on the arrangement, of which the list knows nothing. Told that number, the list answers
+-- as to a Top for so many; untold, as to a Top with no allowance. Every other call is as it is.
+abbrev pub told : Call → ℕ → Call
+told format n = format
+told (add place rank track) n = add place rank track
+told (withdraw place rank) n = withdraw place rank
+told (report x1 x2 y) n = report x1 x2 y
+told (top x1 x2 k) n = top x1 x2 k
+told count n = count
+told check n = check
+told rebuild n = rebuild
+told (reportMany rs) n = reportMany rs
+told (topWithin x1 x2 k a) n = top x1 x2 n

@@ -10,9 +10,9 @@ use crate::list;
 use crate::list::SLOTS;
 use crate::told;
 
-const FIRST: i32 = -2147483648;
+pub const FIRST: i32 = -2147483648;
 
-const LAST: i32 = 2147483647;
+pub const LAST: i32 = 2147483647;
 
 // Whether a comes before b in a Report that begins at place x1: what lies past the door comes last.
 fn report_before(x1: i32, a: u64, b: u64) -> bool {
@@ -86,7 +86,7 @@ pub fn call_report(
     table::report(table, x1, x2, y, output, map)
 }
 
-fn call_top(
+pub fn call_top(
     table: &[u8],
     x1: i32,
     x2: i32,
@@ -98,7 +98,7 @@ fn call_top(
 }
 
 // Whether every block that one map marks is marked in one of two others.
-fn within(a: &[u8; 512], b: &[u8; 512], c: &[u8; 512]) -> bool {
+pub fn within(a: &[u8; 512], b: &[u8; 512], c: &[u8; 512]) -> bool {
     let mut i = 0;
     while i < 512 {
         let both = a[i] & (b[i] | c[i]);
@@ -165,7 +165,7 @@ fn least(a: u64, b: u64) -> u64 {
 }
 
 // Compares n spots that Top gave with the list: none that is not given comes before the last.
-fn top_in_list(
+pub fn top_in_list(
     output: &[u8; 57408],
     n: usize,
     list: &[u64; 9568],

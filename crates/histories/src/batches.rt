@@ -1,5 +1,6 @@
 // Many ranges in one call, compared with the list and with single reports.
 ghost use Prim.Native.Nat.{_≤_, _<_};
+ghost use lib.ListN.{length};
 use crate::Run;
 use crate::asks::call_report;
 use crate::asks::spots_in_list;
@@ -39,7 +40,7 @@ struct Single {
     end: usize,
 }
 
-fn later(seed: u64) -> u64 {
+pub fn later(seed: u64) -> u64 {
     next(next(next(next(seed))))
 }
 
@@ -73,7 +74,7 @@ fn any_range(seed: u64) -> ranges::Range {
 }
 
 // Of ten, one is the last one again, two begin near it, one is past the door, and where ranges are wide one is any; the others are stretches from any place on.
-fn next_range(seed: u64, last: ranges::Range, width: u64) -> ranges::Range
+pub fn next_range(seed: u64, last: ranges::Range, width: u64) -> ranges::Range
     requires { ⌜ (0 < width) × (width ≤ 4096) ⌝ }
 {
     let kind = below(seed, 10);
@@ -162,7 +163,7 @@ fn draw_room(seed: u64, total: u64) -> usize {
     57408
 }
 
-fn smaller(a: usize, b: usize) -> usize
+pub fn smaller(a: usize, b: usize) -> usize
     ensures { λ r. ⌜ r ≤ b ⌝ }
 {
     if a < b {
@@ -252,7 +253,7 @@ fn same_counts(a: &[u32; 66], b: &[u32; 66]) -> bool {
     true
 }
 
-fn same_bytes(a: &[u8], b: &[u8]) -> bool {
+pub fn same_bytes(a: &[u8], b: &[u8]) -> bool {
     if a.len() != b.len() {
         return false;
     }
@@ -361,8 +362,11 @@ fn report_each(
 }
 
 // Copies a block that is marked.
-fn copy_block(table: &[u8], second: &mut [u8], map: &[u8; 513], b: usize) {
+fn copy_block(table: &[u8], second: &mut [u8], map: &[u8], b: usize) {
     if 4096 <= b {
+        return;
+    }
+    if map.len() < 512 {
         return;
     }
     if !octets::test_bit(map, b) {
@@ -379,7 +383,7 @@ fn copy_block(table: &[u8], second: &mut [u8], map: &[u8; 513], b: usize) {
     octets::copy(&table[at..end], &mut second[at..end], 2048);
 }
 
-fn copy_marked(table: &[u8], second: &mut [u8], map: &[u8; 513]) {
+fn copy_marked(table: &[u8], second: &mut [u8], map: &[u8]) {
     let n = table.len() / 2048;
     let mut b = 0;
     while b < n {
@@ -388,7 +392,15 @@ fn copy_marked(table: &[u8], second: &mut [u8], map: &[u8; 513]) {
     }
 }
 
-// The call on a second table, which has zeros in the blocks that are not marked.
+// Makes a second table, which has zeros in the blocks that are not marked.
+pub fn lay_second(table: &[u8], second: &mut [u8], map: &[u8])
+    requires { ⌜ length (now table) ≤ length (now second) ⌝ }
+{
+    octets::zero(second, table.len());
+    copy_marked(table, second, map);
+}
+
+// The call on a second table.
 fn on_second(
     table: &[u8],
     second: &mut [u8],
@@ -402,8 +414,7 @@ fn on_second(
     if second.len() < n {
         return run;
     }
-    octets::zero(second, n);
-    copy_marked(table, second, map);
+    lay_second(table, second, map);
     call_leaves(&second[0..n], h, run, counts, output, map)
 }
 

@@ -2,6 +2,7 @@
 ghost use Prim.Native.Nat.{_≤_, _<_};
 ghost use lib.ListN.{length};
 
+mod allowances;
 mod asks;
 mod batches;
 mod kinds;
@@ -16,10 +17,11 @@ struct Run {
     digest: u64,
 }
 
-// The same of the calls of many ranges, which are told apart.
+// The same of the calls of many ranges and of those with an allowance, which are told apart.
 struct Played {
     run: Run,
     many: Run,
+    within: Run,
 }
 
 // A change to be made, and the random number after it.
@@ -160,6 +162,14 @@ fn ask_at_times(table: &[u8], scratch: &mut [u8], list: &[u64; 9568], i: u64, ru
     run
 }
 
+// An allowance after every 50 steps.
+fn allow_at_times(table: &[u8], scratch: &mut [u8], list: &[u64; 9568], i: u64, run: Run) -> Run {
+    if i % 50 == 49 {
+        return allowances::ask(table, scratch, list, run);
+    }
+    run
+}
+
 // A step, and the questions that are due.
 fn turn(
     table: &mut [u8],
@@ -175,7 +185,8 @@ fn turn(
     let changed = step(table, scratch, list, capacity, kind, i, played.run);
     let run = look_at_times(table, list, i, changed);
     let many = ask_at_times(table, scratch, list, i, played.many);
-    Played { run, many }
+    let within = allow_at_times(table, scratch, list, i, played.within);
+    Played { run, many, within }
 }
 
 fn turns(
@@ -198,17 +209,19 @@ fn turns(
     played
 }
 
-// All of the table, and many ranges.
+// All of the table, many ranges, and an allowance.
 fn see_all(table: &[u8], scratch: &mut [u8], list: &[u64; 9568], played: Played) -> Played {
     let many = batches::ask(table, scratch, list, played.many);
+    let within = allowances::ask(table, scratch, list, played.within);
     let run = asks::look_at_all(table, list, played.run);
-    Played { run, many }
+    Played { run, many, within }
 }
 
 fn rebuild(table: &mut [u8], scratch: &mut [u8], played: Played) -> Played {
     let run = told(played.run, table::rebuild(table, scratch), 0, 0);
     let many = played.many;
-    Played { run, many }
+    let within = played.within;
+    Played { run, many, within }
 }
 
 // All before and after a rebuild.
@@ -221,16 +234,31 @@ fn end(table: &mut [u8], scratch: &mut [u8], list: &[u64; 9568], played: Played)
 fn format(table: &mut [u8], capacity: u64, kind: u64) -> Played {
     let run = told(begun(kind), table::format(table), 0, 0);
     let many = begun(std::num::wrapping_add_u64(capacity, kind));
-    Played { run, many }
+    let within = many;
+    Played { run, many, within }
 }
 
-// A history of n steps on a table just formatted.
+// The n steps of a history on a table just formatted.
+fn begin(
+    table: &mut [u8],
+    scratch: &mut [u8],
+    list: &mut [u64; 9568],
+    capacity: u64,
+    kind: u64,
+    n: u64,
+) -> Played
+    requires { ⌜ (0 < capacity) × (capacity ≤ 4784) × (n ≤ 65536) ⌝ }
+{
+    let fresh = format(table, capacity, kind);
+    turns(table, scratch, list, capacity, kind, n, fresh)
+}
+
+// A history of n steps, and all that it leaves.
 fn play(table: &mut [u8], scratch: &mut [u8], capacity: u64, kind: u64, n: u64) -> Played
     requires { ⌜ (0 < capacity) × (capacity ≤ 4784) × (n ≤ 65536) ⌝ }
 {
     let mut list = [list::NONE; 9568];
-    let fresh = format(table, capacity, kind);
-    let played = turns(table, scratch, &mut list, capacity, kind, n, fresh);
+    let played = begin(table, scratch, &mut list, capacity, kind, n);
     end(table, scratch, &list, played)
 }
 
@@ -253,6 +281,8 @@ fn show_played(capacity: u64, kind: u64, played: Played) {
     show_run(played.run);
     io::write_all(1, b"  many ranges");
     show_run(played.many);
+    io::write_all(1, b"  allowances");
+    show_run(played.within);
 }
 
 // Each kind of history on a table of so many bytes.

@@ -3,16 +3,15 @@
 use mathlib.Core.Path.{_≡_, refl, sym, ap, ap₂, subst, _∙_}
 use mathlib.Core.Bool.{true, false, true≢false, _&&_}
 use mathlib.Core.List.{List}
-use Prim.Native.Nat.{ℕ, zero, suc, _+_, _<_}
+use Prim.Native.Nat.{ℕ, suc, _+_, _-_, _≤_, _<_}
 use native.Mathlib.Omega.{arith}
 use lib.ListN.{getD, take, drop}
-use lib.IntN.{ℤ}
+use lib.IntN.{ℤ, pos}
 use borrow.Author.Tests.{le-leb}
 use mir.Syntax.{w32}
 use mir.Val.{toZ, ofZ}
 use mir.ValLaws.{ofZ-toZ}
 use Rattle.octets.specs.Bytes.{be}
-use Rattle.octets.specs.Lists.{every}
 use Rattle.octets.proofs.Bytes.{be-lt}
 use Rattle.octets.proofs.Tests.{and-both}
 use Rattle.spot.specs.Keys.{signed32, unsigned32}
@@ -21,183 +20,238 @@ use Rattle.ranges.specs.Ranges.{batchOf, Handed}
 use Rattle.ranges.specs.declared.Range.{Range}
 use Rattle.ranges.specs.declared.Batch.{Batch}
 use Rattle.ranges.proofs.Batches.{batch-has}
-use Rattle.table.specs.Calls.{Call, format, add, withdraw, report, top, count, check, rebuild, reportMany, kind, takesScratch, mayChange, isQuery, isCounting, rangeFits, argumentsFit}
-use Rattle.table.specs.Queries.{ReportPost, ManyPost, TopPost, CountPost, CheckPost}
+use Rattle.table.specs.Calls.{Call, format, add, withdraw, report, top, count, check, rebuild, reportMany, topWithin, kind, takesScratch, mayChange, isQuery, isCounting, hasCeiling, argumentsFit}
+use Rattle.table.specs.Queries.{ReportPost, ManyPost, TopPost, WithinPost, CountPost, CheckPost}
 use Rattle.table.specs.Updates.{FormatPost, AddPost, WithdrawPost, RebuildPost}
 use Rattle.demands.specs.History.{Promised}
+use Rattle.within.specs.declared.Said.{Said}
 use Rattle.script.specs.Script.{allRanges, callOf, callAt}
-use Rattle.script.specs.Run.{Called, eventOf}
+use Rattle.script.specs.Run.{plainly, eventOf, Called, CalledAlone}
 use Rattle.script.proofs.Ranged.{signed-fits-word, ranges-fit}
-
--- ---- arguments
 
 unsigned-fits-word : (v : ℕ) → v < 4294967296 → unsigned32 v ≡ true
 unfolding unsigned32
 unsigned-fits-word v h = le-leb v 4294967295 (omega arith)
 
-call-fits : (rs : List Range) (n a b c : ℕ) → a < 4294967296 → b < 4294967296 → c < 4294967296 → every rangeFits (take b (drop a rs)) ≡ true
-    → argumentsFit (callOf rs n a b c) ≡ true
-unfolding callOf argumentsFit
-call-fits rs zero a b c ha hb hc hr = refl
-call-fits rs (suc zero) a b c ha hb hc hr =
-    and-both (signed32 (toZ w32 a) && signed32 (toZ w32 b)) (unsigned32 c)
-    (and-both (signed32 (toZ w32 a)) (signed32 (toZ w32 b)) (signed-fits-word a ha) (signed-fits-word b hb))
-    (unsigned-fits-word c hc)
-call-fits rs (suc (suc zero)) a b c ha hb hc hr =
-    and-both (signed32 (toZ w32 a)) (signed32 (toZ w32 b)) (signed-fits-word a ha) (signed-fits-word b hb)
-call-fits rs (suc (suc (suc zero))) a b c ha hb hc hr =
-    and-both (signed32 (toZ w32 a) && signed32 (toZ w32 b)) (signed32 (toZ w32 c))
-    (and-both (signed32 (toZ w32 a)) (signed32 (toZ w32 b)) (signed-fits-word a ha) (signed-fits-word b hb))
-    (signed-fits-word c hc)
-call-fits rs (suc (suc (suc (suc zero)))) a b c ha hb hc hr =
-    and-both (signed32 (toZ w32 a) && signed32 (toZ w32 b)) (unsigned32 c)
-    (and-both (signed32 (toZ w32 a)) (signed32 (toZ w32 b)) (signed-fits-word a ha) (signed-fits-word b hb))
-    (unsigned-fits-word c hc)
-call-fits rs (suc (suc (suc (suc (suc zero))))) a b c ha hb hc hr = refl
-call-fits rs (suc (suc (suc (suc (suc (suc zero)))))) a b c ha hb hc hr = refl
-call-fits rs (suc (suc (suc (suc (suc (suc (suc zero))))))) a b c ha hb hc hr = refl
-call-fits rs (suc (suc (suc (suc (suc (suc (suc (suc n)))))))) a b c ha hb hc hr = hr
-
--- every other number is that of many ranges
-call-last : (rs : List Range) (n a b c : ℕ) → (n ≡ 0 → ⊥) → (n ≡ 1 → ⊥) → (n ≡ 2 → ⊥) → (n ≡ 3 → ⊥) → (n ≡ 4 → ⊥) → (n ≡ 5 → ⊥) → (n ≡ 6 → ⊥) → (n ≡ 7 → ⊥)
-    → callOf rs n a b c ≡ reportMany (take b (drop a rs))
+-- the last number
+call-within : (rs : List Range) (n a b c d : ℕ) → 8 < n → callOf rs n a b c d ≡ topWithin (toZ w32 a) (toZ w32 b) c d
 unfolding callOf
-call-last rs zero a b c h0 h1 h2 h3 h4 h5 h6 h7 = absurd (h0 refl)
-call-last rs (suc zero) a b c h0 h1 h2 h3 h4 h5 h6 h7 = absurd (h1 refl)
-call-last rs (suc (suc zero)) a b c h0 h1 h2 h3 h4 h5 h6 h7 = absurd (h2 refl)
-call-last rs (suc (suc (suc zero))) a b c h0 h1 h2 h3 h4 h5 h6 h7 = absurd (h3 refl)
-call-last rs (suc (suc (suc (suc zero)))) a b c h0 h1 h2 h3 h4 h5 h6 h7 = absurd (h4 refl)
-call-last rs (suc (suc (suc (suc (suc zero))))) a b c h0 h1 h2 h3 h4 h5 h6 h7 = absurd (h5 refl)
-call-last rs (suc (suc (suc (suc (suc (suc zero)))))) a b c h0 h1 h2 h3 h4 h5 h6 h7 = absurd (h6 refl)
-call-last rs (suc (suc (suc (suc (suc (suc (suc zero))))))) a b c h0 h1 h2 h3 h4 h5 h6 h7 = absurd (h7 refl)
-call-last rs (suc (suc (suc (suc (suc (suc (suc (suc n)))))))) a b c h0 h1 h2 h3 h4 h5 h6 h7 = refl
+call-within rs n a b c d h =
+    let e : n ≡ suc (suc (suc (suc (suc (suc (suc (suc (suc (n - 9))))))))) = omega arith in
+    ap (λ (i : ℕ). callOf rs i a b c d) e
 
--- ---- events
+-- the number that is left of those of calls without spots
+three-on : (n : ℕ) → (n ≡ 0 → ⊥) → (n ≡ 1 → ⊥) → (n ≡ 2 → ⊥) → 3 ≤ n
+three-on n h0 h1 h2 = omega arith
 
--- a row of the script as it was read: its number and its arguments, the first two signed; g has the ranges
-pub record Row (s g : List ℕ) (at n : ℕ) (x y : ℤ) (k : ℕ) : Type 0 where
+seven-left : (n : ℕ) → 3 ≤ n → n ≤ 7 → (n ≡ 3 → ⊥) → (n ≡ 4 → ⊥) → (n ≡ 5 → ⊥) → (n ≡ 6 → ⊥) → n ≡ 7
+seven-left n l h h3 h4 h5 h6 = omega arith
+
+-- a row of the script as it was read: its number and its arguments, the first two signed
+pub record Row (s : List ℕ) (at n : ℕ) (x y : ℤ) (k : ℕ) : Type 0 where
   pub bytes : (i : ℕ) → getD s i 0 < 256
-  pub ranges : (i : ℕ) → getD g i 0 < 256
   pub number : n ≡ be 4 s at
   pub first : x ≡ toZ w32 (be 4 s (at + 4))
   pub second : y ≡ toZ w32 (be 4 s (at + 8))
   pub third : k ≡ be 4 s (at + 12)
 
-module _ {s g : List ℕ} {at n : ℕ} {x y : ℤ} {k : ℕ} (row : Row s g at n x y k) where
-  -- the call of this row, and the one that it would be with another number
-  abbrev made : Call
-  made = callAt (allRanges g) s at
+module _ {s : List ℕ} {at n : ℕ} {x y : ℤ} {k : ℕ} (row : Row s at n x y k) where
+  -- ---- arguments
 
-  abbrev numberedAs : ℕ → Call
-  numberedAs i = callOf (allRanges g) i (be 4 s (at + 4)) (be 4 s (at + 8)) (be 4 s (at + 12))
+  word-lt : (i : ℕ) → be 4 s i < 4294967296
+  word-lt i = be-lt 4 s i (row .bytes)
 
-  fit-at : argumentsFit made ≡ true
-  unfolding callAt
-  fit-at =
-      call-fits (allRanges g) (be 4 s at) (be 4 s (at + 4)) (be 4 s (at + 8)) (be 4 s (at + 12)) (be-lt 4 s (at + 4) (row .bytes)) (be-lt 4 s (at + 8) (row .bytes))
-      (be-lt 4 s (at + 12) (row .bytes))
-      (ranges-fit g (row .ranges) (be 4 s (at + 4)) (be 4 s (at + 8)))
-
-  -- the number settles the call
-  numbered : (i : ℕ) (c : Call) → n ≡ i → numberedAs i ≡ c → made ≡ c
-  unfolding callAt
-  numbered i c e f = ap numberedAs (sym (row .number) ∙ e) ∙ f
-
-  -- a signed argument that was read is the same when it is handed on
+  -- a signed argument that was read is the same when it is handed on, and fits
   read-back : (i : ℕ) (a : ℤ) → a ≡ toZ w32 (be 4 s i) → toZ w32 (be 4 s i) ≡ toZ w32 (ofZ w32 a)
-  read-back i a e = sym (ap (toZ w32) (ap (ofZ w32) e ∙ ofZ-toZ w32 (be 4 s i) (record { fits = be-lt 4 s i (row .bytes) })))
+  read-back i a e = sym (ap (toZ w32) (ap (ofZ w32) e ∙ ofZ-toZ w32 (be 4 s i) (record { fits = word-lt i })))
 
-  first-back : toZ w32 (be 4 s (at + 4)) ≡ toZ w32 (ofZ w32 x)
+  read-fits : (i : ℕ) (a : ℤ) → a ≡ toZ w32 (be 4 s i) → signed32 (toZ w32 (ofZ w32 a)) ≡ true
+  read-fits i a e = ap signed32 (sym (read-back i a e)) ∙ signed-fits-word (be 4 s i) (word-lt i)
+
+  -- and so does an unsigned one
+  plain-fits : (i v : ℕ) → v ≡ be 4 s i → unsigned32 v ≡ true
+  plain-fits i v e = ap unsigned32 e ∙ unsigned-fits-word (be 4 s i) (word-lt i)
+
+  -- the first two
+  abbrev x′ : ℤ
+  x′ = toZ w32 (ofZ w32 x)
+
+  abbrev y′ : ℤ
+  y′ = toZ w32 (ofZ w32 y)
+
+  first-back : toZ w32 (be 4 s (at + 4)) ≡ x′
   first-back = read-back (at + 4) x (row .first)
 
-  second-back : toZ w32 (be 4 s (at + 8)) ≡ toZ w32 (ofZ w32 y)
+  second-back : toZ w32 (be 4 s (at + 8)) ≡ y′
   second-back = read-back (at + 8) y (row .second)
 
-  module _ (t w m v out : List ℕ) (r : Answer) where
-    -- a call that is no query leaves output, map and counts alone
-    updated : (c : Call) (t′ w′ : List ℕ) → made ≡ c → (takesScratch (kind c) ≡ false → w′ ≡ w) → (mayChange (kind c) ≡ false → t′ ≡ t)
-        → Promised c t (eventOf c w m v out r t′ w′ m v out)
-        → Called t (eventOf made w m v out r t′ w′ m v out)
-    updated c t′ w′ e k n p =
-        subst (λ (x : Call). Called t (eventOf x w m v out r t′ w′ m v out)) (sym e)
-        (record {
-          fit = ap argumentsFit (sym e) ∙ fit-at;
-          met = record { promised = p; unchanged = n };
-          outputKept = λ n. refl;
-          mapKept = λ n. refl;
-          scratchKept = k;
-          countsKept = λ n. refl;
-        })
+  two-fit : signed32 x′ && signed32 y′ ≡ true
+  two-fit = and-both (signed32 x′) (signed32 y′) (read-fits (at + 4) x (row .first)) (read-fits (at + 8) y (row .second))
 
-    -- a query leaves table and scratch alone, and the counts unless it hands some out
-    asked : (c : Call) (m′ v′ out′ : List ℕ) → made ≡ c → isQuery c ≡ true → (isCounting c ≡ false → v′ ≡ v)
-        → Promised c t (eventOf c w m v out r t w m′ v′ out′)
-        → Called t (eventOf made w m v out r t w m′ v′ out′)
-    asked c m′ v′ out′ e q k p =
-        subst (λ (x : Call). Called t (eventOf x w m v out r t w m′ v′ out′)) (sym e)
-        (record {
-          fit = ap argumentsFit (sym e) ∙ fit-at;
-          met = record { promised = p; unchanged = λ n. refl };
-          outputKept = λ n. absurd (true≢false (sym q ∙ n));
-          mapKept = λ n. absurd (true≢false (sym q ∙ n));
-          scratchKept = λ n. refl;
-          countsKept = k;
-        })
+  third-fits : unsigned32 k ≡ true
+  third-fits = plain-fits (at + 12) k (row .third)
 
-    pub made-format : (t′ : List ℕ) → n ≡ 0 → FormatPost t r t′ → Called t (eventOf made w m v out r t′ w m v out)
-    unfolding callOf
-    made-format t′ e p = updated format t′ w (numbered 0 format e refl) (λ n. refl) (λ n. absurd (true≢false n)) p
+  -- ---- events
 
-    pub made-add : (t′ w′ : List ℕ) → n ≡ 1 → AddPost (toZ w32 (ofZ w32 x)) (toZ w32 (ofZ w32 y)) k t w r t′ w′ → Called t (eventOf made w m v out r t′ w′ m v out)
-    unfolding callOf
-    made-add t′ w′ e p =
-        let c : Call = add (toZ w32 (ofZ w32 x)) (toZ w32 (ofZ w32 y)) k in
-        updated c t′ w′ (numbered 1 c e (rw (first-back, second-back, row .third))) (λ n. absurd (true≢false n)) (λ n. absurd (true≢false n)) p
+  module _ (rs : List Range) where
+    -- the call of this row, and the one that it would be with another number
+    abbrev made : Call
+    made = callAt rs s at
 
-    pub made-withdraw : (t′ w′ : List ℕ) → n ≡ 2 → WithdrawPost (toZ w32 (ofZ w32 x)) (toZ w32 (ofZ w32 y)) t w r t′ w′ → Called t (eventOf made w m v out r t′ w′ m v out)
-    unfolding callOf
-    made-withdraw t′ w′ e p =
-        let c : Call = withdraw (toZ w32 (ofZ w32 x)) (toZ w32 (ofZ w32 y)) in
-        updated c t′ w′ (numbered 2 c e (rw (first-back, second-back))) (λ n. absurd (true≢false n)) (λ n. absurd (true≢false n)) p
+    abbrev numberedAs : ℕ → Call
+    numberedAs i = callOf rs i (be 4 s (at + 4)) (be 4 s (at + 8)) (be 4 s (at + 12)) (be 4 s (at + 16))
 
-    pub made-report : (z : ℤ) (m′ out′ : List ℕ) → n ≡ 3 → z ≡ toZ w32 (be 4 s (at + 12))
-        → ReportPost (toZ w32 (ofZ w32 x)) (toZ w32 (ofZ w32 y)) (toZ w32 (ofZ w32 z)) t out m r out′ m′ → Called t (eventOf made w m v out r t w m′ v out′)
-    unfolding callOf
-    made-report z m′ out′ e ez p =
-        let c : Call = report (toZ w32 (ofZ w32 x)) (toZ w32 (ofZ w32 y)) (toZ w32 (ofZ w32 z)) in
-        asked c m′ v out′ (numbered 3 c e (rw (first-back, second-back, read-back (at + 12) z ez))) refl (λ n. refl) p
+    -- the number settles the call
+    numbered : (i : ℕ) (c : Call) → n ≡ i → numberedAs i ≡ c → made ≡ c
+    unfolding callAt
+    numbered i c e f = ap numberedAs (sym (row .number) ∙ e) ∙ f
 
-    pub made-top : (m′ out′ : List ℕ) → n ≡ 4 → TopPost (toZ w32 (ofZ w32 x)) (toZ w32 (ofZ w32 y)) k t out m r out′ m′ → Called t (eventOf made w m v out r t w m′ v out′)
-    unfolding callOf
-    made-top m′ out′ e p =
-        let c : Call = top (toZ w32 (ofZ w32 x)) (toZ w32 (ofZ w32 y)) k in
-        asked c m′ v out′ (numbered 4 c e (rw (first-back, second-back, row .third))) refl (λ n. refl) p
+    module _ (t w m v out : List ℕ) where
+      -- a call that is no query leaves output, map and counts alone
+      updated : (r : Answer) (c : Call) (t′ w′ : List ℕ) → made ≡ c → argumentsFit c ≡ true → (takesScratch (kind c) ≡ false → w′ ≡ w)
+          → (mayChange (kind c) ≡ false → t′ ≡ t)
+          → Promised c t (eventOf c w m v out (plainly r) t′ w′ m v out)
+          → Called t (eventOf made w m v out (plainly r) t′ w′ m v out)
+      updated r c t′ w′ e f k n p =
+          subst (λ (x : Call). Called t (eventOf x w m v out (plainly r) t′ w′ m v out)) (sym e)
+          (record {
+            fit = f;
+            met = record { promised = p; unchanged = n };
+            outputKept = λ n. refl;
+            mapKept = λ n. refl;
+            scratchKept = k;
+            countsKept = λ n. refl;
+            noCeiling = λ n. refl;
+          })
 
-    pub made-count : n ≡ 5 → CountPost t r → Called t (eventOf made w m v out r t w m v out)
-    unfolding callOf
-    made-count e p = updated count t w (numbered 5 count e refl) (λ n. refl) (λ n. refl) p
+      -- a query leaves table and scratch alone, and the counts unless it hands some out
+      asked : (r : Said) (c : Call) (m′ v′ out′ : List ℕ) → made ≡ c → argumentsFit c ≡ true → isQuery c ≡ true → (isCounting c ≡ false → v′ ≡ v)
+          → (hasCeiling c ≡ false → r .ceiling ≡ pos 0)
+          → Promised c t (eventOf c w m v out r t w m′ v′ out′)
+          → Called t (eventOf made w m v out r t w m′ v′ out′)
+      asked r c m′ v′ out′ e f q k z p =
+          subst (λ (x : Call). Called t (eventOf x w m v out r t w m′ v′ out′)) (sym e)
+          (record {
+            fit = f;
+            met = record { promised = p; unchanged = λ n. refl };
+            outputKept = λ n. absurd (true≢false (sym q ∙ n));
+            mapKept = λ n. absurd (true≢false (sym q ∙ n));
+            scratchKept = λ n. refl;
+            countsKept = k;
+            noCeiling = z;
+          })
 
-    pub made-check : n ≡ 6 → CheckPost t r → Called t (eventOf made w m v out r t w m v out)
-    unfolding callOf
-    made-check e p = updated check t w (numbered 6 check e refl) (λ n. refl) (λ n. refl) p
+      -- one that answers without a ceiling
+      module _ (r : Said) (a : Answer) (er : r ≡ plainly a) where
+        answered : (c : Call) (m′ v′ out′ : List ℕ) → made ≡ c → argumentsFit c ≡ true → isQuery c ≡ true → (isCounting c ≡ false → v′ ≡ v)
+            → Promised c t (eventOf c w m v out (plainly a) t w m′ v′ out′)
+            → Called t (eventOf made w m v out r t w m′ v′ out′)
+        answered c m′ v′ out′ e f q k p =
+            subst (λ (x : Said). Called t (eventOf made w m v out x t w m′ v′ out′)) (sym er) (asked (plainly a) c m′ v′ out′ e f q k (λ n. refl) p)
 
-    pub made-rebuild : (t′ w′ : List ℕ) → n ≡ 7 → RebuildPost t w r t′ w′ → Called t (eventOf made w m v out r t′ w′ m v out)
-    unfolding callOf
-    made-rebuild t′ w′ e p = updated rebuild t′ w′ (numbered 7 rebuild e refl) (λ n. absurd (true≢false n)) (λ n. absurd (true≢false n)) p
+        pub made-report : (z : ℤ) (m′ out′ : List ℕ) → n ≡ 3 → z ≡ toZ w32 (be 4 s (at + 12)) → ReportPost x′ y′ (toZ w32 (ofZ w32 z)) t out m a out′ m′
+            → Called t (eventOf made w m v out r t w m′ v out′)
+        unfolding callOf argumentsFit
+        made-report z m′ out′ e ez p =
+            let c : Call = report x′ y′ (toZ w32 (ofZ w32 z)) in
+            answered c m′ v out′ (numbered 3 c e (rw (first-back, second-back, read-back (at + 12) z ez)))
+            (and-both (signed32 x′ && signed32 y′) (signed32 (toZ w32 (ofZ w32 z))) two-fit (read-fits (at + 12) z ez))
+            refl
+            (λ n. refl)
+            p
 
-    -- of the batch that was read
-    pub made-many : (a b : ℕ) (h : Batch) (m′ v′ out′ : List ℕ) → (n ≡ 0 → ⊥) → (n ≡ 1 → ⊥) → (n ≡ 2 → ⊥) → (n ≡ 3 → ⊥) → (n ≡ 4 → ⊥) → (n ≡ 5 → ⊥) → (n ≡ 6 → ⊥) → (n ≡ 7 → ⊥)
-        → a ≡ be 4 s (at + 4)
-        → b ≡ be 4 s (at + 8)
-        → h ≡ batchOf (take b (drop a (allRanges g)))
-        → ((rs : List Range) → Handed h rs → ManyPost rs t v out m r v′ out′ m′)
-        → Called t (eventOf made w m v out r t w m′ v′ out′)
-    made-many a b h m′ v′ out′ h0 h1 h2 h3 h4 h5 h6 h7 ea eb eh p =
-        let rs : List Range = take b (drop a (allRanges g)) in
-        asked (reportMany rs) m′ v′ out′
-        (numbered n (reportMany rs) refl
-        (call-last (allRanges g) n (be 4 s (at + 4)) (be 4 s (at + 8)) (be 4 s (at + 12)) h0 h1 h2 h3 h4 h5 h6 h7
-        ∙ ap₂ (λ (i j : ℕ). reportMany (take j (drop i (allRanges g)))) (sym ea) (sym eb)))
-        refl
+        pub made-top : (m′ out′ : List ℕ) → n ≡ 4 → TopPost x′ y′ k t out m a out′ m′ → Called t (eventOf made w m v out r t w m′ v out′)
+        unfolding callOf argumentsFit
+        made-top m′ out′ e p =
+            let c : Call = top x′ y′ k in
+            answered c m′ v out′ (numbered 4 c e (rw (first-back, second-back, row .third)))
+            (and-both (signed32 x′ && signed32 y′) (unsigned32 k) two-fit third-fits)
+            refl
+            (λ n. refl)
+            p
+
+      -- a Top within an allowance, the fourth argument; it answers with its ceiling
+      pub made-within : (r : Said) (a : ℕ) (m′ out′ : List ℕ) → 8 < n → a ≡ be 4 s (at + 16) → WithinPost x′ y′ k a t out m (r .answer) out′ m′ (r .ceiling)
+          → Called t (eventOf made w m v out r t w m′ v out′)
+      unfolding argumentsFit
+      made-within r a m′ out′ e ea p =
+          let c : Call = topWithin x′ y′ k a in
+          asked r c m′ v out′
+          (numbered n c refl
+          (call-within rs n (be 4 s (at + 4)) (be 4 s (at + 8)) (be 4 s (at + 12)) (be 4 s (at + 16)) e ∙ rw (first-back, second-back, row .third, ea)))
+          (and-both (signed32 x′ && signed32 y′ && unsigned32 k) (unsigned32 a) (and-both (signed32 x′ && signed32 y′) (unsigned32 k) two-fit third-fits)
+          (plain-fits (at + 16) a ea))
+          refl
+          (λ n. refl)
+          (λ n. absurd (true≢false n))
+          p
+
+  -- many ranges: of the batch that was read
+  pub made-many : (g t w m v out : List ℕ) (r : Said) (u : Answer) → r ≡ plainly u → (a b : ℕ) (h : Batch) (m′ v′ out′ : List ℕ) → ((i : ℕ) → getD g i 0 < 256)
+      → n ≡ 8
+      → a ≡ be 4 s (at + 4)
+      → b ≡ be 4 s (at + 8)
+      → h ≡ batchOf (take b (drop a (allRanges g)))
+      → ((rs : List Range) → Handed h rs → ManyPost rs t v out m u v′ out′ m′)
+      → Called t (eventOf (callAt (allRanges g) s at) w m v out r t w m′ v′ out′)
+  unfolding callOf argumentsFit
+  made-many g t w m v out r u er a b h m′ v′ out′ bytes e ea eb eh p =
+      let rs : List Range = take b (drop a (allRanges g)) in
+      answered (allRanges g) t w m v out r u er (reportMany rs) m′ v′ out′
+      (numbered (allRanges g) 8 (reportMany rs) e (ap₂ (λ (i j : ℕ). reportMany (take j (drop i (allRanges g)))) (sym ea) (sym eb)))
+      (ranges-fit g bytes a b)
+      refl
+      (λ n. absurd (true≢false n))
+      (p rs (subst (λ (x : Batch). Handed x rs) (sym eh) (batch-has rs)))
+
+  -- ---- the calls that hand out no spots
+
+  module _ (t w : List ℕ) (r : Answer) where
+    pub made-format : (t′ : List ℕ) → n ≡ 0 → FormatPost t r t′ → CalledAlone s at t w r t′ w
+    unfolding callOf argumentsFit
+    made-format t′ e p rs m v out =
+        updated rs t w m v out r format t′ w (numbered rs 0 format e refl) refl (λ n. refl) (λ n. absurd (true≢false n)) p
+
+    pub made-add : (t′ w′ : List ℕ) → n ≡ 1 → AddPost x′ y′ k t w r t′ w′ → CalledAlone s at t w r t′ w′
+    unfolding callOf argumentsFit
+    made-add t′ w′ e p rs m v out =
+        let c : Call = add x′ y′ k in
+        updated rs t w m v out r c t′ w′ (numbered rs 1 c e (rw (first-back, second-back, row .third)))
+        (and-both (signed32 x′ && signed32 y′) (unsigned32 k) two-fit third-fits)
         (λ n. absurd (true≢false n))
-        (p rs (subst (λ (x : Batch). Handed x rs) (sym eh) (batch-has rs)))
+        (λ n. absurd (true≢false n))
+        p
+
+    pub made-withdraw : (t′ w′ : List ℕ) → n ≡ 2 → WithdrawPost x′ y′ t w r t′ w′ → CalledAlone s at t w r t′ w′
+    unfolding callOf argumentsFit
+    made-withdraw t′ w′ e p rs m v out =
+        let c : Call = withdraw x′ y′ in
+        updated rs t w m v out r c t′ w′ (numbered rs 2 c e (rw (first-back, second-back))) two-fit (λ n. absurd (true≢false n)) (λ n. absurd (true≢false n)) p
+
+    pub made-count : n ≡ 5 → CountPost t r → CalledAlone s at t w r t w
+    unfolding callOf argumentsFit
+    made-count e p rs m v out = updated rs t w m v out r count t w (numbered rs 5 count e refl) refl (λ n. refl) (λ n. refl) p
+
+    pub made-check : n ≡ 6 → CheckPost t r → CalledAlone s at t w r t w
+    unfolding callOf argumentsFit
+    made-check e p rs m v out = updated rs t w m v out r check t w (numbered rs 6 check e refl) refl (λ n. refl) (λ n. refl) p
+
+    -- the number that is left
+    pub made-rebuild : (t′ w′ : List ℕ) → be 4 s at ≤ 7 → (be 4 s at ≡ 3 → ⊥) → (be 4 s at ≡ 4 → ⊥) → (n ≡ 0 → ⊥) → (n ≡ 1 → ⊥) → (n ≡ 2 → ⊥) → (n ≡ 5 → ⊥)
+        → (n ≡ 6 → ⊥)
+        → RebuildPost t w r t′ w′
+        → CalledAlone s at t w r t′ w′
+    unfolding callOf argumentsFit
+    made-rebuild t′ w′ h h3 h4 h0 h1 h2 h5 h6 p rs m v out =
+        let same : be 4 s at ≡ n = sym (row .number) in
+        let e : n ≡ 7 =
+        seven-left n (three-on n h0 h1 h2) (subst (λ (i : ℕ). i ≤ 7) same h) (λ i. h3 (same ∙ i)) (λ i. h4 (same ∙ i)) h5 h6
+        in
+        updated rs t w m v out r rebuild t′ w′ (numbered rs 7 rebuild e refl) refl (λ n. absurd (true≢false n)) (λ n. absurd (true≢false n)) p
+
+-- a call that was made with table and scratch alone
+pub made-alone : (rs : List Range) (s : List ℕ) (at : ℕ) (t w m v out : List ℕ) (r : Said) (a : Answer) → r ≡ plainly a → (t′ w′ : List ℕ)
+    → CalledAlone s at t w a t′ w′
+    → Called t (eventOf (callAt rs s at) w m v out r t′ w′ m v out)
+made-alone rs s at t w m v out r a er t′ w′ p =
+    subst (λ (x : Said). Called t (eventOf (callAt rs s at) w m v out x t′ w′ m v out)) (sym er) (p rs m v out)

@@ -7,11 +7,11 @@ use Prim.Native.Nat.{ℕ, _+_, _*_}
 use lib.ListN.{length, take, drop}
 use Rattle.block.specs.declared.Answer.{Answer}
 use Rattle.tree.specs.Sound.{sound}
-use Rattle.table.specs.Calls.{Call, format, add, withdraw, report, top, count, check, rebuild, reportMany, kind, isQuery, Lengths}
-use Rattle.demands.specs.Model.{PlainSpot, Plain, Reply, asBytes, outputAfter, refuse, accept, badTable, badLent, tooMany, full, ownReply, reply, fourBytes}
-use Rattle.demands.specs.History.{Event, History, AllAgreed, replyIn, modelAfter}
+use Rattle.table.specs.Calls.{Call, format, add, withdraw, report, top, count, check, rebuild, reportMany, topWithin, kind, isQuery, Lengths}
+use Rattle.demands.specs.Model.{PlainSpot, Plain, Reply, asBytes, outputAfter, refuse, accept, badTable, badLent, tooMany, full, ownReply, reply, told, fourBytes, complement}
+use Rattle.demands.specs.History.{Event, History, AllAgreed, certainIn, replyIn, modelAfter}
 use Rattle.script.specs.Script.{Step, lentTo, logAfter}
-use Rattle.script.specs.Run.{entry, RunState, heldAfter, passed, outputOf, InTurn, AllInTurn, entries}
+use Rattle.script.specs.Run.{entry, tellings, RunState, heldAfter, passed, outputOf, InTurn, AllInTurn, entries}
 use Rattle.script.proofs.Fronts.{drop-lent}
 
 -- ---- a call that is no query hands out nothing
@@ -32,6 +32,7 @@ own-none l count ps q = refl
 own-none l check ps q = refl
 own-none l rebuild ps q = refl
 own-none l (reportMany rs) ps q = absurd (true≢false q)
+own-none l (topWithin x1 x2 k a) ps q = absurd (true≢false q)
 
 hands-none : (l : Lengths) (c : Call) (ps : Plain) → isQuery c ≡ false → reply l c ps .given ≡ []
 unfolding reply
@@ -39,11 +40,28 @@ hands-none l c ps q =
     unless-refused (badTable (l .table)) 1 0 ps _
     (unless-refused (badLent l (kind c)) 2 0 ps _ (unless-refused (tooMany (kind c)) 6 0 ps (ownReply l c ps) (own-none l c ps q)))
 
+-- a query stays one when the model is told what hangs on the arrangement
+told-query : (c : Call) (n : ℕ) → isQuery (told c n) ≡ isQuery c
+told-query format n = refl
+told-query (add place rank track) n = refl
+told-query (withdraw place rank) n = refl
+told-query (report x1 x2 y) n = refl
+told-query (top x1 x2 k) n = refl
+told-query count n = refl
+told-query check n = refl
+told-query rebuild n = refl
+told-query (reportMany rs) n = refl
+told-query (topWithin x1 x2 k a) n = refl
+
 output-stays : (r : Reply) (out : List ℕ) → r .given ≡ [] → outputAfter r out ≡ out
 unfolding outputAfter
 output-stays r out e = ap (λ (g : List PlainSpot). asBytes g ++ drop (12 * length g) out) e
 
 -- ---- each event of a run
+
+-- what agrees after the first event
+later : (t : List ℕ) (ps : Plain) (e : Event) (es : List Event) → AllAgreed t ps (e ∷ es) → AllAgreed (e .table′) (modelAfter t ps e) es
+later t ps e es g = g .7
 
 module _ (l : Lengths) where
   pub history-of : (h : RunState) (cs : List Step) (es : List Event) → AllInTurn l h cs es → History (h .table) es
@@ -56,11 +74,18 @@ module _ (l : Lengths) where
   pub ends-sound : (h : RunState) (ps : Plain) (es : List Event) → sound (h .table) ≡ true → AllAgreed (h .table) ps es
       → sound (heldAfter (l .output) h es .table) ≡ true
   ends-sound h ps [] s g = s
-  ends-sound h ps (e ∷ es) s g = ends-sound (passed (l .output) h e) (modelAfter (h .table) ps e) es (g .0 .staysSound) (g .5)
+  ends-sound h ps (e ∷ es) s g = ends-sound (passed (l .output) h e) (modelAfter (h .table) ps e) es (g .0 .staysSound) (later (h .table) ps e es g)
 
   module _ (h : RunState) (ps : Plain) (c : Step) (e : Event) (i : InTurn l h c e) where
-    reply-is : replyIn (e .call) (h .table) ps e ≡ reply (lentTo c l) (c .call) ps
-    reply-is = ap₂ (λ (k : Lengths) (x : Call). reply k x ps) (i .lent) (i .call)
+    abbrev certain : ℕ
+    certain = certainIn (e .call) (h .table)
+
+    -- the model's reply to its step
+    abbrev told-reply : Reply
+    told-reply = reply (lentTo c l) (told (c .call) certain) ps
+
+    reply-is : replyIn (e .call) (h .table) ps e ≡ told-reply
+    reply-is = ap₂ (λ (k : Lengths) (x : Call). reply k (told x certain) ps) (i .lent) (i .call)
 
     -- the output of any call is left as the model says
     output-left : (isQuery (e .call) ≡ true → e .output′ ≡ outputAfter (replyIn (e .call) (h .table) ps e) (e .output))
@@ -69,14 +94,15 @@ module _ (l : Lengths) where
       where
         go : (b : Bool) → isQuery (e .call) ≡ b → e .output′ ≡ outputAfter (replyIn (e .call) (h .table) ps e) (e .output)
         go true q = p q
-        go false q = i .called .outputKept q ∙ sym (output-stays (replyIn (e .call) (h .table) ps e) (e .output) (hands-none _ (e .call) ps q))
+        go false q =
+            i .called .outputKept q
+            ∙ sym (output-stays (replyIn (e .call) (h .table) ps e) (e .output) (hands-none _ (told (e .call) certain) ps (told-query (e .call) certain ∙ q)))
 
     -- the model's entry for its step
     due : List ℕ
     due =
-        let r = reply (lentTo c l) (c .call) ps in
-        fourBytes (r .answer .number) ++ fourBytes (r .answer .detail) ++
-        (outputAfter r (take (c .output) (outputOf (l .output) h)) ++ drop (c .output) (outputOf (l .output) h))
+        fourBytes (told-reply .answer .number) ++ fourBytes (told-reply .answer .detail) ++ fourBytes (complement (e .ceiling′)) ++
+        (outputAfter told-reply (take (c .output) (outputOf (l .output) h)) ++ drop (c .output) (outputOf (l .output) h))
 
     -- the bytes behind what was lent
     rest-is : drop (length (e .output)) (outputOf (l .output) h) ≡ drop (c .output) (outputOf (l .output) h)
@@ -86,21 +112,21 @@ module _ (l : Lengths) where
         → entry (outputOf (l .output) h) e ≡ due
     unfolding due
     entry-due p o =
-        ap₂ (λ (a : Answer) (x : List ℕ). fourBytes (a .number) ++ fourBytes (a .detail) ++ x)
+        ap₂ (λ (a : Answer) (x : List ℕ). fourBytes (a .number) ++ fourBytes (a .detail) ++ fourBytes (complement (e .ceiling′)) ++ x)
         (p ∙ ap (λ (r : Reply). r .answer) reply-is)
         (ap₂ (λ (x y : List ℕ). x ++ y) (o ∙ ap₂ (λ (r : Reply) (x : List ℕ). outputAfter r x) reply-is (i .output)) rest-is)
 
   -- a run whose events all agree with the model writes the model's log
   pub as-model : (h : RunState) (ps : Plain) (cs : List Step) (es : List Event) → AllInTurn l h cs es → AllAgreed (h .table) ps es
-      → entries (l .output) h es ++ heldAfter (l .output) h es .log ≡ logAfter l cs ps (h .log)
+      → entries (l .output) h es ++ heldAfter (l .output) h es .log ≡ logAfter l cs (tellings (h .table) es) ps (h .log)
   unfolding due
   as-model h ps [] [] a g = refl
   as-model h ps [] (e ∷ es) a g = absurd a
   as-model h ps (c ∷ cs) [] a g = absurd a
   as-model h ps (c ∷ cs) (e ∷ es) a g =
-      let room : ℕ = 8 + l .output in
+      let room : ℕ = 12 + l .output in
       let rest : RunState = passed (l .output) h e in
       append-assoc (entry (outputOf (l .output) h) e) (entries (l .output) rest es) (heldAfter (l .output) rest es .log)
       ∙ ap₂ (λ (x y : List ℕ). x ++ y) (entry-due h ps c e (a .0) (g .0 .answer) (output-left h ps c e (a .0) (g .0 .output)))
-      (as-model rest (modelAfter (h .table) ps e) cs es (a .1) (g .5)
-      ∙ ap (λ (r : Reply). logAfter l cs (r .next) (drop room (h .log))) (reply-is h ps c e (a .0)))
+      (as-model rest (modelAfter (h .table) ps e) cs es (a .1) (later (h .table) ps e es g)
+      ∙ ap (λ (r : Reply). logAfter l cs (tellings (e .table′) es) (r .next) (drop room (h .log))) (reply-is h ps c e (a .0)))

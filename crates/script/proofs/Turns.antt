@@ -7,18 +7,19 @@ use native.Mathlib.Nat.{zero-add, suc-add}
 use native.Mathlib.Numerals.{add-one}
 use native.Mathlib.Omega.{arith}
 use lib.ListN.{length, take, drop, length-append, length-take, length-drop}
-use lib.Seq.{take-at, drop-at, take-all, take-nil, drop-length, length-take-le}
+use lib.Seq.{take-at, drop-at, take-all, take-nil, drop-length, length-take-le, take-append-seam, drop-append-add, drop-drop}
 use borrow.Rule.Slice.PartMut.{midOf, postOf, putMid, same-len-mid}
 use Rattle.octets.specs.Bytes.{be, putBe, bytesOf}
-use Rattle.octets.proofs.Bytes.{put-eq, put-length, drop-put-be, length-bytesOf}
+use Rattle.octets.proofs.Bytes.{put-eq}
 use Rattle.octets.proofs.Order.{stride}
 use Rattle.octets.proofs.Records.{records-more}
 use Rattle.block.specs.declared.Answer.{Answer}
 use Rattle.ranges.specs.declared.Range.{Range}
 use Rattle.table.specs.Calls.{Call, Lengths}
-use Rattle.demands.specs.Model.{fourBytes}
+use Rattle.demands.specs.Model.{fourBytes, complement}
 use Rattle.demands.specs.History.{Event}
 use Rattle.demands.proofs.Orders.{four-bytes}
+use Rattle.within.specs.declared.Said.{Said}
 use Rattle.script.specs.Script.{Step, allRanges, callAt, stepAt, stepsOf, lentTo}
 use Rattle.script.specs.Run.{Called, eventOf, eventIn, StepCalled, entry, Turned, RunState, runState, outputOf, passed, heldAfter, InTurn, AllInTurn, entries, Run, runLengths}
 use Rattle.script.proofs.Fronts.{put-back, front-lent, front-left, rest-left}
@@ -46,10 +47,10 @@ one-entry room h (x ∷ es) e =
     ∙ sym (append-assoc (entry (outputOf room h) x) (entries room (passed room h x) es) (entry (outputOf room after) e))
 
 -- one step more
-one-step : (rs : List Range) (script : List ℕ) (i : ℕ) → stepsOf rs script i ++ (stepAt rs script (32 * i) ∷ []) ≡ stepsOf rs script (i + 1)
+one-step : (rs : List Range) (script : List ℕ) (i : ℕ) → stepsOf rs script i ++ (stepAt rs script (36 * i) ∷ []) ≡ stepsOf rs script (i + 1)
 one-step rs script i =
-    ap (λ (n : ℕ). stepsOf rs script i ++ (stepAt rs script n ∷ [])) (sym (zero-add (32 * i)))
-    ∙ sym (records-more (stepAt rs script) 32 i 0)
+    ap (λ (n : ℕ). stepsOf rs script i ++ (stepAt rs script n ∷ [])) (sym (zero-add (36 * i)))
+    ∙ sym (records-more (stepAt rs script) 36 i 0)
     ∙ ap (stepsOf rs script) (sym (add-one i))
 
 -- ---- parts of lists
@@ -60,45 +61,49 @@ drop-take zero k l = ap (λ (j : ℕ). take j l) (zero-add k)
 drop-take (suc n) k [] = ap (drop (suc n)) (take-nil (suc n + k)) ∙ sym (take-nil k)
 drop-take (suc n) k (x ∷ l) = ap (λ (j : ℕ). drop (suc n) (take j (x ∷ l))) (suc-add n k) ∙ drop-take n k l
 
--- the two numbers of an answer, written before an output
-answer-written : (s : List ℕ) (a b : ℕ) → 8 ≤ length s → putBe 4 (putBe 4 s 0 a) 4 b ≡ fourBytes a ++ fourBytes b ++ drop 8 s
-answer-written s a b h =
-    let u : List ℕ = putBe 4 s 0 a in
-    let n : length u ≡ length s = put-length 4 s 0 a in
-    let front : take 4 u ≡ bytesOf 4 a =
-    ap (take 4) (put-eq 4 s 0 a (omega arith)) ∙ take-at (bytesOf 4 a) (drop 4 s) 4 (length-bytesOf 4 a)
-    in
-    let back : drop 8 u ≡ drop 8 s = drop-put-be 4 s 0 a 8 (omega arith) in
-    put-eq 4 u 4 b (omega arith)
-    ∙ ap₂ (λ (x y : List ℕ). x ++ bytesOf 4 b ++ y) front back
-    ∙ ap₂ (λ (x y : List ℕ). x ++ y ++ drop 8 s) (sym (four-bytes a)) (sym (four-bytes b))
+-- four bytes written behind a front
+written-next : (p s : List ℕ) (v : ℕ) → 4 ≤ length s → putBe 4 (p ++ s) (length p) v ≡ p ++ fourBytes v ++ drop 4 s
+written-next p s v h =
+    put-eq 4 (p ++ s) (length p) v (omega (arith, length-append p s))
+    ∙ ap₂ (λ (x y : List ℕ). x ++ bytesOf 4 v ++ y) (take-append-seam p s) (drop-append-add p s 4)
+    ∙ ap (λ (x : List ℕ). p ++ x ++ drop 4 s) (sym (four-bytes v))
 
--- the part behind the first 8, lent to its end and put back
-module _ (p o : List ℕ) (h : 8 ≤ length p) where
-  behind : midOf 8 (length p - 8) p ≡ drop 8 p
-  behind = take-all (length p - 8) (drop 8 p) (omega (arith, length-drop 8 p))
+-- the three numbers of an answer, written before an output
+answer-written : (s : List ℕ) (a b c : ℕ) → 12 ≤ length s
+    → putBe 4 (putBe 4 (putBe 4 s 0 a) 4 b) 8 c ≡ fourBytes a ++ fourBytes b ++ fourBytes c ++ drop 12 s
+unfolding fourBytes
+answer-written s a b c h =
+    ap (λ (x : List ℕ). putBe 4 (putBe 4 x 4 b) 8 c) (written-next [] s a (omega arith))
+    ∙ ap (λ (x : List ℕ). putBe 4 x 8 c) (written-next (fourBytes a) (drop 4 s) b (omega (arith, length-drop 4 s)))
+    ∙ written-next (fourBytes a ++ fourBytes b) (drop 4 (drop 4 s)) c (omega (arith, length-drop 4 s, length-drop 4 (drop 4 s)))
+    ∙ ap (λ (x : List ℕ). fourBytes a ++ fourBytes b ++ fourBytes c ++ x) (drop-drop 4 4 (drop 4 s) ∙ drop-drop 8 4 s)
 
-  put-behind : drop 8 (putMid 8 (length p - 8) p o) ≡ o
+-- the part behind the first 12, lent to its end and put back
+module _ (p o : List ℕ) (h : 12 ≤ length p) where
+  behind : midOf 12 (length p - 12) p ≡ drop 12 p
+  behind = take-all (length p - 12) (drop 12 p) (omega (arith, length-drop 12 p))
+
+  put-behind : drop 12 (putMid 12 (length p - 12) p o) ≡ o
   put-behind =
-      drop-at (take 8 p) (o ++ postOf 8 (length p - 8) p) 8 (length-take-le 8 p h)
-      ∙ ap (λ (l : List ℕ). o ++ l) (ap (λ (n : ℕ). drop n (drop 8 p)) (sym (length-drop 8 p)) ∙ drop-length (drop 8 p))
+      drop-at (take 12 p) (o ++ postOf 12 (length p - 12) p) 12 (length-take-le 12 p h)
+      ∙ ap (λ (l : List ℕ). o ++ l) (ap (λ (n : ℕ). drop n (drop 12 p)) (sym (length-drop 12 p)) ∙ drop-length (drop 12 p))
       ∙ append-nil o
 
-  put-long : length o ≡ length (midOf 8 (length p - 8) p) → 8 ≤ length (putMid 8 (length p - 8) p o)
-  put-long e = omega (arith, same-len-mid 8 (length p - 8) p o e)
+  pub put-long : length o ≡ length (midOf 12 (length p - 12) p) → 12 ≤ length (putMid 12 (length p - 12) p o)
+  put-long e = omega (arith, same-len-mid 12 (length p - 12) p o e)
 
-same-event : (c : Call) (r : Answer) (t′ w m v out w′ m′ v′ out′ a b d e a′ b′ d′ e′ : List ℕ) → w ≡ a → m ≡ b → v ≡ d → out ≡ e → w′ ≡ a′ → m′ ≡ b′
+same-event : (c : Call) (r : Said) (t′ w m v out w′ m′ v′ out′ a b d e a′ b′ d′ e′ : List ℕ) → w ≡ a → m ≡ b → v ≡ d → out ≡ e → w′ ≡ a′ → m′ ≡ b′
     → v′ ≡ d′
     → out′ ≡ e′
     → eventOf c w m v out r t′ w′ m′ v′ out′ ≡ eventOf c a b d e r t′ a′ b′ d′ e′
 same-event c r t′ w m v out w′ m′ v′ out′ a b d e a′ b′ d′ e′ ea eb ed ee ea′ eb′ ed′ ee′ = rw (ea, eb, ed, ee, ea′, eb′, ed′, ee′)
 
 -- one step: the call, lent the first i bytes of the scratch, j of the read map and k of the output, and the first n counts
-pub lent : (rs : List Range) (s : List ℕ) (at : ℕ) (t w m v out : List ℕ) (r : Answer) (t′ w′ m′ v′ out′ : List ℕ) (i j n k : ℕ)
-    → i ≡ min (be 4 s (at + 24)) (length w)
-    → j ≡ min (be 4 s (at + 20)) (length m)
-    → n ≡ min (be 4 s (at + 28)) (length v)
-    → k ≡ min (be 4 s (at + 16)) (length out)
+pub lent : (rs : List Range) (s : List ℕ) (at : ℕ) (t w m v out : List ℕ) (r : Said) (t′ w′ m′ v′ out′ : List ℕ) (i j n k : ℕ)
+    → i ≡ min (be 4 s (at + 28)) (length w)
+    → j ≡ min (be 4 s (at + 24)) (length m)
+    → n ≡ min (be 4 s (at + 32)) (length v)
+    → k ≡ min (be 4 s (at + 20)) (length out)
     → length w′ ≡ length (take i w)
     → length m′ ≡ length (take j m)
     → length v′ ≡ length (take n v)
@@ -107,10 +112,10 @@ pub lent : (rs : List Range) (s : List ℕ) (at : ℕ) (t w m v out : List ℕ) 
     → StepCalled (stepAt rs s at) t w m v out r t′ (w′ ++ drop i w) (m′ ++ drop j m) (v′ ++ drop n v) (out′ ++ drop k out)
 unfolding stepAt
 lent rs s at t w m v out r t′ w′ m′ v′ out′ i j n k ei ej en ek nw nm nv nout c =
-    let a : ℕ = be 4 s (at + 24) in
-    let b : ℕ = be 4 s (at + 20) in
-    let d : ℕ = be 4 s (at + 28) in
-    let e : ℕ = be 4 s (at + 16) in
+    let a : ℕ = be 4 s (at + 28) in
+    let b : ℕ = be 4 s (at + 24) in
+    let d : ℕ = be 4 s (at + 32) in
+    let e : ℕ = be 4 s (at + 20) in
     record {
       called =
           subst (Called t)
@@ -134,21 +139,23 @@ lent rs s at t w m v out r t′ w′ m′ v′ out′ i j n k ei ej en ek nw nm 
       outputRest = rest-left e k out out′ ek nout;
     }
 
--- one turn: the step, on what lies behind the answer's place, and then the answer
-pub turned : (c : Step) (t w m v p : List ℕ) (r : Answer) (t′ w′ m′ v′ o u u′ : List ℕ) → 8 ≤ length p → length o ≡ length (midOf 8 (length p - 8) p)
-    → StepCalled c t w m v (midOf 8 (length p - 8) p) r t′ w′ m′ v′ o
-    → u ≡ putBe 4 (putMid 8 (length p - 8) p o) 0 (r .number)
-    → u′ ≡ putBe 4 u 4 (r .detail)
-    → Turned c t w m v p t′ w′ m′ v′ u′
-turned c t w m v p r t′ w′ m′ v′ o u u′ h n k eu ev =
+-- one turn: the step, on what lies behind the answer's place, and then the answer with its ceiling
+pub turned : (c : Step) (t w m v p : List ℕ) (r : Said) (t′ w′ m′ v′ o u u′ u″ : List ℕ) → 12 ≤ length p → length o ≡ length (midOf 12 (length p - 12) p)
+    → StepCalled c t w m v (midOf 12 (length p - 12) p) r t′ w′ m′ v′ o
+    → u ≡ putBe 4 (putMid 12 (length p - 12) p o) 0 (r .answer .number)
+    → u′ ≡ putBe 4 u 4 (r .answer .detail)
+    → u″ ≡ putBe 4 u′ 8 (complement (r .ceiling))
+    → Turned c t w m v p t′ w′ m′ v′ u″
+turned c t w m v p r t′ w′ m′ v′ o u u′ u″ h n k e0 e4 e8 =
+    let a : Answer = r .answer in
     record {
-      answer = r;
+      said = r;
       output′ = o;
       lent = subst (λ (x : List ℕ). StepCalled c t w m v x r t′ w′ m′ v′ o) (behind p o h) k;
       written =
-          ev ∙ ap (λ (x : List ℕ). putBe 4 x 4 (r .detail)) eu
-          ∙ answer-written (putMid 8 (length p - 8) p o) (r .number) (r .detail) (put-long p o h n)
-          ∙ ap (λ (x : List ℕ). fourBytes (r .number) ++ fourBytes (r .detail) ++ x) (put-behind p o h);
+          e8 ∙ ap (λ (x : List ℕ). putBe 4 x 8 (complement (r .ceiling))) (e4 ∙ ap (λ (x : List ℕ). putBe 4 x 4 (a .detail)) e0)
+          ∙ answer-written (putMid 12 (length p - 12) p o) (a .number) (a .detail) (complement (r .ceiling)) (put-long p o h n)
+          ∙ ap (λ (x : List ℕ). fourBytes (a .number) ++ fourBytes (a .detail) ++ fourBytes (complement (r .ceiling)) ++ x) (put-behind p o h);
     }
 
 -- ---- a run
@@ -205,24 +212,24 @@ module _ (script g : List ℕ) (l : Lengths) (h : RunState) (t w m v log : List 
   unfolding es x
   done = ap (take at) (going .run .log) ∙ take-at (entries (l .output) h es) (x .log) at (going .place)
 
-  module _ (k : ℕ) (size : k ≡ 8 + l .output) (room : at + k ≤ length log) (t′ w′ m′ v′ p : List ℕ)
-      (u : Turned (stepAt (allRanges g) script (32 * i)) t w m v (midOf at k log) t′ w′ m′ v′ p) where
+  module _ (k : ℕ) (size : k ≡ 12 + l .output) (room : at + k ≤ length log) (t′ w′ m′ v′ p : List ℕ)
+      (u : Turned (stepAt (allRanges g) script (36 * i)) t w m v (midOf at k log) t′ w′ m′ v′ p) where
     c : Step
-    c = stepAt (allRanges g) script (32 * i)
+    c = stepAt (allRanges g) script (36 * i)
 
     out : List ℕ
-    out = drop 8 (midOf at k log)
+    out = drop 12 (midOf at k log)
 
     e : Event
-    e = eventIn c w m v out (u .answer) t′ w′ m′ v′ (u .output′)
+    e = eventIn c w m v out (u .said) t′ w′ m′ v′ (u .output′)
 
     output-is : out ≡ outputOf (l .output) x
     unfolding x es out
-    output-is = ap₂ (λ (n : ℕ) (r : List ℕ). drop 8 (take n r)) size rest ∙ drop-take 8 (l .output) (x .log)
+    output-is = ap₂ (λ (n : ℕ) (r : List ℕ). drop 12 (take n r)) size rest ∙ drop-take 12 (l .output) (x .log)
 
     output-long : length out ≡ l .output
     unfolding out
-    output-long = omega (arith, length-drop 8 (midOf at k log), length-take k (drop at log), length-drop at log)
+    output-long = omega (arith, length-drop 12 (midOf at k log), length-take k (drop at log), length-drop at log)
 
     -- so many bytes are lent of a list of the length n
     some : (n j : ℕ) (s : List ℕ) → length s ≡ n → length (take j s) ≡ min j n
@@ -253,16 +260,16 @@ module _ (script g : List ℕ) (l : Lengths) (h : RunState) (t w m v log : List 
     unfolding e x es c out
     entry-is =
         u .written
-        ∙ ap (λ (y : List ℕ). fourBytes (u .answer .number) ++ fourBytes (u .answer .detail) ++ y)
+        ∙ ap (λ (y : List ℕ). fourBytes (u .said .answer .number) ++ fourBytes (u .said .answer .detail) ++ fourBytes (complement (u .said .ceiling)) ++ y)
         (put-back (c .output) out (u .output′) (u .lent .outputRest)
         ∙ ap (λ (y : List ℕ). take (c .output) (u .output′) ++ drop (length (take (c .output) out)) y) output-is)
 
-    log-is : putMid at k log p ≡ entries (l .output) h (es ++ (e ∷ [])) ++ drop (8 + l .output) (x .log)
+    log-is : putMid at k log p ≡ entries (l .output) h (es ++ (e ∷ [])) ++ drop (12 + l .output) (x .log)
     unfolding x es
     log-is =
         ap₂ (λ (y z : List ℕ). y ++ (p ++ z)) done (ap₂ (λ (n : ℕ) (r : List ℕ). drop n r) size rest)
-        ∙ sym (append-assoc (entries (l .output) h es) p (drop (8 + l .output) (x .log)))
-        ∙ ap (λ (y : List ℕ). y ++ drop (8 + l .output) (x .log))
+        ∙ sym (append-assoc (entries (l .output) h es) p (drop (12 + l .output) (x .log)))
+        ∙ ap (λ (y : List ℕ). y ++ drop (12 + l .output) (x .log))
         (ap (λ (y : List ℕ). entries (l .output) h es ++ y) entry-is ∙ sym (one-entry (l .output) h es e))
 
     -- scratch, read map and counts: what the call left, and behind it what was there

@@ -16,7 +16,7 @@ use Rattle.tree.specs.Sound.{sound}
 use Rattle.tree.proofs.Fresh.{fresh-sized, fresh-sound}
 use Rattle.table.specs.Calls.{Lengths}
 use Rattle.demands.specs.Model.{begunEmpty}
-use Rattle.demands.specs.History.{History}
+use Rattle.demands.specs.History.{History, AllAgreed}
 use Rattle.demands.proofs.Demand.{demand3}
 use Rattle.script.specs.Script.{allRanges, callsIn, stepsOf, logPart}
 use Rattle.script.specs.Run.{RunState, runState, Run, runLengths, partIn, Happened, SameLengths, Ran}
@@ -34,22 +34,21 @@ parts-fit bytes n part e = rw e (parts-within bytes n)
 -- ---- refused: one of the two tests fails, and nothing changes
 
 module _ (script g t w m v log : List ℕ) where
-  says-not : tableSized (length t) && leb 8 (partIn script log) ≡ false → Ran script g t w m v log t w m v log false
+  says-not : tableSized (length t) && leb 12 (partIn script log) ≡ false → Ran script g t w m v log t w m v log false
   says-not p =
       record {
         runs = sym p;
         refused = λ e. (refl, refl, refl, refl, refl);
-        answers = λ e. absurd (true≢false (sym e));
         staysSound = λ e. absurd (true≢false (sym e));
         sameLengths = record { table = refl; scratch = refl; readMap = refl; counts = refl; log = refl };
         happened = λ e. absurd (true≢false (sym e));
       }
 
   pub says-unsized : tableSized (length t) ≡ false → Ran script g t w m v log t w m v log false
-  says-unsized e = says-not (ap (λ (b : Bool). b && leb 8 (partIn script log)) e)
+  says-unsized e = says-not (ap (λ (b : Bool). b && leb 12 (partIn script log)) e)
 
-  pub says-short : (part : ℕ) → part ≡ partIn script log → part < 8 → tableSized (length t) ≡ true → Ran script g t w m v log t w m v log false
-  says-short part e h z = says-not (ap₂ (λ (a b : Bool). a && b) z (ap (leb 8) (sym e) ∙ lt-leb 8 part h))
+  pub says-short : (part : ℕ) → part ≡ partIn script log → part < 12 → tableSized (length t) ≡ true → Ran script g t w m v log t w m v log false
+  says-short part e h z = says-not (ap₂ (λ (a b : Bool). a && b) z (ap (leb 12) (sym e) ∙ lt-leb 12 part h))
 
 -- ---- run
 
@@ -63,15 +62,21 @@ module _ (script g t w m v log t′ w′ m′ v′ log′ : List ℕ) (sized : t
       let h : RunState = runState (formatted (length t)) w m v log in
       let run : Run script g (callsIn script) l h t′ w′ m′ v′ log′ =
       subst (λ (k : Lengths). Run script g (callsIn script) k h t′ w′ m′ v′ log′)
-      (ap₂ (λ (bytes p : ℕ). record { table = bytes; output = p - 8; readMap = length m; scratch = length w; counts = length v }) (fresh-sized (length t) sized) ep)
+      (ap₂ (λ (bytes p : ℕ). record { table = bytes; output = p - 12; readMap = length m; scratch = length w; counts = length v }) (fresh-sized (length t) sized) ep)
       (subst (λ (x : List ℕ). Run script g (callsIn script) (runLengths x w m v part) (runState x w m v log) t′ w′ m′ v′ log′) eu r)
       in
       let past : History (formatted (length t)) (run .events) =
       history-of l h (stepsOf (allRanges g) script (callsIn script)) (run .events) (run .inTurn)
       in
-      record { run = run; history = past; agreed = demand3 (length t) sized (run .events) past }
+      let agreed : AllAgreed (formatted (length t)) begunEmpty (run .events) = demand3 (length t) sized (run .events) past in
+      record {
+        run = run;
+        history = past;
+        agreed = agreed;
+        answers = run .log ∙ as-model l h begunEmpty (stepsOf (allRanges g) script (callsIn script)) (run .events) (run .inTurn) agreed;
+      }
 
-  pub says-run : (part : ℕ) (u : List ℕ) → part ≡ partIn script log → 8 ≤ part → u ≡ cond (tableSized (length t)) (formatted (length t)) t
+  pub says-run : (part : ℕ) (u : List ℕ) → part ≡ partIn script log → 12 ≤ part → u ≡ cond (tableSized (length t)) (formatted (length t)) t
       → Run script g (callsIn script) (runLengths u w m v part) (runState u w m v log) t′ w′ m′ v′ log′
       → SameLengths t w m v log t′ w′ m′ v′ log′
       → Ran script g t w m v log t′ w′ m′ v′ log′ true
@@ -82,11 +87,8 @@ module _ (script g t w m v log t′ w′ m′ v′ log′ : List ℕ) (sized : t
       let l : Lengths = runLengths t w m v (partIn script log) in
       let h : RunState = runState (formatted (length t)) w m v log in
       record {
-        runs = sym (and-both (tableSized (length t)) (leb 8 (partIn script log)) sized (ap (leb 8) (sym ep) ∙ le-leb 8 part p));
+        runs = sym (and-both (tableSized (length t)) (leb 12 (partIn script log)) sized (ap (leb 12) (sym ep) ∙ le-leb 12 part p));
         refused = λ e. absurd (true≢false e);
-        answers =
-            λ e. k .run .log
-            ∙ as-model l h begunEmpty (stepsOf (allRanges g) script (callsIn script)) (k .run .events) (k .run .inTurn) (k .agreed);
         staysSound = λ e. ap sound (k .run .table) ∙ ends-sound l h begunEmpty (k .run .events) (fresh-sound (length t) sized) (k .agreed);
         sameLengths = same;
         happened = λ e. k;

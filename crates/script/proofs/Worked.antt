@@ -1,6 +1,6 @@
 -- A script worked out: Add of place 5, rank -3 and track 9; another Add that is lent 100 bytes of scratch; a Report of the first, lent 11 bytes of output and
--- then 12, and one lent no read map; Count; and Reports of two ranges, of which the second is past the door, and of the second alone. The log is all ones
--- before.
+-- then 12, and one lent no read map; Count; Reports of two ranges, of which the second is past the door, and of the second alone; and a Top of three spots within
+-- one block. The log is all ones before.
 -- Assumes nothing.
 use mathlib.Core.Path.{_≡_, refl}
 use mathlib.Core.List.{List, [], _∷_, _++_}
@@ -10,9 +10,9 @@ use lib.IntN.{pos, negsuc}
 use Rattle.octets.specs.Bytes.{be}
 use Rattle.ranges.specs.Ranges.{rangeIn}
 use Rattle.ranges.specs.declared.Range.{Range}
-use Rattle.table.specs.Calls.{Call, add, report, count, reportMany, Lengths}
-use Rattle.demands.specs.Model.{begunEmpty, eqZ, hasIdentity, placeBefore, ofPlaces, ofReport, fromOnward, reported, takenOut, broughtIn, fourBytes, complement, outputAfter, refuse, accept, badTable, badLent, tooMany, full, handOut, ownReply, reply}
-use Rattle.script.specs.Script.{Step, allRanges, callsIn, callOf, callAt, stepAt, stepsOf, logPart, logAfter}
+use Rattle.table.specs.Calls.{Call, add, report, count, reportMany, topWithin, Lengths}
+use Rattle.demands.specs.Model.{begunEmpty, eqZ, hasIdentity, placeBefore, topBefore, ofPlaces, ofReport, fromOnward, reported, takenOut, broughtIn, highest, fourBytes, complement, outputAfter, refuse, accept, badTable, badLent, tooMany, full, handOut, ownReply, reply}
+use Rattle.script.specs.Script.{Step, Telling, allRanges, callsIn, callOf, callAt, stepAt, stepsOf, logPart, logAfter}
 
 -- 65,536 bytes are more than the run has of anything
 all : List ℕ
@@ -41,55 +41,62 @@ two-ranges = refl
 -- three bytes at the end are no call
 script : List ℕ
 script =
-    (some 1 ++ (0 ∷ 0 ∷ 0 ∷ 5 ∷ 255 ∷ 255 ∷ 255 ∷ 253 ∷ 0 ∷ 0 ∷ 0 ∷ 9 ∷ [])) ++ all ++ all ++ all ++ some 0
-    ++ (some 1 ++ (0 ∷ 0 ∷ 0 ∷ 6 ∷ 255 ∷ 255 ∷ 255 ∷ 253 ∷ 0 ∷ 0 ∷ 0 ∷ 9 ∷ [])) ++ all ++ all ++ some 100 ++ all
-    ++ (some 3 ++ around) ++ some 11 ++ all ++ all ++ all
-    ++ (some 3 ++ around) ++ some 12 ++ all ++ all ++ all
-    ++ (some 3 ++ around) ++ all ++ some 0 ++ all ++ all
-    ++ (some 5 ++ (7 ∷ 7 ∷ 7 ∷ 7 ∷ 7 ∷ 7 ∷ 7 ∷ 7 ∷ 7 ∷ 7 ∷ 7 ∷ 7 ∷ [])) ++ some 0 ++ some 0 ++ some 0 ++ some 0
-    ++ (some 8 ++ some 0 ++ some 2 ++ some 7) ++ all ++ all ++ all ++ some 2
-    ++ (some 8 ++ some 1 ++ some 9 ++ some 7) ++ all ++ all ++ all ++ some 1
+    (some 1 ++ (0 ∷ 0 ∷ 0 ∷ 5 ∷ 255 ∷ 255 ∷ 255 ∷ 253 ∷ 0 ∷ 0 ∷ 0 ∷ 9 ∷ []) ++ some 7) ++ all ++ all ++ all ++ some 0
+    ++ (some 1 ++ (0 ∷ 0 ∷ 0 ∷ 6 ∷ 255 ∷ 255 ∷ 255 ∷ 253 ∷ 0 ∷ 0 ∷ 0 ∷ 9 ∷ []) ++ some 7) ++ all ++ all ++ some 100 ++ all
+    ++ (some 3 ++ around ++ some 7) ++ some 11 ++ all ++ all ++ all
+    ++ (some 3 ++ around ++ some 7) ++ some 12 ++ all ++ all ++ all
+    ++ (some 3 ++ around ++ some 7) ++ all ++ some 0 ++ all ++ all
+    ++ (some 5 ++ (7 ∷ 7 ∷ 7 ∷ 7 ∷ 7 ∷ 7 ∷ 7 ∷ 7 ∷ 7 ∷ 7 ∷ 7 ∷ 7 ∷ 7 ∷ 7 ∷ 7 ∷ 7 ∷ [])) ++ some 0 ++ some 0 ++ some 0 ++ some 0
+    ++ (some 8 ++ some 0 ++ some 2 ++ some 7 ++ some 7) ++ all ++ all ++ all ++ some 2
+    ++ (some 8 ++ some 1 ++ some 9 ++ some 7 ++ some 7) ++ all ++ all ++ all ++ some 1
+    ++ (some 9 ++ (255 ∷ 255 ∷ 255 ∷ 255 ∷ 0 ∷ 0 ∷ 0 ∷ 10 ∷ []) ++ some 3 ++ some 1) ++ all ++ all ++ all ++ all
     ++ (0 ∷ 0 ∷ 0 ∷ [])
 
 step : Call → ℕ → ℕ → ℕ → ℕ → Step
 step c output readMap scratch counts = record { call = c; output = output; readMap = readMap; scratch = scratch; counts = counts }
 
--- the last one asks for nine ranges from the second on, and gets the one that there is
+-- the last Report asks for nine ranges from the second on, and gets the one that there is
 steps : List Step
 steps =
     step (add (pos 5) (negsuc 2) 9) 65536 65536 65536 0 ∷ step (add (pos 6) (negsuc 2) 9) 65536 65536 100 65536
     ∷ step (report (negsuc 0) (pos 10) (negsuc 255)) 11 65536 65536 65536 ∷ step (report (negsuc 0) (pos 10) (negsuc 255)) 12 65536 65536 65536
     ∷ step (report (negsuc 0) (pos 10) (negsuc 255)) 65536 0 65536 65536 ∷ step count 0 0 0 0
-    ∷ step (reportMany (first ∷ second ∷ [])) 65536 65536 65536 2 ∷ step (reportMany (second ∷ [])) 65536 65536 65536 1 ∷ []
+    ∷ step (reportMany (first ∷ second ∷ [])) 65536 65536 65536 2 ∷ step (reportMany (second ∷ [])) 65536 65536 65536 1
+    ∷ step (topWithin (negsuc 0) (pos 10) 3 1) 65536 65536 65536 65536 ∷ []
 
-eight-steps : stepsOf (first ∷ second ∷ []) script (callsIn script) ≡ steps
+nine-steps : stepsOf (first ∷ second ∷ []) script (callsIn script) ≡ steps
 unfolding script all some around step steps be callOf callAt stepAt
-eight-steps = refl
+nine-steps = refl
 
--- 201 bytes are eight parts of 25, and one byte more
-part : logPart 201 8 ≡ 25
+-- 262 bytes are nine parts of 29, and one byte more
+part : logPart 262 9 ≡ 29
 unfolding logPart
 part = refl
 
 sizes : Lengths
 sizes = record { table = 18432; output = 17; readMap = 512; scratch = 18432; counts = 64 }
 
-model-log : logAfter sizes steps begunEmpty (replicate 201 1)
-    ≡ (0 ∷ 0 ∷ 0 ∷ 0 ∷ 0 ∷ 0 ∷ 0 ∷ 0 ∷ [])
-    ++ replicate 17 1
-    ++ (0 ∷ 0 ∷ 0 ∷ 2 ∷ 0 ∷ 0 ∷ 0 ∷ 0 ∷ [])
-    ++ replicate 17 1
-    ++ (0 ∷ 0 ∷ 0 ∷ 5 ∷ 0 ∷ 0 ∷ 0 ∷ 1 ∷ [])
-    ++ replicate 17 1
-    ++ (0 ∷ 0 ∷ 0 ∷ 0 ∷ 0 ∷ 0 ∷ 0 ∷ 1 ∷ 0 ∷ 0 ∷ 0 ∷ 5 ∷ 255 ∷ 255 ∷ 255 ∷ 253 ∷ 0 ∷ 0 ∷ 0 ∷ 9 ∷ [])
-    ++ replicate 5 1
-    ++ (0 ∷ 0 ∷ 0 ∷ 2 ∷ 0 ∷ 0 ∷ 0 ∷ 0 ∷ [])
-    ++ replicate 17 1
-    ++ (0 ∷ 0 ∷ 0 ∷ 0 ∷ 0 ∷ 0 ∷ 0 ∷ 1 ∷ [])
-    ++ replicate 17 1
-    ++ (0 ∷ 0 ∷ 0 ∷ 0 ∷ 0 ∷ 0 ∷ 0 ∷ 1 ∷ 0 ∷ 0 ∷ 0 ∷ 5 ∷ 255 ∷ 255 ∷ 255 ∷ 253 ∷ 0 ∷ 0 ∷ 0 ∷ 9 ∷ [])
-    ++ replicate 5 1
-    ++ (0 ∷ 0 ∷ 0 ∷ 0 ∷ 0 ∷ 0 ∷ 0 ∷ 0 ∷ [])
-    ++ replicate 18 1
-unfolding first second sizes step steps eqZ hasIdentity placeBefore ofPlaces ofReport fromOnward reported takenOut broughtIn fourBytes complement outputAfter refuse accept badTable badLent tooMany full handOut ownReply reply
+-- all but the last have no ceiling
+nothing : Telling
+nothing = record { certain = 0; ceiling = pos 0 }
+
+-- one spot is certain, and no other has a rank above -3
+within : Telling
+within = record { certain = 1; ceiling = negsuc 2 }
+
+-- the beginning of a part without a ceiling
+head : ℕ → ℕ → List ℕ
+head number detail = some number ++ some detail ++ some 0
+
+model-log : logAfter sizes steps (replicate 8 nothing ++ (within ∷ [])) begunEmpty (replicate 262 1)
+    ≡ head 0 0 ++ replicate 17 1
+    ++ head 2 0 ++ replicate 17 1
+    ++ head 5 1 ++ replicate 17 1
+    ++ head 0 1 ++ (0 ∷ 0 ∷ 0 ∷ 5 ∷ 255 ∷ 255 ∷ 255 ∷ 253 ∷ 0 ∷ 0 ∷ 0 ∷ 9 ∷ []) ++ replicate 5 1
+    ++ head 2 0 ++ replicate 17 1
+    ++ head 0 1 ++ replicate 17 1
+    ++ head 0 1 ++ (0 ∷ 0 ∷ 0 ∷ 5 ∷ 255 ∷ 255 ∷ 255 ∷ 253 ∷ 0 ∷ 0 ∷ 0 ∷ 9 ∷ []) ++ replicate 5 1
+    ++ head 0 0 ++ replicate 17 1
+    ++ (some 0 ++ some 1 ++ (255 ∷ 255 ∷ 255 ∷ 253 ∷ [])) ++ (0 ∷ 0 ∷ 0 ∷ 5 ∷ 255 ∷ 255 ∷ 255 ∷ 253 ∷ 0 ∷ 0 ∷ 0 ∷ 9 ∷ []) ++ replicate 6 1
+unfolding first second some nothing within head sizes step steps eqZ hasIdentity placeBefore topBefore ofPlaces ofReport fromOnward reported takenOut broughtIn highest fourBytes complement outputAfter refuse accept badTable badLent tooMany full handOut ownReply reply
 model-log = refl

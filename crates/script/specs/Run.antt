@@ -7,17 +7,24 @@ use mathlib.Core.Bool.{Bool, true, false, _&&_}
 use mathlib.Core.List.{List, [], _∷_, _++_}
 use lib.ListN.{length, take, drop}
 use lib.Dec.{leb}
+use lib.IntN.{pos}
 use Rattle.block.specs.declared.Answer.{Answer}
 use Rattle.block.specs.Table.{tableSized}
 use Rattle.block.specs.Fresh.{formatted}
 use Rattle.tree.specs.Sound.{sound}
-use Rattle.table.specs.Calls.{Call, kind, takesScratch, isQuery, isCounting, Lengths, argumentsFit}
-use Rattle.demands.specs.Model.{begunEmpty, fourBytes}
-use Rattle.demands.specs.History.{Event, MetBy, History, AllAgreed, lengthsIn}
-use Rattle.script.specs.Script.{Step, allRanges, callsIn, stepsOf, lentTo, logPart, logAfter}
+use Rattle.ranges.specs.declared.Range.{Range}
+use Rattle.table.specs.Calls.{Call, kind, takesScratch, isQuery, isCounting, hasCeiling, Lengths, argumentsFit}
+use Rattle.demands.specs.Model.{begunEmpty, fourBytes, complement}
+use Rattle.demands.specs.History.{Event, MetBy, History, AllAgreed, lengthsIn, certainIn}
+use Rattle.within.specs.declared.Said.{Said}
+use Rattle.script.specs.Script.{Step, Telling, allRanges, callsIn, callAt, stepsOf, lentTo, logPart, logAfter}
 
--- an event of its call, what it was lent beside the table, its answer, and what it left
-abbrev pub eventOf : Call → List ℕ → List ℕ → List ℕ → List ℕ → Answer → List ℕ → List ℕ → List ℕ → List ℕ → List ℕ → Event
+-- an answer without a ceiling
+abbrev pub plainly : Answer → Said
+plainly a = record { answer = a; ceiling = pos 0 }
+
+-- an event of its call, what it was lent beside the table, its answer and ceiling, and what it left
+abbrev pub eventOf : Call → List ℕ → List ℕ → List ℕ → List ℕ → Said → List ℕ → List ℕ → List ℕ → List ℕ → List ℕ → Event
 eventOf c w m k out r t′ w′ m′ k′ out′ =
     record {
       call = c;
@@ -25,11 +32,12 @@ eventOf c w m k out r t′ w′ m′ k′ out′ =
       readMap = m;
       scratch = w;
       counts = k;
-      answer = r;
+      answer = r .answer;
       output′ = out′;
       readMap′ = m′;
       scratch′ = w′;
       counts′ = k′;
+      ceiling′ = r .ceiling;
       table′ = t′;
     }
 
@@ -41,16 +49,21 @@ pub record Called (t : List ℕ) (e : Event) : Type 0 where
   pub mapKept : isQuery (e .call) ≡ false → e .readMap′ ≡ e .readMap
   pub scratchKept : takesScratch (kind (e .call)) ≡ false → e .scratch′ ≡ e .scratch
   pub countsKept : isCounting (e .call) ≡ false → e .counts′ ≡ e .counts
+  pub noCeiling : hasCeiling (e .call) ≡ false → e .ceiling′ ≡ pos 0
+
+-- a call that needs the table and the scratch alone: so it is called, whatever else there is
+abbrev pub CalledAlone : List ℕ → ℕ → List ℕ → List ℕ → Answer → List ℕ → List ℕ → Type 0
+CalledAlone s at t w r t′ w′ = (rs : List Range) (m k out : List ℕ) → Called t (eventOf (callAt rs s at) w m k out (plainly r) t′ w′ m k out)
 
 -- the event of a step, which is lent the first bytes of scratch, read map and output, and the first counts
-abbrev pub eventIn : Step → List ℕ → List ℕ → List ℕ → List ℕ → Answer → List ℕ → List ℕ → List ℕ → List ℕ → List ℕ → Event
+abbrev pub eventIn : Step → List ℕ → List ℕ → List ℕ → List ℕ → Said → List ℕ → List ℕ → List ℕ → List ℕ → List ℕ → Event
 eventIn c w m k out r t′ w′ m′ k′ out′ =
     eventOf (c .call) (take (c .scratch) w) (take (c .readMap) m) (take (c .counts) k) (take (c .output) out) r t′ (take (c .scratch) w′) (take (c .readMap) m′)
     (take (c .counts) k′)
     (take (c .output) out′)
 
 -- the call of a step; what it isn't lent stayed as it was
-pub record StepCalled (c : Step) (t w m k out : List ℕ) (r : Answer) (t′ w′ m′ k′ out′ : List ℕ) : Type 0 where
+pub record StepCalled (c : Step) (t w m k out : List ℕ) (r : Said) (t′ w′ m′ k′ out′ : List ℕ) : Type 0 where
   pub called : Called t (eventIn c w m k out r t′ w′ m′ k′ out′)
   pub scratchRest : drop (c .scratch) w′ ≡ drop (c .scratch) w
   pub mapRest : drop (c .readMap) m′ ≡ drop (c .readMap) m
@@ -59,10 +72,10 @@ pub record StepCalled (c : Step) (t w m k out : List ℕ) (r : Answer) (t′ w�
 
 -- one turn: the step c, and its part of the log as lent and as left
 pub record Turned (c : Step) (t w m k part t′ w′ m′ k′ part′ : List ℕ) : Type 0 where
-  pub answer : Answer
+  pub said : Said
   pub output′ : List ℕ
-  pub lent : StepCalled c t w m k (drop 8 part) answer t′ w′ m′ k′ output′
-  pub written : part′ ≡ fourBytes (answer .number) ++ fourBytes (answer .detail) ++ output′
+  pub lent : StepCalled c t w m k (drop 12 part) said t′ w′ m′ k′ output′
+  pub written : part′ ≡ fourBytes (said .answer .number) ++ fourBytes (said .answer .detail) ++ fourBytes (complement (said .ceiling)) ++ output′
 
 -- what a run has between two calls: table, scratch, read map and counts as the last call left them, and the rest of the log as it was lent
 pub record RunState : Type 0 where
@@ -78,14 +91,14 @@ runState t w m k log = record { table = t; scratch = w; readMap = m; counts = k;
 
 -- the output of the next call, where the parts of the log have room for one of so many bytes
 abbrev pub outputOf : ℕ → RunState → List ℕ
-outputOf room h = take room (drop 8 (h .log))
+outputOf room h = take room (drop 12 (h .log))
 
 -- after an event; what it wasn't lent stayed as it was
 abbrev pub passed : ℕ → RunState → Event → RunState
 passed room h e =
     runState (e .table′) (e .scratch′ ++ drop (length (e .scratch)) (h .scratch)) (e .readMap′ ++ drop (length (e .readMap)) (h .readMap))
     (e .counts′ ++ drop (length (e .counts)) (h .counts))
-    (drop (8 + room) (h .log))
+    (drop (12 + room) (h .log))
 
 -- after one event and then the next
 abbrev pub heldAfter : ℕ → RunState → List Event → RunState
@@ -112,7 +125,8 @@ AllInTurn l h (c ∷ cs) (e ∷ es) = InTurn l h c e × AllInTurn l (passed (l .
 
 -- what an event leaves in its part of the log, where the output was so
 abbrev pub entry : List ℕ → Event → List ℕ
-entry output e = fourBytes (e .answer .number) ++ fourBytes (e .answer .detail) ++ (e .output′ ++ drop (length (e .output)) output)
+entry output e =
+    fourBytes (e .answer .number) ++ fourBytes (e .answer .detail) ++ fourBytes (complement (e .ceiling′)) ++ (e .output′ ++ drop (length (e .output)) output)
 
 -- what the events of a run do
 abbrev pub entries : ℕ → RunState → List Event → List ℕ
@@ -131,17 +145,24 @@ pub record Run (script g : List ℕ) (n : ℕ) (l : Lengths) (h : RunState) (t�
 
 -- the lengths that a run has, where a part of the log has so many bytes
 abbrev pub runLengths : List ℕ → List ℕ → List ℕ → List ℕ → ℕ → Lengths
-runLengths t w m k part = record { table = length t; output = part - 8; readMap = length m; scratch = length w; counts = length k }
+runLengths t w m k part = record { table = length t; output = part - 12; readMap = length m; scratch = length w; counts = length k }
 
 -- the part of each call in the log of a script
 abbrev pub partIn : List ℕ → List ℕ → ℕ
 partIn script log = logPart (length log) (callsIn script)
 
--- the whole script, run on a formatted table, is a history; and of it all of demand 3 is said
+-- what the model is told of these events, from the table t on
+abbrev pub tellings : List ℕ → List Event → List Telling
+tellings t [] = []
+tellings t (e ∷ es) = record { certain = certainIn (e .call) t; ceiling = e .ceiling′ } ∷ tellings (e .table′) es
+
+-- the whole script, run on a formatted table, is a history; of it all of demand 3 is said, and its log is the model's
 pub record Happened (script g t w m k log t′ w′ m′ k′ log′ : List ℕ) : Type 0 where
   pub run : Run script g (callsIn script) (runLengths t w m k (partIn script log)) (runState (formatted (length t)) w m k log) t′ w′ m′ k′ log′
   pub history : History (formatted (length t)) (run .events)
   pub agreed : AllAgreed (formatted (length t)) begunEmpty (run .events)
+  pub answers : log′ ≡
+      logAfter (runLengths t w m k (partIn script log)) (stepsOf (allRanges g) script (callsIn script)) (tellings (formatted (length t)) (run .events)) begunEmpty log
 
 -- every list is as long as it was; s and s′ are the log
 pub record SameLengths (t w m k s t′ w′ m′ k′ s′ : List ℕ) : Type 0 where
@@ -154,9 +175,8 @@ pub record SameLengths (t w m k s t′ w′ m′ k′ s′ : List ℕ) : Type 0 
 -- a script was run, from an empty table on, or refused. It is refused where the table has no size that Format accepts, and where a part of the log is too
 -- short for an answer.
 pub record Ran (script g t w m k log t′ w′ m′ k′ log′ : List ℕ) (r : Bool) : Type 0 where
-  pub runs : r ≡ (tableSized (length t) && leb 8 (partIn script log))
+  pub runs : r ≡ (tableSized (length t) && leb 12 (partIn script log))
   pub refused : r ≡ false → (t′ ≡ t) × (w′ ≡ w) × (m′ ≡ m) × (k′ ≡ k) × (log′ ≡ log)
-  pub answers : r ≡ true → log′ ≡ logAfter (runLengths t w m k (partIn script log)) (stepsOf (allRanges g) script (callsIn script)) begunEmpty log
   pub staysSound : r ≡ true → sound t′ ≡ true
   pub sameLengths : SameLengths t w m k log t′ w′ m′ k′ log′
   pub happened : r ≡ true → Happened script g t w m k log t′ w′ m′ k′ log′

@@ -5,39 +5,41 @@ use mathlib.Core.Bool.{cond}
 use mathlib.Core.List.{List, [], _∷_, _++_}
 use lib.ListN.{length, take, drop}
 use lib.Dec.{eqb}
+use lib.IntN.{ℤ}
 use mir.Syntax.{w32}
 use mir.Val.{toZ}
 use Rattle.octets.specs.Bytes.{be}
 use Rattle.octets.specs.Lists.{records}
 use Rattle.ranges.specs.Ranges.{rangesIn}
 use Rattle.ranges.specs.declared.Range.{Range}
-use Rattle.table.specs.Calls.{Call, format, add, withdraw, report, top, count, check, rebuild, reportMany, Lengths}
-use Rattle.demands.specs.Model.{Plain, reply, outputAfter, fourBytes}
+use Rattle.table.specs.Calls.{Call, format, add, withdraw, report, top, count, check, rebuild, reportMany, topWithin, Lengths}
+use Rattle.demands.specs.Model.{Plain, reply, told, outputAfter, fourBytes, complement}
 
--- a call is 32 bytes; fewer at the end are no call
+-- a call is 36 bytes; fewer at the end are no call
 abbrev pub callsIn : List ℕ → ℕ
-callsIn s = length s / 32
+callsIn s = length s / 36
 
 -- a range is 12 bytes; fewer at the end are no range
 abbrev pub allRanges : List ℕ → List Range
 allRanges g = rangesIn g (length g / 12) 0
 
--- the call of a number and three arguments, where these are the ranges. Signed arguments are in two's complement; those that a call has no use for may be
+-- the call of a number and four arguments, where these are the ranges. Signed arguments are in two's complement; those that a call has no use for may be
 -- anything. Many ranges are b of them from the a-th on, or those that there are.
-unfoldable pub callOf : List Range → ℕ → ℕ → ℕ → ℕ → Call
-callOf rs zero a b c = format
-callOf rs (suc zero) a b c = add (toZ w32 a) (toZ w32 b) c
-callOf rs (suc (suc zero)) a b c = withdraw (toZ w32 a) (toZ w32 b)
-callOf rs (suc (suc (suc zero))) a b c = report (toZ w32 a) (toZ w32 b) (toZ w32 c)
-callOf rs (suc (suc (suc (suc zero)))) a b c = top (toZ w32 a) (toZ w32 b) c
-callOf rs (suc (suc (suc (suc (suc zero))))) a b c = count
-callOf rs (suc (suc (suc (suc (suc (suc zero)))))) a b c = check
-callOf rs (suc (suc (suc (suc (suc (suc (suc zero))))))) a b c = rebuild
-callOf rs (suc (suc (suc (suc (suc (suc (suc (suc n)))))))) a b c = reportMany (take b (drop a rs))
+unfoldable pub callOf : List Range → ℕ → ℕ → ℕ → ℕ → ℕ → Call
+callOf rs zero a b c d = format
+callOf rs (suc zero) a b c d = add (toZ w32 a) (toZ w32 b) c
+callOf rs (suc (suc zero)) a b c d = withdraw (toZ w32 a) (toZ w32 b)
+callOf rs (suc (suc (suc zero))) a b c d = report (toZ w32 a) (toZ w32 b) (toZ w32 c)
+callOf rs (suc (suc (suc (suc zero)))) a b c d = top (toZ w32 a) (toZ w32 b) c
+callOf rs (suc (suc (suc (suc (suc zero))))) a b c d = count
+callOf rs (suc (suc (suc (suc (suc (suc zero)))))) a b c d = check
+callOf rs (suc (suc (suc (suc (suc (suc (suc zero))))))) a b c d = rebuild
+callOf rs (suc (suc (suc (suc (suc (suc (suc (suc zero)))))))) a b c d = reportMany (take b (drop a rs))
+callOf rs (suc (suc (suc (suc (suc (suc (suc (suc (suc n))))))))) a b c d = topWithin (toZ w32 a) (toZ w32 b) c d
 
--- the call that begins at a byte: its number and its three arguments, 4 bytes each, big-endian
+-- the call that begins at a byte: its number and its four arguments, 4 bytes each, big-endian
 unfoldable pub callAt : List Range → List ℕ → ℕ → Call
-callAt rs s at = callOf rs (be 4 s at) (be 4 s (at + 4)) (be 4 s (at + 8)) (be 4 s (at + 12))
+callAt rs s at = callOf rs (be 4 s at) (be 4 s (at + 4)) (be 4 s (at + 8)) (be 4 s (at + 12)) (be 4 s (at + 16))
 
 -- a step of a script: a call, how many bytes it is lent of the output, of the read map and of the scratch, and how many counts; all of them where there are fewer
 pub record Step : Type 0 where
@@ -50,11 +52,11 @@ pub record Step : Type 0 where
 -- the step that begins at a byte: its call and then the four numbers, 4 bytes each, big-endian
 unfoldable pub stepAt : List Range → List ℕ → ℕ → Step
 stepAt rs s at =
-    record { call = callAt rs s at; output = be 4 s (at + 16); readMap = be 4 s (at + 20); scratch = be 4 s (at + 24); counts = be 4 s (at + 28) }
+    record { call = callAt rs s at; output = be 4 s (at + 20); readMap = be 4 s (at + 24); scratch = be 4 s (at + 28); counts = be 4 s (at + 32) }
 
 -- the first n steps
 abbrev pub stepsOf : List Range → List ℕ → ℕ → List Step
-stepsOf rs s n = records (stepAt rs s) 32 n 0
+stepsOf rs s n = records (stepAt rs s) 36 n 0
 
 -- the lengths that a step is lent of those that the run has
 abbrev pub lentTo : Step → Lengths → Lengths
@@ -67,17 +69,24 @@ lentTo c l =
       counts = min (c .counts) (l .counts);
     }
 
--- the log has an equal part for each call, in order: 8 bytes for the answer, and the output. Where there is no call the log may be of any
+-- the log has an equal part for each call, in order: 12 bytes for the answer with its ceiling, and the output. Where there is no call the log may be of any
 -- length.
 unfoldable pub logPart : ℕ → ℕ → ℕ
-logPart bytes n = cond (eqb n 0) 8 (bytes / n)
+logPart bytes n = cond (eqb n 0) 12 (bytes / n)
 
--- the model's log of these steps, begun with ps, where the run has the lengths l: in each part the answer's number and detail, then the output as the
--- call leaves it; the bytes of the part that it isn't lent stay as they were
-abbrev pub logAfter : Lengths → List Step → Plain → List ℕ → List ℕ
-logAfter l [] ps log = log
-logAfter l (c ∷ cs) ps log =
-    let r = reply (lentTo c l) (c .call) ps in
-    let output = take (l .output) (drop 8 log) in
-    fourBytes (r .answer .number) ++ fourBytes (r .answer .detail) ++ (outputAfter r (take (c .output) output) ++ drop (c .output) output) ++
-    logAfter l cs (r .next) (drop (8 + l .output) log)
+-- what of a call's answer hangs on the arrangement, so that the model is told it: how many spots a Top within an allowance gives, and its ceiling; 0 for other calls
+pub record Telling : Type 0 where
+  pub certain : ℕ
+  pub ceiling : ℤ
+
+-- the model's log of these steps with their tellings, begun with ps, where the run has the lengths l: in each part the answer's number and detail and the ceiling, then
+-- the output as the call leaves it; the bytes of the part that it isn't lent stay as they were
+abbrev pub logAfter : Lengths → List Step → List Telling → Plain → List ℕ → List ℕ
+logAfter l [] xs ps log = log
+logAfter l (c ∷ cs) [] ps log = log
+logAfter l (c ∷ cs) (x ∷ xs) ps log =
+    let r = reply (lentTo c l) (told (c .call) (x .certain)) ps in
+    let output = take (l .output) (drop 12 log) in
+    fourBytes (r .answer .number) ++ fourBytes (r .answer .detail) ++ fourBytes (complement (x .ceiling)) ++
+    (outputAfter r (take (c .output) output) ++ drop (c .output) output) ++
+    logAfter l cs xs (r .next) (drop (12 + l .output) log)

@@ -2,9 +2,11 @@
 ghost use mathlib.Core.Path.{_≡_};
 ghost use Prim.Native.Nat.{_+_, _*_, _≤_, min};
 ghost use lib.ListN.{length, take, drop};
+ghost use Rattle.octets.specs.Bytes.{be};
 ghost use Rattle.ranges.specs.Ranges.{batchOf};
+ghost use Rattle.demands.specs.Model.{complement};
 ghost use Rattle.script.specs.Script.{allRanges, callAt, stepAt, logPart};
-ghost use Rattle.script.specs.Run.{Called, eventOf, StepCalled, Turned, Run, runState, runLengths, Ran};
+ghost use Rattle.script.specs.Run.{plainly, eventOf, Called, CalledAlone, StepCalled, Turned, Run, runState, runLengths, Ran};
 
 fn smaller(a: usize, b: usize) -> usize
     ensures { λ r. ⌜ r ≡ min a b ⌝ }
@@ -24,19 +26,27 @@ fn ranges_from(ranges: &[u8], from: usize, n: usize) -> ranges::Batch
     ranges::read_batch(ranges, 12 * first, smaller(n, all - first))
 }
 
-// Makes the call that begins at a byte of the script, with all that is lent.
-fn call(
-    script: &[u8],
-    at: usize,
-    ranges: &[u8],
-    table: &mut [u8],
-    scratch: &mut [u8],
-    read_map: &mut [u8],
-    counts: &mut [u32],
-    output: &mut [u8],
-) -> block::Answer
-    requires { ⌜ at + 16 ≤ length (now script) ⌝ }
-    ensures { λ r. ⌜ Called (now (table .entry)) (eventOf (callAt (allRanges (now (ranges .entry))) (now (script .entry)) at) (now (scratch .entry)) (now («read_map» .entry)) (now (counts .entry)) (now (output .entry)) r (now (table .exit)) (now (scratch .exit)) (now («read_map» .exit)) (now (counts .exit)) (now (output .exit))) ⌝ }
+// A signed number in two's complement.
+fn complement(z: i32) -> u64
+    ensures { λ r. ⌜ r ≡ complement z ⌝ }
+{
+    (spot::bias(z) + 2147483648) % 4294967296
+}
+
+// An answer without a ceiling.
+fn plain(a: block::Answer) -> within::Said
+    ensures { λ r. ⌜ r ≡ plainly a ⌝ }
+{
+    within::Said {
+        answer: a,
+        ceiling: 0,
+    }
+}
+
+// Makes the call that begins at a byte of the script, one that hands out no spots.
+fn call_alone(script: &[u8], at: usize, table: &mut [u8], scratch: &mut [u8]) -> block::Answer
+    requires { ⌜ (at + 16 ≤ length (now script)) × (be 4 (now script) at ≤ 7) × (be 4 (now script) at ≡ 3 → ⊥) × (be 4 (now script) at ≡ 4 → ⊥) ⌝ }
+    ensures { λ r. ⌜ CalledAlone (now (script .entry)) at (now (table .entry)) (now (scratch .entry)) r (now (table .exit)) (now (scratch .exit)) ⌝ }
 {
     let op = octets::read32(script, at);
     let a = spot::read_i32(script, at + 4);
@@ -51,26 +61,51 @@ fn call(
     if op == 2 {
         return table::withdraw(table, scratch, a, b);
     }
-    if op == 3 {
-        let y = spot::read_i32(script, at + 12);
-        return table::report(table, a, b, y, output, read_map);
-    }
-    if op == 4 {
-        return table::top(table, a, b, c, output, read_map);
-    }
     if op == 5 {
         return table::count(table);
     }
     if op == 6 {
         return table::check(table);
     }
-    if op == 7 {
-        return table::rebuild(table, scratch);
+    table::rebuild(table, scratch)
+}
+
+// Makes the call that begins at a byte of the script, with all that is lent.
+fn call(
+    script: &[u8],
+    at: usize,
+    ranges: &[u8],
+    table: &mut [u8],
+    scratch: &mut [u8],
+    read_map: &mut [u8],
+    counts: &mut [u32],
+    output: &mut [u8],
+) -> within::Said
+    requires { ⌜ at + 20 ≤ length (now script) ⌝ }
+    ensures { λ r. ⌜ Called (now (table .entry)) (eventOf (callAt (allRanges (now (ranges .entry))) (now (script .entry)) at) (now (scratch .entry)) (now («read_map» .entry)) (now (counts .entry)) (now (output .entry)) r (now (table .exit)) (now (scratch .exit)) (now («read_map» .exit)) (now (counts .exit)) (now (output .exit))) ⌝ }
+{
+    let op = octets::read32(script, at);
+    let a = spot::read_i32(script, at + 4);
+    let b = spot::read_i32(script, at + 8);
+    let c = octets::read32(script, at + 12) as u32;
+    if op == 3 {
+        let y = spot::read_i32(script, at + 12);
+        return plain(table::report(table, a, b, y, output, read_map));
     }
-    let from = octets::read32(script, at + 4) as usize;
-    let n = octets::read32(script, at + 8) as usize;
-    let batch = ranges_from(ranges, from, n);
-    many::report_batch(table, batch, counts, output, read_map)
+    if op == 4 {
+        return plain(table::top(table, a, b, c, output, read_map));
+    }
+    if op == 8 {
+        let from = octets::read32(script, at + 4) as usize;
+        let n = octets::read32(script, at + 8) as usize;
+        let batch = ranges_from(ranges, from, n);
+        return plain(many::report_batch(table, batch, counts, output, read_map));
+    }
+    if op > 8 {
+        let d = octets::read32(script, at + 16) as u32;
+        return within::say(table, a, b, c, d, output, read_map);
+    }
+    plain(call_alone(script, at, table, scratch))
 }
 
 // Makes the call that begins at a byte of the script, with the first bytes of output, read map and scratch and the first counts, as many as it says.
@@ -83,14 +118,14 @@ fn step(
     read_map: &mut [u8],
     counts: &mut [u32],
     output: &mut [u8],
-) -> block::Answer
-    requires { ⌜ at + 32 ≤ length (now script) ⌝ }
+) -> within::Said
+    requires { ⌜ at + 36 ≤ length (now script) ⌝ }
     ensures { λ r. ⌜ StepCalled (stepAt (allRanges (now (ranges .entry))) (now (script .entry)) at) (now (table .entry)) (now (scratch .entry)) (now («read_map» .entry)) (now (counts .entry)) (now (output .entry)) r (now (table .exit)) (now (scratch .exit)) (now («read_map» .exit)) (now (counts .exit)) (now (output .exit)) ⌝ }
 {
-    let a = smaller(octets::read32(script, at + 16) as usize, output.len());
-    let b = smaller(octets::read32(script, at + 20) as usize, read_map.len());
-    let c = smaller(octets::read32(script, at + 24) as usize, scratch.len());
-    let d = smaller(octets::read32(script, at + 28) as usize, counts.len());
+    let a = smaller(octets::read32(script, at + 20) as usize, output.len());
+    let b = smaller(octets::read32(script, at + 24) as usize, read_map.len());
+    let c = smaller(octets::read32(script, at + 28) as usize, scratch.len());
+    let d = smaller(octets::read32(script, at + 32) as usize, counts.len());
     call(
         script,
         at,
@@ -114,10 +149,10 @@ fn turn(
     counts: &mut [u32],
     part: &mut [u8],
 )
-    requires { ⌜ (at + 32 ≤ length (now script)) × (8 ≤ length (now part)) ⌝ }
+    requires { ⌜ (at + 36 ≤ length (now script)) × (12 ≤ length (now part)) ⌝ }
     ensures { λ _. ⌜ Turned (stepAt (allRanges (now (ranges .entry))) (now (script .entry)) at) (now (table .entry)) (now (scratch .entry)) (now («read_map» .entry)) (now (counts .entry)) (now (part .entry)) (now (table .exit)) (now (scratch .exit)) (now («read_map» .exit)) (now (counts .exit)) (now (part .exit)) ⌝ }
 {
-    let a = step(
+    let said = step(
         script,
         at,
         ranges,
@@ -125,10 +160,11 @@ fn turn(
         scratch,
         read_map,
         counts,
-        &mut part[8..],
+        &mut part[12..],
     );
-    octets::write32(part, 0, a.number as u64);
-    octets::write32(part, 4, a.detail as u64);
+    octets::write32(part, 0, said.answer.number as u64);
+    octets::write32(part, 4, said.answer.detail as u64);
+    octets::write32(part, 8, complement(said.ceiling));
 }
 
 // Makes the first n steps; each part of the log has `part` bytes.
@@ -143,7 +179,7 @@ fn make_calls(
     log: &mut [u8],
     part: usize,
 )
-    requires { ⌜ (32 * n ≤ length (now script)) × (8 ≤ part) × (part * n ≤ length (now log)) ⌝ }
+    requires { ⌜ (36 * n ≤ length (now script)) × (12 ≤ part) × (part * n ≤ length (now log)) ⌝ }
     ensures { λ _. ⌜ Run (now (script .entry)) (now (ranges .entry)) n (runLengths (now (table .entry)) (now (scratch .entry)) (now («read_map» .entry)) (now (counts .entry)) part) (runState (now (table .entry)) (now (scratch .entry)) (now («read_map» .entry)) (now (counts .entry)) (now (log .entry))) (now (table .exit)) (now (scratch .exit)) (now («read_map» .exit)) (now (counts .exit)) (now (log .exit)) ⌝ }
 {
     let mut i = 0;
@@ -152,7 +188,7 @@ fn make_calls(
         let end = at + part;
         turn(
             script,
-            32 * i,
+            36 * i,
             ranges,
             table,
             scratch,
@@ -170,7 +206,7 @@ fn part_of(bytes: usize, n: usize) -> usize
     ensures { λ r. ⌜ r ≡ logPart bytes n ⌝ }
 {
     if n == 0 {
-        return 8;
+        return 12;
     }
     bytes / n
 }
@@ -187,12 +223,12 @@ pub fn run(
 ) -> bool
     ensures { λ r. ⌜ Ran (now (script .entry)) (now (ranges .entry)) (now (table .entry)) (now (scratch .entry)) (now («read_map» .entry)) (now (counts .entry)) (now (log .entry)) (now (table .exit)) (now (scratch .exit)) (now («read_map» .exit)) (now (counts .exit)) (now (log .exit)) r ⌝ }
 {
-    let n = script.len() / 32;
+    let n = script.len() / 36;
     let part = part_of(log.len(), n);
     if !block::sized(table.len()) {
         return false;
     }
-    if part < 8 {
+    if part < 12 {
         return false;
     }
     table::format(table);

@@ -1,4 +1,5 @@
 pub mod Answering
+pub mod Searching
 pub mod Rebuilding
 pub mod Changes
 pub mod Topping

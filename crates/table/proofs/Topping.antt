@@ -3,19 +3,17 @@
 use mathlib.Core.Path.{_≡_, refl, ap, ap₂, sym, subst, _∙_}
 use mathlib.Core.Logic.{⊎-elim}
 use mathlib.Core.Bool.{Bool, true, false, cond}
-use mathlib.Core.List.{List, [], _∷_, _++_, List·Memᴰ, List·Memᴰ·not-nil}
+use mathlib.Core.List.{List, [], _++_, List·Memᴰ, List·Memᴰ·not-nil}
 use Prim.Native.Nat.{ℕ, zero, suc, _*_, _/_, _≤_, _<_}
 use native.Mathlib.Omega.{arith}
 use lib.ListN.{length, take, drop, replicate}
 use lib.Seq.{take-all, take-at}
 use lib.Dec.{eqb}
 use lib.IntN.{ℤ}
-use borrow.Author.Tests.{leb-true}
-use Rattle.octets.specs.Lists.{has}
-use Rattle.octets.specs.Bitmap.{bit, setBit}
-use Rattle.octets.proofs.Tests.{all-at, every-make}
-use Rattle.spot.specs.Spots.{spotsBytes}
-use Rattle.spot.specs.Query.{topQuery, wants}
+use Rattle.octets.specs.Lists.{rising}
+use Rattle.octets.specs.Bitmap.{setBit}
+use Rattle.spot.specs.Spots.{keys, spotsBytes}
+use Rattle.spot.specs.Query.{topQuery}
 use Rattle.spot.specs.declared.Spot.{Spot}
 use Rattle.spot.specs.declared.Query.{Query}
 use Rattle.spot.proofs.Stored.{length-spotsBytes}
@@ -23,48 +21,30 @@ use Rattle.block.specs.declared.Answer.{Answer}
 use Rattle.block.specs.Answers.{answer}
 use Rattle.block.specs.Header.{headOf}
 use Rattle.block.specs.HeaderRules.{headerOk}
-use Rattle.block.specs.Table.{tableSized, sizedFor, blocksOf}
+use Rattle.block.specs.Table.{tableSized, blocksOf}
 use Rattle.tree.specs.Walk.{Walk, broken, walked, isBroken, spots, blocksRead}
 use Rattle.tree.specs.Top.{threshold, topWalk, best, topTable}
 use Rattle.tree.specs.ReadMap.{readMap}
 use Rattle.tree.proofs.MapBits.{marks-make}
-use Rattle.tree.proofs.Marks.{map-bit, read-mem, zero-marked}
 use Rattle.tree.proofs.Sources.{read-in-table}
 use Rattle.tree.proofs.BestFirstSums.{sum}
 use Rattle.tree.proofs.BestFirstTop.{Done, broken-head}
 use Rattle.top.specs.Runs.{Ended, Based}
 use Rattle.table.specs.Calls.{top}
-use Rattle.table.specs.Answers.{withOutput, earlyNumber, outputLeft}
 use Rattle.table.specs.Queries.{TopPost}
 use Rattle.table.specs.NoneGiven.{NoneGiven}
 use Rattle.table.specs.TopSizes.{Gives}
-use Rattle.table.proofs.Answering.{number-short, number-lent, number-fine, walk-early, walk-broken, walk-many, walk-given}
+use Rattle.table.proofs.Searching.{search-short, search-lent, search-broken, search-many, search-given}
 
 module _ (x1 x2 : ℤ) (k : ℕ) (t out map : List ℕ) where
-  -- ---- the lengths
-
-  fine : tableSized (length t) ≡ true → eqb (length map) 512 ≡ true → earlyNumber (withOutput t out map) (top x1 x2 k) ≡ 0
-  fine e f = number-fine (withOutput t out map) (top x1 x2 k) e f refl
-
-  -- refused by the lengths
-  top-early : (m : ℕ) (r : Answer) → earlyNumber (withOutput t out map) (top x1 x2 k) ≡ suc m → m < 2 → r ≡ answer (suc m) 0 → TopPost x1 x2 k t out map r out map
-  top-early m r e few a =
-      let n : r .number ≡ suc m = ap (λ (x : Answer). x .number) a in
-      record {
-        exact = λ h. walk-early (topTable t x1 x2 k) out map m r e a;
-        byLengths = λ h. a ∙ ap (λ (i : ℕ). answer i 0) (sym e);
-        refusals = λ h. let z : ⊥ = omega arith in absurd z;
-        ruleBroken = λ h. let z : ⊥ = omega arith in absurd z;
-        tooMany = λ h. let z : ⊥ = omega arith in absurd z;
-        unchanged = λ h. (refl, refl);
-        handsOut = λ h. let z : ⊥ = omega arith in absurd z;
-      }
+  abbrev once : Type 0
+  once = rising (keys (spots (topWalk t x1 x2 k))) ≡ true
 
   pub top-short : (r : Answer) → tableSized (length t) ≡ false → r ≡ answer 1 0 → TopPost x1 x2 k t out map r out map
-  top-short r e a = top-early 0 r (number-short (withOutput t out map) (top x1 x2 k) e) (omega arith) a
+  top-short r = search-short (top x1 x2 k) refl refl x1 x2 once (topTable t x1 x2 k) t out map r
 
   pub top-lent : (r : Answer) → tableSized (length t) ≡ true → eqb (length map) 512 ≡ false → r ≡ answer 2 0 → TopPost x1 x2 k t out map r out map
-  top-lent r e f a = top-early 1 r (number-lent (withOutput t out map) (top x1 x2 k) e f) (omega arith) a
+  top-lent r = search-lent (top x1 x2 k) refl refl x1 x2 once (topTable t x1 x2 k) t out map r
 
   module _ (e : tableSized (length t) ≡ true) (f : eqb (length map) 512 ≡ true) where
     table-broken : topWalk t x1 x2 k ≡ broken → isBroken (topTable t x1 x2 k) ≡ true
@@ -73,17 +53,7 @@ module _ (x1 x2 : ℤ) (k : ℕ) (t out map : List ℕ) where
 
     -- a rule is broken
     pub top-broken : (r : Answer) → topWalk t x1 x2 k ≡ broken → r ≡ answer 3 0 → TopPost x1 x2 k t out map r out map
-    top-broken r h a =
-        let n : r .number ≡ 3 = ap (λ (x : Answer). x .number) a in
-        record {
-          exact = λ z. walk-broken (topTable t x1 x2 k) out map (fine e f) r (table-broken h) a;
-          byLengths = λ z. absurd (z (fine e f));
-          refusals = λ z. ap (λ (i : ℕ). has i (0 ∷ 3 ∷ 5 ∷ [])) n;
-          ruleBroken = λ z. ap (λ (x : Answer). x .detail) a;
-          tooMany = λ z. let y : ⊥ = omega arith in absurd y;
-          unchanged = λ z. (refl, refl);
-          handsOut = λ z. let y : ⊥ = omega arith in absurd y;
-        }
+    top-broken r h = search-broken (top x1 x2 k) refl refl x1 x2 once (topTable t x1 x2 k) t out map r e f (table-broken h)
 
     table-whole : isBroken (topWalk t x1 x2 k) ≡ false → isBroken (topTable t x1 x2 k) ≡ false
     unfolding topTable
@@ -96,68 +66,36 @@ module _ (x1 x2 : ℤ) (k : ℕ) (t out map : List ℕ) where
     -- more spots than the output holds
     pub top-many : (r : Answer) (n : ℕ) → Gives t x1 x2 k n → length out / 12 < n → r ≡ answer 5 n
         → TopPost x1 x2 k t out map r out map
-    top-many r n d l a =
-        let m = d .many in
-        let i : r .number ≡ 5 = ap (λ (x : Answer). x .number) a in
-        record {
-          exact = λ z. walk-many (topTable t x1 x2 k) out map (fine e f) r (table-whole (d .intact)) (subst (λ (j : ℕ). length out / 12 < j) m l) (a ∙ ap (answer 5) m);
-          byLengths = λ z. absurd (z (fine e f));
-          refusals = λ z. ap (λ (j : ℕ). has j (0 ∷ 3 ∷ 5 ∷ [])) i;
-          ruleBroken = λ z. let y : ⊥ = omega arith in absurd y;
-          tooMany = λ z. let g = ap (λ (x : Answer). x .detail) a in omega arith;
-          unchanged = λ z. (refl, refl);
-          handsOut = λ z. let y : ⊥ = omega arith in absurd y;
-        }
+    top-many r n d = search-many (top x1 x2 k) refl refl x1 x2 once (topTable t x1 x2 k) t out map r e f n (table-whole (d .intact)) (d .many)
 
     -- a block that the walk reads is a node's
-    node-block : (b : ℕ) → List·Memᴰ b (blocksRead (topWalk t x1 x2 k)) → b ≡ 0 → ⊥
+    node-block : (b : ℕ) → List·Memᴰ b (blocksRead (topWalk t x1 x2 k)) → 1 ≤ b
     unfolding topWalk
-    node-block b i z = go k i
+    node-block b i = go k i
       where
-        none : (h : Bool) → List·Memᴰ b (blocksRead (cond h (walked [] []) broken)) → ⊥
-        none true j = List·Memᴰ·not-nil j
-        none false j = List·Memᴰ·not-nil j
+        none : (h : Bool) → List·Memᴰ b (blocksRead (cond h (walked [] []) broken)) → 1 ≤ b
+        none true j = absurd (List·Memᴰ·not-nil j)
+        none false j = absurd (List·Memᴰ·not-nil j)
 
-        go : (m : ℕ) → List·Memᴰ b (blocksRead (topWalk t x1 x2 m)) → ⊥
+        go : (m : ℕ) → List·Memᴰ b (blocksRead (topWalk t x1 x2 m)) → 1 ≤ b
         go zero j = none (headerOk (length t) (headOf t)) j
-        go (suc m) j = let r = read-in-table t (topQuery x1 x2 (threshold t x1 x2 (suc m))) b j in omega (arith, r .some)
-
-    few-blocks : blocksOf (length t) ≤ 4096
-    unfolding sizedFor
-    few-blocks = leb-true _ _ (all-at _ e 2)
+        go (suc m) j = read-in-table t (topQuery x1 x2 (threshold t x1 x2 (suc m))) b j .some
 
     -- accepted
     pub top-given : (r : Answer) (n : ℕ) (out′ map′ : List ℕ) {given : List Spot} {blocks : List ℕ} → Done t x1 x2 k given blocks
         → ((b : ℕ) → List·Memᴰ b blocks → b < blocksOf (length t))
         → n ≡ length given → n ≤ length out / 12 → r ≡ answer 0 n → out′ ≡ spotsBytes given ++ drop (12 * length given) out → map′ ≡ readMap blocks
         → TopPost x1 x2 k t out map r out′ map′
-    unfolding outputLeft
-    top-given r n out′ map′ {given} {blocks} d places c l a o w =
-        let m : n ≡ length (spots (topTable t x1 x2 k)) = c ∙ d .many in
-        let i : r .number ≡ 0 = ap (λ (x : Answer). x .number) a in
-        record {
-          exact = λ z.
-              let same : given ≡ spots (topTable t x1 x2 k) = d .same z in
-              walk-given (topTable t x1 x2 k) out map (fine e f) r out′ map′ (table-whole (d .intact)) (subst (λ (j : ℕ). j ≤ length out / 12) m l) (a ∙ ap (answer 0) m)
-              (o ∙ ap (λ (ss : List Spot). spotsBytes ss ++ drop (12 * length ss) out) same)
-              (w ∙ sym (d .map));
-          byLengths = λ z. absurd (z (fine e f));
-          refusals = λ z. ap (λ (j : ℕ). has j (0 ∷ 3 ∷ 5 ∷ [])) i;
-          ruleBroken = λ z. let y : ⊥ = omega arith in absurd y;
-          tooMany = λ z. let y : ⊥ = omega arith in absurd y;
-          unchanged = λ z. absurd (z i);
-          handsOut = λ z.
-              record {
-                given = given;
-                output = o;
-                detail = ap (λ (x : Answer). x .detail) a ∙ c;
-                wanted = every-make (wants (topQuery x1 x2 0)) given (λ s j. d .from s j .wanted);
-                marked = λ s j.
-                    let v = d .from s j in
-                    (v .block, ap (λ (x : List ℕ). bit x (v .block)) w ∙ map-bit blocks (v .block) (let b = places (v .block) (v .read) in let y = few-blocks in omega arith) ∙ read-mem blocks (v .block) (v .read), v .held, node-block (v .block) (d .stand (v .block) (v .read)));
-                header = ap (λ (x : List ℕ). bit x 0) w ∙ zero-marked blocks;
-              };
-        }
+    top-given r n out′ map′ d places =
+        search-given (top x1 x2 k) refl refl x1 x2 once (topTable t x1 x2 k) t out map r e f n out′ map′
+        (record {
+          intact = table-whole (d .intact);
+          many = d .many;
+          same = d .same;
+          from = d .from;
+          places = λ b i. record { low = places b i; some = node-block b (d .stand b i) };
+          map = d .map;
+        })
 
     -- few spots, from the small buffer
     pub top-few : (r : Answer) (n : ℕ) (base few seen out′ map′ : List ℕ) → Ended t x1 x2 k 512 base seen few n → n ≤ 512 → n ≤ length out / 12 → r ≡ answer 0 n

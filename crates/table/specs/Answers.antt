@@ -5,13 +5,14 @@ use mathlib.Core.Bool.{Bool, true, cond, _&&_}
 use mathlib.Core.List.{List, [], _∷_, _++_}
 use lib.ListN.{length, drop}
 use lib.Dec.{ltb, leb, eqb}
+use lib.IntN.{ℤ, pos}
 use Rattle.spot.specs.Spots.{spotsBytes}
 use Rattle.spot.specs.declared.Spot.{Spot}
 use Rattle.block.specs.declared.Answer.{Answer}
 use Rattle.block.specs.Answers.{answer}
 use Rattle.block.specs.Table.{tableSized, mapBytes}
 use Rattle.tree.specs.ReadMap.{readMap}
-use Rattle.table.specs.Calls.{Call, format, add, withdraw, report, top, count, check, rebuild, reportMany, Kind, makes, updates, queries, queriesEach, tells, kind, Lengths}
+use Rattle.table.specs.Calls.{Call, format, add, withdraw, report, top, count, check, rebuild, reportMany, topWithin, Kind, makes, updates, queries, queriesEach, tells, kind, Lengths}
 
 abbrev pub lengths : List ℕ → List ℕ → List ℕ → List ℕ → List ℕ → Lengths
 lengths t out map scratch counts =
@@ -75,6 +76,11 @@ unfoldable pub countsLeft : ℕ → List ℕ → List ℕ → List ℕ
 countsLeft zero found counts = found
 countsLeft (suc n) found counts = counts
 
+-- "The ceiling, returned after the detail (0 if refused)"
+unfoldable pub ceilingLeft : ℕ → ℤ → ℤ
+ceilingLeft zero c = c
+ceilingLeft (suc n) c = pos 0
+
 -- what a call may answer once it is not refused so, whatever the table holds: "Format gives only 1, as does Check"
 abbrev pub outcomes : Call → List ℕ
 outcomes format = 0 ∷ []
@@ -86,3 +92,4 @@ outcomes count = 0 ∷ 3 ∷ []
 outcomes check = 0 ∷ []
 outcomes rebuild = 0 ∷ 3 ∷ []
 outcomes (reportMany rs) = 0 ∷ 3 ∷ 5 ∷ []
+outcomes (topWithin x1 x2 k a) = 0 ∷ 3 ∷ 5 ∷ []

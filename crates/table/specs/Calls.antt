@@ -9,7 +9,8 @@ use Rattle.octets.specs.Lists.{every}
 use Rattle.spot.specs.Keys.{signed32, unsigned32}
 use Rattle.ranges.specs.declared.Range.{Range}
 
--- "Format, Add, Withdraw, Report, Top, Count, Check, Rebuild"; request 2026-01, "Many ranges in one call"
+-- "Format, Add, Withdraw, Report, Top, Count, Check, Rebuild"; request 2026-01, "Many ranges in one call"; request 2026-10, "What can be said after so many
+-- blocks", with k and then the allowance
 pub data Call : Type 0 where
   format : Call
   add : ℤ → ℤ → ℕ → Call
@@ -20,6 +21,7 @@ pub data Call : Type 0 where
   check : Call
   rebuild : Call
   reportMany : List Range → Call
+  topWithin : ℤ → ℤ → ℕ → ℕ → Call
 
 -- "the lengths of table, output, read map and work area" (the scratch), and of the "lent list of 32-bit numbers". A call that is not lent one of them has any
 -- number there.
@@ -36,7 +38,7 @@ pub data Kind : Type 0 where
   makes : Kind
   -- a work area: "Add, Withdraw and Rebuild take a work area"; it may
   updates : Kind
-  -- an output and a read map: "Report and Top write a map of 512 bytes"; it may not
+  -- an output and a read map: "Report and Top write a map of 512 bytes"; it may not. The ceiling of a Top within an allowance is a result and not lent.
   queries : Kind
   -- an output, a read map and a list of counts, for so many ranges; it may not
   queriesEach : ℕ → Kind
@@ -53,6 +55,7 @@ kind count = tells
 kind check = tells
 kind rebuild = updates
 kind (reportMany rs) = queriesEach (length rs)
+kind (topWithin x1 x2 k a) = queries
 
 abbrev pub takesOutput : Kind → Bool
 takesOutput makes = false
@@ -92,12 +95,25 @@ isQuery c = takesOutput (kind c)
 abbrev pub isCounting : Call → Bool
 isCounting c = takesCounts (kind c)
 
+-- the call that returns a ceiling after the detail
+abbrev pub hasCeiling : Call → Bool
+hasCeiling format = false
+hasCeiling (add place rank track) = false
+hasCeiling (withdraw place rank) = false
+hasCeiling (report x1 x2 y) = false
+hasCeiling (top x1 x2 k) = false
+hasCeiling count = false
+hasCeiling check = false
+hasCeiling rebuild = false
+hasCeiling (reportMany rs) = false
+hasCeiling (topWithin x1 x2 k a) = true
+
 -- a range's three numbers within their 32 bits
 unfoldable pub rangeFits : Range → Bool
 rangeFits r = signed32 (r .x1) && signed32 (r .x2) && signed32 (r .y)
 
 -- "A spot has a place and a rank, both signed 32-bit, and a track number, unsigned 32-bit"; "Report(x1, x2, y), all signed 32-bit"; "Top(x1, x2, k), k
--- unsigned 32-bit"; "each with two places and a lowest rank"
+-- unsigned 32-bit"; "each with two places and a lowest rank"; "a 32-bit number of node blocks"
 unfoldable pub argumentsFit : Call → Bool
 argumentsFit format = true
 argumentsFit (add place rank track) = signed32 place && signed32 rank && unsigned32 track
@@ -108,3 +124,4 @@ argumentsFit count = true
 argumentsFit check = true
 argumentsFit rebuild = true
 argumentsFit (reportMany rs) = every rangeFits rs
+argumentsFit (topWithin x1 x2 k a) = signed32 x1 && signed32 x2 && unsigned32 k && unsigned32 a

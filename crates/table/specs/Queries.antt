@@ -6,7 +6,7 @@ use Prim.Native.Nat.{ℕ, _/_, _<_}
 use mathlib.Core.Bool.{true, cond}
 use mathlib.Core.List.{List, _++_, List·Memᴰ}
 use lib.ListN.{length}
-use lib.IntN.{ℤ}
+use lib.IntN.{ℤ, pos}
 use Rattle.octets.specs.Lists.{has, every, rising}
 use Rattle.octets.specs.Bitmap.{bit}
 use Rattle.spot.specs.Spots.{keys}
@@ -20,11 +20,12 @@ use Rattle.tree.specs.Walk.{Walk, broken, walked, spots, blocksRead, walkTable}
 use Rattle.tree.specs.Sound.{sound}
 use Rattle.tree.specs.Report.{reportTable}
 use Rattle.tree.specs.Top.{topWalk, topTable}
+use Rattle.within_theory.specs.Reading.{withinTable, ceilingWithin, foundOnce}
 use Rattle.ranges.specs.Ranges.{forEach, countEach}
 use Rattle.ranges.specs.declared.Range.{Range}
 use Rattle.report.specs.Joined.{joined, countsOf}
-use Rattle.table.specs.Calls.{Call, report, top, count, check, reportMany}
-use Rattle.table.specs.Answers.{ofTable, withOutput, withCounts, earlyNumber, unlessRefused, spotsAnswer, outputLeft, mapLeft, countsLeft, outcomes}
+use Rattle.table.specs.Calls.{Call, report, top, count, check, reportMany, topWithin}
+use Rattle.table.specs.Answers.{ofTable, withOutput, withCounts, earlyNumber, unlessRefused, spotsAnswer, outputLeft, mapLeft, countsLeft, ceilingLeft, outcomes}
 
 -- 3 where a rule is broken, else 0 or 5
 unfoldable pub walkAnswer : ℕ → Walk → Answer
@@ -74,17 +75,40 @@ pub record HandsOutEach (rs : List Range) (t out : List ℕ) (r : Answer) (count
       → (b : ℕ) × (bit map′ b ≡ true) × List·Memᴰ s (storeOf t b .points ++ storeOf t b .inserts) × (b ≡ 0 → ⊥)
   pub header : bit map′ 0 ≡ true
 
--- "Top(x1, x2, k), k unsigned 32-bit, gives, of the live spots with x1 ≤ place ≤ x2, the k highest in rank order (all, if fewer), highest first";
--- "Among equal ranks Top shall list the lower place first and choose by it". Where the walk finds an identity twice, which only an unsound table does, the choice between the two is free.
-pub record TopPost (x1 x2 : ℤ) (k : ℕ) (t out map : List ℕ) (r : Answer) (out′ map′ : List ℕ) : Type 0 where
-  pub exact : rising (keys (spots (topWalk t x1 x2 k))) ≡ true → QueryPost (top x1 x2 k) (topTable t x1 x2 k) t out map r out′ map′
-  -- on every table: 1 and 2 as the lengths give them, else 0, 3 with detail 0, or 5 with more spots than the output holds
-  pub byLengths : (earlyNumber (withOutput t out map) (top x1 x2 k) ≡ 0 → ⊥) → r ≡ answer (earlyNumber (withOutput t out map) (top x1 x2 k)) 0
-  pub refusals : earlyNumber (withOutput t out map) (top x1 x2 k) ≡ 0 → has (r .number) (outcomes (top x1 x2 k)) ≡ true
+-- what the call c, a best-first search over these places, leaves on every table, beside what it promises `exactly`: 1 and 2 as the lengths give them, else 0, 3 with
+-- detail 0, or 5 with more spots than the output holds
+pub record SearchPost (c : Call) (x1 x2 : ℤ) (exactly : Type 0) (t out map : List ℕ) (r : Answer) (out′ map′ : List ℕ) : Type 0 where
+  pub exact : exactly
+  pub byLengths : (earlyNumber (withOutput t out map) c ≡ 0 → ⊥) → r ≡ answer (earlyNumber (withOutput t out map) c) 0
+  pub refusals : earlyNumber (withOutput t out map) c ≡ 0 → has (r .number) (outcomes c) ≡ true
   pub ruleBroken : r .number ≡ 3 → r .detail ≡ 0
   pub tooMany : r .number ≡ 5 → length out / 12 < r .detail
   pub unchanged : (r .number ≡ 0 → ⊥) → (out′ ≡ out) × (map′ ≡ map)
   pub handsOut : r .number ≡ 0 → HandsOut (topQuery x1 x2 0) t out r out′ map′
+
+-- "Top(x1, x2, k), k unsigned 32-bit, gives, of the live spots with x1 ≤ place ≤ x2, the k highest in rank order (all, if fewer), highest first";
+-- "Among equal ranks Top shall list the lower place first and choose by it". Where the walk finds an identity twice, which only an unsound table does, the choice between the two is free.
+abbrev pub TopPost : ℤ → ℤ → ℕ → List ℕ → List ℕ → List ℕ → Answer → List ℕ → List ℕ → Type 0
+TopPost x1 x2 k t out map r out′ map′ =
+    SearchPost (top x1 x2 k) x1 x2 (rising (keys (spots (topWalk t x1 x2 k))) ≡ true → QueryPost (top x1 x2 k) (topTable t x1 x2 k) t out map r out′ map′) t out map r
+    out′
+    map′
+
+-- request 2026-10: "the guide allows Top, in a call of its own with Top's refusals, a 32-bit number of node blocks". The reading order, what is given and the ceiling
+-- are `reading`, `givenOf` and `ceilingOf`; 5 is about the spots that this call gives. Where an identity is found twice, which only an unsound table has, the
+-- choice between the two, and the ceiling, are free.
+pub record WithinPost (x1 x2 : ℤ) (k a : ℕ) (t out map : List ℕ) (r : Answer) (out′ map′ : List ℕ) (c : ℤ) : Type 0 where
+  pub search : SearchPost (topWithin x1 x2 k a) x1 x2
+      (foundOnce t x1 x2 k a ≡ true → QueryPost (topWithin x1 x2 k a) (withinTable t x1 x2 k a) t out map r out′ map′)
+      t
+      out
+      map
+      r
+      out′
+      map′
+  -- "The ceiling, returned after the detail (0 if refused)"
+  pub ceiling : foundOnce t x1 x2 k a ≡ true → c ≡ ceilingLeft (r .number) (ceilingWithin t x1 x2 k a)
+  pub refused : (r .number ≡ 0 → ⊥) → c ≡ pos 0
 
 -- "Count gives the number of live spots"
 unfoldable pub countAnswer : Walk → Answer

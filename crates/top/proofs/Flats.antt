@@ -2,7 +2,7 @@
 -- Assumes nothing.
 use mathlib.Core.Path.{_≡_, refl, ap, ap₂, sym, subst, _∙_}
 use mathlib.Core.Logic.{⊎-elim}
-use mathlib.Core.List.{List, [], _∷_, _++_, append-nil, append-assoc, List·Memᴰ, List·Memᴰ·not-nil, List·Memᴰ·append-cases}
+use mathlib.Core.List.{List, [], _∷_, _++_, append-nil, append-assoc, List·Memᴰ, List·Memᴰ·not-nil, List·Memᴰ·append-cases, Memᴰ·append-left, Memᴰ·append-right}
 use Prim.Native.Nat.{ℕ, zero, suc, _+_, _<_}
 use native.Mathlib.Omega.{arith}
 use Rattle.octets.proofs.Order.{same-or-not}
@@ -18,6 +18,13 @@ module _ {A : Type 0} where
   flat-mem f zero i = absurd (List·Memᴰ·not-nil i)
   flat-mem f (suc n) i =
       ⊎-elim (λ j. let r = flat-mem f n j in (r .0, omega (arith, r .1), r .2)) (λ j. (n, omega arith, j)) (List·Memᴰ·append-cases (flat f n) i)
+
+  pub flat-in : (f : ℕ → List A) (n i : ℕ) {x : A} → i < n → List·Memᴰ x (f i) → List·Memᴰ x (flat f n)
+  flat-in f zero i l m = let z : ⊥ = omega arith in absurd z
+  flat-in f (suc n) i {x} l m =
+      ⊎-elim (λ (e : i ≡ n). Memᴰ·append-right (flat f n) (subst (λ (j : ℕ). List·Memᴰ x (f j)) e m))
+      (λ (d : i ≡ n → ⊥). Memᴰ·append-left (f n) (flat-in f n i (omega (arith, d)) m))
+      (same-or-not i n)
 
   pub flat-none : (f : ℕ → List A) (n : ℕ) → ((i : ℕ) → i < n → f i ≡ []) → flat f n ≡ []
   flat-none f zero h = refl

@@ -7,10 +7,10 @@ use mathlib.Core.List.{List, [], _∷_, _++_}
 use Prim.Native.Nat.{ℕ, _+_, _*_, _/_, _≤_, _<_}
 use native.Mathlib.Omega.{arith}
 use lib.ListN.{length-append}
-use lib.Dec.{ltb}
+use lib.Dec.{ltb, eqb}
 use lib.IntN.{ℤ}
-use borrow.Author.Tests.{ltb-true, ltb-false, lt-ltb}
-use Rattle.octets.proofs.Order.{less-or-not}
+use borrow.Author.Tests.{ltb-true, ltb-false, lt-ltb, eq-eqb, ne-eqb}
+use Rattle.octets.proofs.Order.{same-or-not, less-or-not}
 use Rattle.octets.proofs.Tests.{and-left, and-right}
 use Rattle.spot.specs.Keys.{topKey, rankOf}
 use Rattle.spot.specs.Spots.{putSpot}
@@ -166,6 +166,25 @@ module _ {t : List ℕ} {q : Query} {k room : ℕ} {rows heads : List (List ℕ)
       let f = first-most (λ y. pick y .there) (λ y. pick y .key) (λ y. pick y .at + 128 * (y + 4096 * pick y .more)) (s .headed .held) j l h in
       let r = s .headed .key j l h in
       ⊎-elim (λ (z : m ≡ 0). let y : ⊥ = omega (arith, f .0) in absurd y) (λ (z : firstKey heads / 4294967296 < floor). omega (arith, f .1, top-rank (headBy t rows pick j .spot .key))) e
+
+  -- the rank of the first row, 0 where there is none, is the highest of the next spots
+  module _ (rank : ℕ) (is : rank ≡ cond (eqb m 0) 0 (firstKey heads / 4294967296)) where
+    rank-row : 0 < m → rank ≡ firstKey heads / 4294967296
+    rank-row l = is ∙ ap (λ (b : Bool). cond b 0 (firstKey heads / 4294967296)) (ne-eqb m 0 (λ z. let y : ⊥ = omega arith in y))
+
+    pub ranks-under : (j : ℕ) → j < n → headBy t rows pick j .there ≡ true → rankOf (headBy t rows pick j .spot .key) ≤ rank
+    ranks-under j l h =
+        let f = first-most (λ y. pick y .there) (λ y. pick y .key) (λ y. pick y .at + 128 * (y + 4096 * pick y .more)) (s .headed .held) j l h in
+        omega (arith, f .1, rank-row (f .0), s .headed .key j l h, top-rank (headBy t rows pick j .spot .key))
+
+    pub ranks-met : (rank ≡ 0) ⊎ ((j : ℕ) × (j < n) × (headBy t rows (s .pick) j .there ≡ true) × (rankOf (headBy t rows (s .pick) j .spot .key) ≡ rank))
+    ranks-met =
+        ⊎-elim (λ (e : m ≡ 0). inl (is ∙ ap (λ (b : Bool). cond b 0 (firstKey heads / 4294967296)) (eq-eqb m 0 e)))
+        (λ (d : m ≡ 0 → ⊥).
+        let l : 0 < m = omega (arith, d) in
+        let r = lead-row l in
+        inr (r .at, r .inside, r .there, omega (arith, lead-key l, rank-row l, top-rank (headBy t rows pick (r .at) .spot .key))))
+        (same-or-not m 0)
 
 -- ---- one after the other
 

@@ -3,7 +3,7 @@
 use mathlib.Core.Path.{_≡_, refl, ap, ap₂, sym, subst, _∙_}
 use mathlib.Core.Logic.{_⊎_, ⊎-elim}
 use mathlib.Core.Bool.{Bool, true, false, _||_, or-comm}
-use mathlib.Core.List.{List, [], _∷_}
+use mathlib.Core.List.{List, [], _∷_, List·Memᴰ}
 use Prim.Native.Nat.{ℕ, suc, _+_, _-_, _*_, _/_, _%_, _≤_, _<_}
 use native.Mathlib.Omega.{arith}
 use lib.ListN.{length, set, replicate, length-replicate}
@@ -24,11 +24,12 @@ use Rattle.block.specs.Table.{tableSized}
 use Rattle.block.specs.Node.{storeOf}
 use Rattle.block.specs.NodeRules.{nodeOk}
 use Rattle.tree.specs.Part.{Part}
-use Rattle.tree.specs.Walk.{broken, admits}
-use Rattle.tree.specs.Top.{topWalk}
+use Rattle.tree.specs.Walk.{admits}
+use Rattle.tree.specs.BestFirst.{Pending}
 use Rattle.tree.proofs.MapBits.{setBit-bytes, bit-setBit, zeros-bytes}
 use Rattle.tree.proofs.Sources.{header-few}
 use Rattle.tree.proofs.BestFirstTree.{rootOf}
+use Rattle.within_theory.proofs.Following.{Ties}
 use Rattle.visit.specs.Visit.{partOf}
 use Rattle.visit.proofs.Roots.{root-low, levels-are, root-part}
 use Rattle.heap.proofs.Held.{held-none, held-few}
@@ -39,13 +40,13 @@ use Rattle.frontier.specs.Picks.{spotCount, spotBy, foundIn, Under, Laddered, n
 use Rattle.frontier.proofs.Chains.{slot-first, child-above, stands-valid, root-stands, child-stands, child-inside, chain-first, chain-more, chain-new, chain-old}
 use Rattle.top.specs.declared.Sizes.{Sizes}
 use Rattle.top.specs.declared.Joined.{Joined}
-use Rattle.top.specs.Reading.{pendOf, childOf, shownOf, Underway}
+use Rattle.top.specs.Reading.{pendOf, childOf, unreadOf, shownOf, Underway}
 use Rattle.top.specs.Rows.{pickRow, kidRow, headBy, cellOf, cellBy, Heads, Kids}
-use Rattle.top.specs.Runs.{written, Added, Readable, NodeRead, Sofar, Seen, Swept}
+use Rattle.top.specs.Runs.{written, Added, Readable, NodeRead, Sofar, Seen, Swept, Stuck}
 use Rattle.top.proofs.Heaps.{put, put-same, put-old, put-all}
 use Rattle.top.proofs.Takes.{cell-first}
 use Rattle.top.proofs.Ups.{named-up-step, shown-is}
-use Rattle.top.proofs.Steps.{Poised, root-poised, node-breaks, twice-breaks, node-read}
+use Rattle.top.proofs.Steps.{Poised, root-poised, node-stuck, twice-stuck, tied-stuck, node-read}
 use Rattle.top.proofs.Outs.{written-none}
 
 -- ---- the map
@@ -162,12 +163,22 @@ root-ready {t} {q} {k} {room} {seen} {out} {rows} {kids} {heads} ok some clear f
 
 module _ {t : List ℕ} {q : Query} {k room : ℕ} {base seen out : List ℕ} {rows kids heads : List (List ℕ)} {z : Sizes} {count : ℕ} {s : Slot} {a : Asked}
     (y : Ready t q k room base seen out rows kids heads z count s a) where
-  pub ready-breaks : (bit seen (s .block) ≡ true) ⊎ (nodeOk (s .level) a (storeOf t (s .block)) ≡ false) → (x1 x2 : ℤ) → q ≡ topQuery x1 x2 0 → topWalk t x1 x2 k ≡ broken
-  ready-breaks e x1 x2 asks =
-      let n = z .slots in
-      ⊎-elim (λ h. twice-breaks t x1 x2 k (slotBy t rows) (headBy t rows (y .pick)) (cellBy t q rows (y .kid)) n (y .given) (y .blocks) s a (y .poised x1 x2 asks) (sym (y .seenIs .bits (s .block)) ∙ h))
-      (λ h. node-breaks t x1 x2 k (slotBy t rows) (headBy t rows (y .pick)) (cellBy t q rows (y .kid)) n (y .given) (y .blocks) s a (y .poised x1 x2 asks) h)
-      e
+  module _ (most : ℕ) (more : z .slots < most) (x1 x2 : ℤ) (asks : q ≡ topQuery x1 x2 0) where
+    -- the node can't be read
+    pub ready-stuck : (bit seen (s .block) ≡ true) ⊎ (nodeOk (s .level) a (storeOf t (s .block)) ≡ false) → Stuck t x1 x2 k most
+    ready-stuck e =
+        let n = z .slots in
+        let g = y .poised x1 x2 asks in
+        ⊎-elim
+        (λ h.
+        twice-stuck t x1 x2 k (slotBy t rows) (headBy t rows (y .pick)) (cellBy t q rows (y .kid)) n (y .given) (y .blocks) s a g most more (sym (y .seenIs .bits (s .block)) ∙ h))
+        (λ h. node-stuck t x1 x2 k (slotBy t rows) (headBy t rows (y .pick)) (cellBy t q rows (y .kid)) n (y .given) (y .blocks) s a g most more h)
+        e
+
+    -- another leads to it
+    pub ready-tied : (u : Pending) → List·Memᴰ u (unreadOf t (slotBy t rows) (cellBy t q rows (y .kid)) (z .slots)) → Ties (pendOf t s a) u → Stuck t x1 x2 k most
+    ready-tied u i e =
+        tied-stuck t x1 x2 k (slotBy t rows) (headBy t rows (y .pick)) (cellBy t q rows (y .kid)) (z .slots) (y .given) (y .blocks) s a (y .poised x1 x2 asks) most more u i e
 
   module _ {up : ℕ} (e : Enters t rows (z .slots) s a up) where
     pub ready-readable : z .slots < length rows → length rows ≤ 4096 → length kids ≡ length rows → length heads ≡ length rows → Readable t seen rows kids heads z (slotPlace s) a up
@@ -191,7 +202,8 @@ module _ {t : List ℕ} {q : Query} {k room : ℕ} {base seen out : List ℕ} {r
               };
         }
 
-    module _ {seen' : List ℕ} {rows' kids' heads' : List (List ℕ)} {r : Joined} (v : NodeRead t q seen seen' rows rows' kids kids' heads heads' z (slotPlace s) a up r) (ok : r .ok ≡ true) where
+    module _ (alone : (u : Pending) → List·Memᴰ u (unreadOf t (slotBy t rows) (cellBy t q rows (y .kid)) (z .slots)) → Ties (pendOf t s a) u → ⊥)
+        {seen' : List ℕ} {rows' kids' heads' : List (List ℕ)} {r : Joined} (v : NodeRead t q seen seen' rows rows' kids kids' heads heads' z (slotPlace s) a up r) (ok : r .ok ≡ true) where
       abbrev n : ℕ
       n = z .slots
 
@@ -259,7 +271,7 @@ module _ {t : List ℕ} {q : Query} {k room : ℕ} {base seen out : List ℕ} {r
 
       going : (x1 x2 : ℤ) → q ≡ topQuery x1 x2 0 → Underway t x1 x2 k (slotBy t rows') (headBy t rows' pick) (cellBy t q rows' kid) (n + 1) (y .given) (s .block ∷ y .blocks)
       going x1 x2 asks =
-          node-read t x1 x2 k (slotBy t rows) (headBy t rows (y .pick)) (cellBy t q rows (y .kid)) n (y .given) (y .blocks) s a (y .poised x1 x2 asks) valid
+          node-read t x1 x2 k (slotBy t rows) (headBy t rows (y .pick)) (cellBy t q rows (y .kid)) n (y .given) (y .blocks) s a (y .poised x1 x2 asks) alone valid
           (sym (y .seenIs .bits (s .block)) ∙ v .new ok) stands (slotBy t rows') (headBy t rows' pick) (cellBy t q rows' kid)
           old
           new

@@ -10,7 +10,7 @@ use lib.Dec.{leb, ltb}
 use borrow.Author.Tests.{leb-true, ltb-true, le-leb, lt-leb, lt-ltb, le-ltb}
 use Rattle.octets.specs.Lists.{keep, distinct}
 use Rattle.octets.proofs.Order.{less-or-not}
-use Rattle.octets.proofs.Tests.{bool-ext, every-make, keep-mem, keep-in, keep-all, keep-same}
+use Rattle.octets.proofs.Tests.{bool-ext, every-make, keep-mem, keep-in, keep-there, keep-all, keep-same}
 use Rattle.octets.proofs.Sets.{distinct-head, distinct-tail, distinct-cons}
 use Rattle.octets.proofs.Lists.{no-member}
 use Rattle.spot.specs.Keys.{allKeys, topKey}
@@ -115,6 +115,12 @@ left-mem ss h {x} i = go (h .there) refl
         let r = keep-mem (λ s. leb (topKey (s .key)) (topKey (h .spot .key))) ss (subst (λ (l : List Spot). List·Memᴰ x l) (left-there ss h e) i) in
         (e, r .0, leb-true (tk x) (tk (h .spot)) (r .1))
     go false e = absurd (List·Memᴰ·not-nil (subst (λ (l : List Spot). List·Memᴰ x l) (left-gone ss h e) i))
+
+-- the next is one of them
+pub left-next : (ss : List Spot) (h : Next) → h .there ≡ true → List·Memᴰ (h .spot) ss → List·Memᴰ (h .spot) (leftOf ss h)
+left-next ss h e i =
+    subst (λ (l : List Spot). List·Memᴰ (h .spot) l) (sym (left-there ss h e))
+    (keep-there (atMost (tk (h .spot))) ss i (le-leb (tk (h .spot)) (tk (h .spot)) (omega arith)))
 
 -- all are left of a node just read
 pub left-all : (ss : List Spot) (h : Next) → ((x : Spot) → List·Memᴰ x ss → x .key < allKeys) → Under allKeys ss h → leftOf ss h ≡ ss

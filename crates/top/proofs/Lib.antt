@@ -1,10 +1,12 @@
 pub mod Flats
 pub mod Lefts
 pub mod Ups
+pub mod Ties
 pub mod Steps
 pub mod Outs
 pub mod Heaps
 pub mod Gives
 pub mod Takes
+pub mod Ends
 pub mod Joins
 pub mod Sweeps

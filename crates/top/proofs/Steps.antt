@@ -3,7 +3,7 @@
 use mathlib.Core.Path.{_≡_, refl, ap, ap₂, sym, subst, _∙_}
 use mathlib.Core.Logic.{_⊎_, inl, inr, ⊎-elim}
 use mathlib.Core.Bool.{true, false}
-use mathlib.Core.List.{List, [], _∷_, _++_, List·Memᴰ, List·Memᴰ·not-nil, List·Memᴰ·eq-of-singleton}
+use mathlib.Core.List.{List, [], _∷_, _++_, List·Memᴰ, List·Memᴰ·head, List·Memᴰ·not-nil, List·Memᴰ·eq-of-singleton}
 use Prim.Native.Nat.{ℕ, zero, suc, _+_, _-_, _*_, _/_, _%_, _≤_, _<_}
 use native.Mathlib.Numerals.{add-one}
 use native.Mathlib.Omega.{arith}
@@ -24,21 +24,22 @@ use Rattle.block.specs.HeaderRules.{headerOk}
 use Rattle.block.specs.Table.{blocksOf}
 use Rattle.block.specs.Node.{storeOf}
 use Rattle.block.specs.NodeRules.{nodeOk}
-use Rattle.tree.specs.Walk.{broken}
-use Rattle.tree.specs.Top.{topWalk}
 use Rattle.tree.specs.BestFirst.{Pending, promised, NonePromises}
 use Rattle.tree.proofs.BestFirstSums.{Reordered, reordered-none, reordered-swap}
 use Rattle.tree.proofs.BestFirstTree.{rootOf}
 use Rattle.tree.proofs.BestFirstSteps.{NoneRanks}
 use Rattle.tree.proofs.BestFirstTop.{Done}
 use Rattle.tree.proofs.BestFirst.{Progress, start, read-part, broken-node, broken-twice, give, reorder, done-full, done-empty, blocks-few}
+use Rattle.within_theory.proofs.Following.{Follows, NotBefore, Ties, follows-begun, follows-reordered, follows-given, follows-read, stuck-node, stuck-twice, stuck-tied}
 use Rattle.frontier.specs.Picks.{Next, Under}
-use Rattle.frontier.specs.Frontier.{Slot, kidCell, Standing}
+use Rattle.frontier.specs.Frontier.{Slot, kidEntry, kidCell, Standing}
 use Rattle.frontier.proofs.Kids.{cell-says}
 use Rattle.top.specs.Reading.{flat, pendOf, childOf, seat, seats, unreadOf, shownOf, leftOf, lefts, foundOf, Awaits, Known, Underway}
-use Rattle.top.proofs.Flats.{flat-same, flat-mem, flat-none, flat-add, flat-out}
-use Rattle.top.proofs.Lefts.{left-mem, left-gone, left-all, left-give}
+use Rattle.top.specs.Runs.{Stuck}
+use Rattle.top.proofs.Flats.{flat-same, flat-mem, flat-in, flat-none, flat-add, flat-out}
+use Rattle.top.proofs.Lefts.{left-mem, left-next, left-gone, left-all, left-give}
 use Rattle.top.proofs.Ups.{shown-small, shown-once, kids-known}
+use Rattle.top.proofs.Ties.{broken-tied}
 
 -- ---- what is unread, and what is found
 
@@ -46,32 +47,63 @@ seat-mem : (v : ℕ) (p : Pending) {u : Pending} → List·Memᴰ u (seat v p) �
 seat-mem zero p i = absurd (List·Memᴰ·not-nil i)
 seat-mem (suc v) p i = (List·Memᴰ·eq-of-singleton i, omega arith)
 
+seat-in : (v : ℕ) (p : Pending) → 0 < v → List·Memᴰ p (seat v p)
+seat-in zero p l = let z : ⊥ = omega arith in absurd z
+seat-in (suc v) p l = List·Memᴰ·head refl
+
+-- the unread parts are the children of the cells that are not 0
+pub unread-in : (t : List ℕ) (slot : ℕ → Slot) (cell : ℕ → ℕ) (n c : ℕ) → c < 8 * n → 0 < cell c → List·Memᴰ (childOf t (slot (c / 8)) (c % 8)) (unreadOf t slot cell n)
+unfolding seats
+unread-in t slot cell n c l some = flat-in (seats t slot cell) (8 * n) c l (seat-in (cell c) (childOf t (slot (c / 8)) (c % 8)) some)
+
+pub unread-at : (t : List ℕ) (slot : ℕ → Slot) (cell : ℕ → ℕ) (n : ℕ) {u : Pending} → List·Memᴰ u (unreadOf t slot cell n)
+    → (c : ℕ) × (c < 8 * n) × (0 < cell c) × (u ≡ childOf t (slot (c / 8)) (c % 8))
+unfolding seats
+unread-at t slot cell n i =
+    let r = flat-mem (seats t slot cell) (8 * n) i in
+    let m = seat-mem (cell (r .0)) (childOf t (slot (r .0 / 8)) (r .0 % 8)) (r .2) in
+    (r .0, r .1, m .1, m .0)
+
+pub unread-none : (t : List ℕ) (slot : ℕ → Slot) (cell : ℕ → ℕ) (n : ℕ) → ((c : ℕ) → c < 8 * n → cell c ≡ 0) → unreadOf t slot cell n ≡ []
+unfolding seats
+unread-none t slot cell n none = flat-none (seats t slot cell) (8 * n) (λ c l. ap (λ (v : ℕ). seat v (childOf t (slot (c / 8)) (c % 8))) (none c l))
+
 module _ (t : List ℕ) (q : Query) (slot : ℕ → Slot) (head : ℕ → Next) (cell : ℕ → ℕ) (n : ℕ) (g : Known t q slot head cell n) where
-  -- an unread part has a cell that is one more than what it promises
-  unread-cell : {u : Pending} → List·Memᴰ u (unreadOf t slot cell n) → (c : ℕ) × (c < 8 * n) × (promised u + 1 ≡ cell c) × (0 < cell c)
-  unfolding seats
-  unread-cell {u} i =
-      let r = flat-mem (seats t slot cell) (8 * n) i in
-      let c = r .0 in
-      let m = seat-mem (cell c) (childOf t (slot (c / 8)) (c % 8)) (r .2) in
-      ⊎-elim (λ (e : cell c ≡ 0). let z : ⊥ = omega (arith, m .1) in absurd z)
-      (λ (a : Awaits t q (slot (c / 8)) (c % 8) (cell c)). (c, r .1, ap (λ (x : Pending). promised x + 1) (m .0) ∙ sym (a .promise), m .1))
-      (g .awaits c (r .1))
+  -- a cell that is not 0 is one more than what its child promises
+  pub cell-promise : (c : ℕ) → c < 8 * n → 0 < cell c → promised (childOf t (slot (c / 8)) (c % 8)) + 1 ≡ cell c
+  cell-promise c l some =
+      ⊎-elim (λ (e : cell c ≡ 0). let z : ⊥ = omega arith in absurd z) (λ (a : Awaits t q (slot (c / 8)) (c % 8) (cell c)). sym (a .promise)) (g .awaits c l)
+
+  pub unread-cell : {u : Pending} → List·Memᴰ u (unreadOf t slot cell n)
+      → (c : ℕ) × (c < 8 * n) × (promised u + 1 ≡ cell c) × (0 < cell c) × (u ≡ childOf t (slot (c / 8)) (c % 8))
+  unread-cell i =
+      let r = unread-at t slot cell n i in
+      (r .0, r .1, ap (λ (x : Pending). promised x + 1) (r .3) ∙ cell-promise (r .0) (r .1) (r .2), r .2, r .3)
 
   -- a spot found is not above its slot's next
-  found-head : {x : Spot} → List·Memᴰ x (foundOf t q slot head n) → (s : ℕ) × (s < n) × (head s .there ≡ true) × (tk x ≤ tk (head s .spot))
+  pub found-head : {x : Spot} → List·Memᴰ x (foundOf t q slot head n) → (s : ℕ) × (s < n) × (head s .there ≡ true) × (tk x ≤ tk (head s .spot))
   unfolding lefts
   found-head i =
       let r = flat-mem (lefts t q slot head) n i in
       let m = left-mem (shownOf t q (slot (r .0))) (head (r .0)) (r .2) in
       (r .0, r .1, m .0, m .2)
 
+  -- the next of a slot is one of them
+  pub head-found : (s : ℕ) → s < n → head s .there ≡ true → List·Memᴰ (head s .spot) (foundOf t q slot head n)
+  unfolding lefts
+  head-found s l e = flat-in (lefts t q slot head) n s l (left-next (shownOf t q (slot s)) (head s) e (g .held s l e))
+
+-- the block of the child of a cell
+abbrev pub blockAt : List ℕ → (ℕ → Slot) → ℕ → ℕ
+blockAt t slot c = kidEntry t (slot (c / 8) .block) (c % 8) .block
+
 -- ---- a part to be read
 
 pub record Poised (t : List ℕ) (x1 x2 : ℤ) (k : ℕ) (slot : ℕ → Slot) (head : ℕ → Next) (cell : ℕ → ℕ) (n : ℕ) (given : List Spot) (blocks : List ℕ) (p : Pending) : Type 0 where
   pub known : Known t (topQuery x1 x2 0) slot head cell n
   pub progress : Progress t x1 x2 k (p ∷ unreadOf t slot cell n) (foundOf t (topQuery x1 x2 0) slot head n) given blocks
-  pub most : NonePromises (promised p) (unreadOf t slot cell n)
+  pub follows : Follows t x1 x2 k (p ∷ unreadOf t slot cell n) (foundOf t (topQuery x1 x2 0) slot head n) given blocks
+  pub first : (u : Pending) → List·Memᴰ u (unreadOf t slot cell n) → NotBefore p u
   pub low : NoneRanks (promised p) (foundOf t (topQuery x1 x2 0) slot head n)
   pub room : length given < k
   pub count : length blocks ≡ n
@@ -89,19 +121,18 @@ root-poised t x1 x2 (suc k) slot head cell l h =
             awaits = λ c m. let z : ⊥ = omega arith in absurd z;
           };
       progress = start t x1 x2 k h;
-      most = λ u i. absurd (List·Memᴰ·not-nil i);
+      follows = follows-begun t x1 x2 (suc k) h;
+      first = λ u i. absurd (List·Memᴰ·not-nil i);
       low = λ s i. absurd (List·Memᴰ·not-nil i);
       room = omega arith;
       count = refl;
     }
 
--- the child whose cell is the highest, where no next spot has as high a rank
+-- the child that is the first in order, where no next spot has as high a rank
 module _ (t : List ℕ) (x1 x2 : ℤ) (k : ℕ) (slot : ℕ → Slot) (head : ℕ → Next) (cell : ℕ → ℕ) (n : ℕ) (given : List Spot) (blocks : List ℕ) (g : Underway t x1 x2 k slot head cell n given blocks)
-    (c : ℕ) (inside : c < 8 * n) (some : 0 < cell c) (highest : (j : ℕ) → j < 8 * n → cell j ≤ cell c)
+    (c : ℕ) (inside : c < 8 * n) (some : 0 < cell c)
+    (order : (j : ℕ) → j < 8 * n → 0 < cell j → (cell j < cell c) ⊎ ((cell j ≡ cell c) × (blockAt t slot c ≤ blockAt t slot j)))
     (quiet : (s : ℕ) → s < n → head s .there ≡ true → rankOf (head s .spot .key) < cell c) (room : length given < k) where
-  pub child-awaits : Awaits t (topQuery x1 x2 0) (slot (c / 8)) (c % 8) (cell c)
-  child-awaits = ⊎-elim (λ (e : cell c ≡ 0). let z : ⊥ = omega arith in absurd z) (λ a. a) (g .known .awaits c inside)
-
   abbrev child : Pending
   child = childOf t (slot (c / 8)) (c % 8)
 
@@ -132,17 +163,22 @@ module _ (t : List ℕ) (x1 x2 : ℤ) (k : ℕ) (slot : ℕ → Slot) (head : �
     pub child-poised : Poised t x1 x2 k slot head after n given blocks (childOf t (slot (c / 8)) (c % 8))
     child-poised =
         let q = topQuery x1 x2 0 in
-        let e = child-awaits .promise in
+        let e = cell-promise t q slot head cell n (g .known) c inside some in
+        let us = unreadOf t slot cell n in
+        let fs = foundOf t q slot head n in
+        let goes = flat-out (seats t slot cell) (seats t slot after) (8 * n) c child inside (λ j l d. seats-same j d) out in
         record {
           known = known-after;
-          progress =
-              reorder t x1 x2 k (unreadOf t slot cell n) (child ∷ unreadOf t slot after n) (foundOf t q slot head n) (foundOf t q slot head n) given blocks (g .progress)
-              (flat-out (seats t slot cell) (seats t slot after) (8 * n) c child inside (λ j l d. seats-same j d) out)
-              (reordered-none (foundOf t q slot head n));
-          most = λ u i.
+          progress = reorder t x1 x2 k us (child ∷ unreadOf t slot after n) fs fs given blocks (g .progress) goes (reordered-none fs);
+          follows = follows-reordered t x1 x2 k us (child ∷ unreadOf t slot after n) fs fs given blocks (g .follows) goes (reordered-none fs);
+          first = λ u i.
               let r = unread-cell t q slot head after n known-after i in
               ⊎-elim (λ (z : r .0 ≡ c). let y : ⊥ = omega (arith, ap after z, clear, r .3) in absurd y)
-              (λ d. omega (arith, same (r .0) d, highest (r .0) (r .1), r .2, e))
+              (λ d.
+              let v = same (r .0) d in
+              ⊎-elim (λ (l : cell (r .0) < cell c). inl (omega (arith, r .2, e, v)))
+              (λ w. inr (omega (arith, r .2, e, v, w .0), omega (arith, w .1, ap (λ (x : Pending). x .part .block) (r .4))))
+              (order (r .0) (r .1) (omega (arith, r .3, v))))
               (same-or-not (r .0) c);
           low = λ x i.
               let r = found-head t q slot head cell n (g .known) i in
@@ -155,16 +191,49 @@ module _ (t : List ℕ) (x1 x2 : ℤ) (k : ℕ) (slot : ℕ → Slot) (head : �
 
 module _ (t : List ℕ) (x1 x2 : ℤ) (k : ℕ) (slot : ℕ → Slot) (head : ℕ → Next) (cell : ℕ → ℕ) (n : ℕ) (given : List Spot) (blocks : List ℕ) (s : Slot) (a : Asked)
     (g : Poised t x1 x2 k slot head cell n given blocks (pendOf t s a)) where
-  -- the walk of Top breaks
-  pub node-breaks : nodeOk (s .level) a (storeOf t (s .block)) ≡ false → topWalk t x1 x2 k ≡ broken
-  node-breaks h =
-      broken-node t x1 x2 k [] (pendOf t s a) (unreadOf t slot cell n) (foundOf t (topQuery x1 x2 0) slot head n) given blocks (g .progress) (g .most) (g .low) (g .room) (s .level) refl h
+  abbrev p : Pending
+  p = pendOf t s a
 
-  pub twice-breaks : has (s .block) blocks ≡ true → topWalk t x1 x2 k ≡ broken
-  twice-breaks h =
-      broken-twice t x1 x2 k [] (pendOf t s a) (unreadOf t slot cell n) (foundOf t (topQuery x1 x2 0) slot head n) given blocks (g .progress) (g .most) (g .low) (g .room) h
+  abbrev unread : List Pending
+  unread = unreadOf t slot cell n
 
-  module _ (ok : nodeOk (s .level) a (storeOf t (s .block)) ≡ true) (new : has (s .block) blocks ≡ false) (v : Standing t s)
+  abbrev found : List Spot
+  found = foundOf t (topQuery x1 x2 0) slot head n
+
+  -- none promises more
+  highest : NonePromises (promised p) unread
+  highest u i = ⊎-elim (λ (l : promised u < promised p). omega arith) (λ e. omega (arith, e .0)) (g .first u i)
+
+  -- ---- it can't be read
+
+  module _ (most : ℕ) (more : n < most) where
+    left : length blocks < most
+    left = omega (arith, g .count)
+
+    pub node-stuck : nodeOk (s .level) a (storeOf t (s .block)) ≡ false → Stuck t x1 x2 k most
+    node-stuck h =
+        record {
+          top = broken-node t x1 x2 k [] p unread found given blocks (g .progress) highest (g .low) (g .room) (s .level) refl h;
+          within = stuck-node t x1 x2 k [] p unread found given blocks (g .follows) (g .first) (g .low) (g .room) (s .level) refl h most left;
+        }
+
+    pub twice-stuck : has (s .block) blocks ≡ true → Stuck t x1 x2 k most
+    twice-stuck h =
+        record {
+          top = broken-twice t x1 x2 k [] p unread found given blocks (g .progress) highest (g .low) (g .room) h;
+          within = stuck-twice t x1 x2 k [] p unread found given blocks (g .follows) (g .first) (g .low) (g .room) h most left;
+        }
+
+    pub tied-stuck : (u : Pending) → List·Memᴰ u (unreadOf t slot cell n) → Ties (pendOf t s a) u → Stuck t x1 x2 k most
+    tied-stuck u i e =
+        record {
+          top = broken-tied t x1 x2 k p unread found given blocks (g .progress) highest (g .low) (g .room) (s .level) refl u i e;
+          within = stuck-tied t x1 x2 k [] p unread found given blocks (g .follows) (g .first) (g .low) (g .room) u i e most left;
+        }
+
+  -- ---- it is read
+
+  module _ (alone : (u : Pending) → List·Memᴰ u (unreadOf t slot cell n) → Ties (pendOf t s a) u → ⊥) (ok : nodeOk (s .level) a (storeOf t (s .block)) ≡ true) (new : has (s .block) blocks ≡ false) (v : Standing t s)
       (slot' : ℕ → Slot) (head' : ℕ → Next) (cell' : ℕ → ℕ)
       (slots : (j : ℕ) → j < n → slot' j ≡ slot j) (slotted : slot' n ≡ s)
       (heads : (j : ℕ) → j < n → head' j ≡ head j) (headed : Under allKeys (shownOf t (topQuery x1 x2 0) s) (head' n))
@@ -246,17 +315,25 @@ module _ (t : List ℕ) (x1 x2 : ℤ) (k : ℕ) (slot : ℕ → Slot) (head : �
 
     pub node-read : Underway t x1 x2 k slot' head' cell' (n + 1) given (s .block ∷ blocks)
     node-read =
-        let us = unreadOf t slot cell n in
-        let fs = foundOf t q slot head n in
         let ks = flat (λ i. seat (kidCell t (s .block) (s .span) q i) (childOf t s i)) 8 in
+        let us = unreadOf t slot' cell' (n + 1) in
+        let fs = foundOf t q slot' head' (n + 1) in
+        let parts = subst (λ (l : List Pending). Reordered (ks ++ unread) l) (sym unread-is) (reordered-swap ks unread) in
+        let spots = subst (λ (l : List Spot). Reordered (shownOf t q s ++ found) l) (sym found-is) (reordered-swap (shownOf t q s) found) in
         record {
           known = known-next;
           progress =
-              reorder t x1 x2 k (ks ++ us) (unreadOf t slot' cell' (n + 1)) (shownOf t q s ++ fs) (foundOf t q slot' head' (n + 1)) given (s .block ∷ blocks)
-              (subst (λ (l : List Pending). Progress t x1 x2 k (l ++ us) (shownOf t q s ++ fs) given (s .block ∷ blocks)) (sym (kids-known t q s v a))
-              (read-part t x1 x2 k [] (pendOf t s a) us fs given blocks (g .progress) (g .most) (g .low) (g .room) (s .level) refl ok new))
-              (subst (λ (l : List Pending). Reordered (ks ++ us) l) (sym unread-is) (reordered-swap ks us))
-              (subst (λ (l : List Spot). Reordered (shownOf t q s ++ fs) l) (sym found-is) (reordered-swap (shownOf t q s) fs));
+              reorder t x1 x2 k (ks ++ unread) us (shownOf t q s ++ found) fs given (s .block ∷ blocks)
+              (subst (λ (l : List Pending). Progress t x1 x2 k (l ++ unread) (shownOf t q s ++ found) given (s .block ∷ blocks)) (sym (kids-known t q s v a))
+              (read-part t x1 x2 k [] p unread found given blocks (g .progress) highest (g .low) (g .room) (s .level) refl ok new))
+              parts
+              spots;
+          follows =
+              follows-reordered t x1 x2 k (ks ++ unread) us (shownOf t q s ++ found) fs given (s .block ∷ blocks)
+              (subst (λ (l : List Pending). Follows t x1 x2 k (l ++ unread) (shownOf t q s ++ found) given (s .block ∷ blocks)) (sym (kids-known t q s v a))
+              (follows-read t x1 x2 k [] p unread found given blocks (g .follows) (g .first) (g .low) (g .room) alone (s .level) refl ok new))
+              parts
+              spots;
           count = let e = g .count in omega arith;
         }
 
@@ -300,6 +377,9 @@ module _ (t : List ℕ) (x1 x2 : ℤ) (k : ℕ) (slot : ℕ → Slot) (head : �
               (same-or-not (r .0) j))
               (λ u i. let r = unread-cell t (topQuery x1 x2 0) slot head cell n (g .known) i in omega (arith, r .2, highest (r .0) (r .1)))
               room;
+          follows =
+              follows-given t x1 x2 k us [] s fs given blocks
+              (follows-reordered t x1 x2 k us us (foundOf t (topQuery x1 x2 0) slot head n) (s ∷ fs) given blocks (g .follows) (reordered-none us) taken-out);
           count = g .count;
         }
 
@@ -309,10 +389,10 @@ module _ (t : List ℕ) (x1 x2 : ℤ) (k : ℕ) (slot : ℕ → Slot) (head : �
   ends-full h = done-full t x1 x2 k (unreadOf t slot cell n) (foundOf t (topQuery x1 x2 0) slot head n) given blocks (g .progress) h
 
   pub ends-empty : ((c : ℕ) → c < 8 * n → cell c ≡ 0) → ((s : ℕ) → s < n → head s .there ≡ true → ⊥) → Done t x1 x2 k given blocks
-  unfolding seats lefts
+  unfolding lefts
   ends-empty none gone =
       done-empty t x1 x2 k (unreadOf t slot cell n) (foundOf t (topQuery x1 x2 0) slot head n) given blocks (g .progress)
-      (flat-none (seats t slot cell) (8 * n) (λ c l. ap (λ (v : ℕ). seat v (childOf t (slot (c / 8)) (c % 8))) (none c l)))
+      (unread-none t slot cell n none)
       (flat-none (lefts t (topQuery x1 x2 0) slot head) n (λ s l. left-gone (shownOf t (topQuery x1 x2 0) (slot s)) (head s) (refuted (head s .there) (gone s l))))
 
   -- there are fewer slots than blocks

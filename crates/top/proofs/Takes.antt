@@ -1,17 +1,17 @@
 -- The child with the highest key is taken: its cell becomes 0, and no other cell changes.
 -- Assumes nothing.
-use mathlib.Core.Path.{_≡_, ap, ap₂, sym, subst, _∙_}
-use mathlib.Core.Logic.{⊎-elim}
-use mathlib.Core.Bool.{Bool, true, cond}
+use mathlib.Core.Path.{_≡_, refl, ap, ap₂, sym, subst, _∙_}
+use mathlib.Core.Logic.{_⊎_, inl, inr, ⊎-elim}
+use mathlib.Core.Bool.{Bool, true, false, cond, true≢false, false≢true}
 use mathlib.Core.List.{List}
 use Prim.Native.Nat.{ℕ, _+_, _-_, _*_, _/_, _%_, _≤_, _<_}
 use native.Mathlib.Omega.{arith}
 use lib.ListN.{length}
 use lib.Dec.{ltb, eqb}
-use borrow.Author.Tests.{le-leb, lt-leb, ltb-true, lt-ltb, eq-eqb, ne-eqb}
+use borrow.Author.Tests.{le-leb, lt-leb, ltb-true, lt-ltb, eqb-true, eqb-false, eq-eqb, ne-eqb}
 use Rattle.octets.proofs.Order.{same-or-not, less-or-not}
 use Rattle.octets.specs.Bytes.{be}
-use Rattle.spot.specs.Keys.{allKeys}
+use Rattle.spot.specs.Keys.{allKeys, rankOf}
 use Rattle.spot.specs.declared.Query.{Query}
 use Rattle.spot.specs.Spots.{keyAt}
 use Rattle.spot.proofs.Card.{keyAt-lt}
@@ -20,18 +20,20 @@ use Rattle.block.specs.Access.{entryOf}
 use Rattle.block.specs.NodeRules.{ValidBlock}
 use Rattle.block.specs.Table.{block, tableSized}
 use Rattle.tree.specs.Walk.{admits}
+use Rattle.tree.proofs.Sources.{header-few}
 use Rattle.frontier.specs.declared.KidPick.{KidPick}
 use Rattle.frontier.specs.Frontier.{Slot, kidCount, kidEntry, kidPart, kidCell, kidKey, slotBy, Chain}
 use Rattle.frontier.specs.Picks.{KidBest}
-use Rattle.frontier.proofs.Kids.{cell-says, key-cell, key-some, keys-apart}
+use Rattle.frontier.proofs.Kids.{cell-says, key-cell, key-some, some-key, key-yes, keys-apart}
 use Rattle.frontier.proofs.Chains.{stands-valid, child-inside}
 use Rattle.top.specs.Rows.{kidRow, firstKey, firstValue, cellOf, cellBy, Lowered, Kids}
-use Rattle.top.specs.Runs.{Takable}
+use Rattle.top.specs.Runs.{Takable, leadsWith}
 use Rattle.top.proofs.Heaps.{put, put-same, put-other, put-all, First, first-row, first-most}
+use Rattle.top.proofs.Steps.{blockAt}
 
 -- ---- keys are small
 
-top-small : (t : List ℕ) (b i : ℕ) → kidEntry t b i .top < allKeys
+pub top-small : (t : List ℕ) (b i : ℕ) → kidEntry t b i .top < allKeys
 unfolding entryOf
 top-small t b i = go (be 1 (block t b) (8 + 28 * i + 2))
   where
@@ -39,6 +41,16 @@ top-small t b i = go (be 1 (block t b) (8 + 28 * i + 2))
     go n =
         ⊎-elim (λ (e : n ≡ 0). rw (eq-eqb n 0 e) (omega arith)) (λ (d : n ≡ 0 → ⊥). rw (ne-eqb n 0 d) (keyAt-lt (block t b) (8 + 28 * i + 12)))
         (same-or-not n 0)
+
+-- ---- keys of a cell and a block
+
+-- the greater key has the greater cell, or the same and the lower block
+keys-order : (v w a b : ℕ) → a < 65536 → b < 65536 → v * 65536 + (65535 - a) ≤ w * 65536 + (65535 - b) → (v < w) ⊎ ((v ≡ w) × (b ≤ a))
+keys-order v w a b l m h =
+    ⊎-elim (λ (g : w ≤ v). let e : v ≡ w = omega arith in inr (e, omega arith)) (λ (g : v < w). inl g) (less-or-not w v)
+
+keys-same : (v w a b : ℕ) → a < 65536 → b < 65536 → v * 65536 + (65535 - a) ≡ w * 65536 + (65535 - b) → (v ≡ w) × (a ≡ b)
+keys-same v w a b l m h = let e : v ≡ w = omega arith in (e, omega arith)
 
 -- ---- the cells of a slot
 
@@ -69,6 +81,31 @@ module _ (t : List ℕ) (q : Query) (s : Slot) where
   cell-most most i =
       let e = key-cell t (s .block) (s .span) q i in
       ⊎-elim (λ (l : key i ≤ most). omega (arith, cell-in most i l)) (λ (l : most < key i). omega (arith, cell-out most i l)) (less-or-not (key i) most)
+
+  -- an unread child: its key is not above the best, and its cell is one more than its rank
+  cell-unread : (most i : ℕ) → 0 < cellOf t q s most i → (key i ≤ most) × (i < kidCount t (s .block)) × (rankOf (kidEntry t (s .block) i .top) + 1 ≡ cell i) × (cellOf t q s most i ≡ cell i)
+  cell-unread most i some =
+      ⊎-elim
+      (λ (l : key i ≤ most).
+      let e = cell-in most i l in
+      ⊎-elim (λ (z : cell i ≡ 0). let y : ⊥ = omega arith in absurd y) (λ w. (l, w .0, sym (w .2), e)) (cell-says t (s .block) (s .span) q i))
+      (λ (l : most < key i). let y : ⊥ = omega (arith, cell-out most i l) in absurd y)
+      (less-or-not (key i) most)
+
+  pub cell-rank : (most i : ℕ) → 0 < cellOf t q s most i → rankOf (kidEntry t (s .block) i .top) + 1 ≡ cellOf t q s most i
+  cell-rank most i some = let w = cell-unread most i some in w .2 ∙ sym (w .3)
+
+  -- its key is made of its cell and its block
+  cell-key : (most i : ℕ) → 0 < cellOf t q s most i
+      → (key i ≤ most) × (0 < key i) × (key i ≡ cellOf t q s most i * 65536 + (65535 - kidEntry t (s .block) i .block)) × (i < kidCount t (s .block))
+  cell-key most i some =
+      let w = cell-unread most i some in
+      let b = kidEntry t (s .block) i .block in (
+        w .0,
+        some-key t (s .block) (s .span) q i (omega (arith, w .3)),
+        sym (key-yes t (s .block) (s .span) q i (rankOf (kidEntry t (s .block) i .top)) (w .2) refl) ∙ ap (λ (x : ℕ). x * 65536 + (65535 - b)) (w .2 ∙ sym (w .3)),
+        w .1,
+      )
 
   -- all are unread at first
   pub cell-first : {r : KidPick} → KidBest t (s .block) (s .span) q 18446744073709551615 r → (i : ℕ) → i < 8 → cellOf t q s (r .key) i ≡ cell i
@@ -106,6 +143,23 @@ module _ {t : List ℕ} {q : Query} {rows kids : List (List ℕ)} {m n : ℕ} (k
       let w : floor ≡ firstKey kids / 65536 = e ∙ ap (λ (b : Bool). cond b 0 (firstKey kids / 65536)) (ne-eqb m 0 (λ z. let y : ⊥ = omega (arith, g .0) in y)) in
       omega (arith, g .1))
       (same-or-not (kid s .key) 0)
+
+  module _ (chain : Chain t rows n) where
+    -- the block of a child is one of the table's
+    child-near : (c : ℕ) → c < 8 * n → c % 8 < kidCount t (slotBy t rows (c / 8) .block) → blockAt t (slotBy t rows) c < 65536
+    child-near c l below =
+        let i : c / 8 < n = omega arith in
+        omega (arith, child-inside t (slotBy t rows (c / 8)) (chain .stands (c / 8) i) (c % 8) below .0, header-few t (chain .header))
+
+    -- the key of an unread child is not above the first row's
+    unread-key : (c : ℕ) → c < 8 * n → 0 < cellBy t q rows kid c
+        → (0 < m) × (cellBy t q rows kid c * 65536 + (65535 - blockAt t (slotBy t rows) c) ≤ firstKey kids) × (blockAt t (slotBy t rows) c < 65536)
+    unread-key c l some =
+        let s = c / 8 in
+        let i : s < n = omega arith in
+        let k = cell-key t q (slotBy t rows s) (kid s .key) (c % 8) some in
+        let g = first-most (λ j. ltb 0 (kid j .key)) (λ j. kid j .key) (λ j. 8 * j + kid j .at) (u .held) s i (lt-ltb 0 (kid s .key) (omega (arith, k .0, k .1))) in
+        (g .0, omega (arith, k .0, k .2, g .1), child-near c l (k .3))
 
   module _ (chain : Chain t rows n) (some : 0 < m) where
     pub kid-row : First kids (λ j. ltb 0 (kid j .key)) (λ j. kid j .key) (λ j. 8 * j + kid j .at) n
@@ -145,6 +199,19 @@ module _ {t : List ℕ} {q : Query} {rows kids : List (List ℕ)} {m n : ℕ} (k
     pub kid-inside : firstValue kids < 8 * n
     kid-inside = let e = kid-row .value-is in let l = kid-row .inside in let i = index in omega arith
 
+    pub kid-cell-some : 0 < cellBy t q rows kid (firstValue kids)
+    kid-cell-some =
+        let e = kid-row .key-is in
+        let l = key-some t (parent .block) (parent .span) q (kid s .at) (subst (λ (x : ℕ). 0 < x) key-is key-some-row) in
+        omega (arith, kid-cell, key-is, key-cell t (parent .block) (parent .span) q (kid s .at))
+
+    -- its key is made of its cell and its block
+    kid-key : (firstKey kids ≡ cellBy t q rows kid (firstValue kids) * 65536 + (65535 - blockAt t (slotBy t rows) (firstValue kids))) × (blockAt t (slotBy t rows) (firstValue kids) < 65536)
+    kid-key =
+        let c = firstValue kids in
+        let k = cell-key t q (slotBy t rows (c / 8)) (kid (c / 8) .key) (c % 8) kid-cell-some in
+        (kid-row .key-is ∙ key-is ∙ sym (ap₂ (λ (a b : ℕ). kidKey t (slotBy t rows a .block) (slotBy t rows a .span) q b) kid-slot kid-at) ∙ k .2, child-near chain c kid-inside (k .3))
+
     -- it is a child that the query admits
     kid-says : (kid s .at < kidCount t (parent .block)) × (admits q (kidPart t (parent .block) (parent .span) (kid s .at)) ≡ true)
     kid-says =
@@ -160,6 +227,15 @@ module _ {t : List ℕ} {q : Query} {rows kids : List (List ℕ)} {m n : ℕ} (k
     pub kid-admitted : admits q (kidPart t (slotBy t rows (firstValue kids / 8) .block) (slotBy t rows (firstValue kids / 8) .span) (firstValue kids % 8)) ≡ true
     kid-admitted =
         ap₂ (λ (a b : ℕ). admits q (kidPart t (slotBy t rows a .block) (slotBy t rows a .span) b)) kid-slot kid-at ∙ kid-says .1
+
+    -- it is the first in order of all unread
+    pub kid-order : (j : ℕ) → j < 8 * n → 0 < cellBy t q rows kid j
+        → (cellBy t q rows kid j < cellBy t q rows kid (firstValue kids))
+        ⊎ ((cellBy t q rows kid j ≡ cellBy t q rows kid (firstValue kids)) × (blockAt t (slotBy t rows) (firstValue kids) ≤ blockAt t (slotBy t rows) j))
+    kid-order j l above =
+        let k = unread-key chain j l above in
+        keys-order (cellBy t q rows kid j) (cellBy t q rows kid (firstValue kids)) (blockAt t (slotBy t rows) j) (blockAt t (slotBy t rows) (firstValue kids)) (k .2) (kid-key .1)
+        (omega (arith, k .1, kid-key .0))
 
     pub parent-inside : firstValue kids / 8 < n
     parent-inside = let e = kid-slot in let l = kid-row .inside in omega arith
@@ -221,3 +297,69 @@ module _ {t : List ℕ} {q : Query} {rows kids : List (List ℕ)} {m n : ℕ} (k
           ∙ sym (ap (λ (a : ℕ). cellOf t q (slotBy t rows a) (kid a .key) (j % 8)) e))
           (λ (e : j / 8 ≡ s → ⊥). ap (λ (k : KidPick). cellOf t q (slotBy t rows (j / 8)) (k .key) (j % 8)) (put-other kid s next (j / 8) e))
           (same-or-not (j / 8) s)
+
+-- ---- another with the same key
+
+module _ {t : List ℕ} {q : Query} {rows kids : List (List ℕ)} {m n : ℕ} (kid : ℕ → KidPick) (u : Kids t q rows kids m n kid) (chain : Chain t rows n) (some : 0 < m) (next : KidPick)
+    (b : KidBest t (slotBy t rows (firstValue kids / 8) .block) (slotBy t rows (firstValue kids / 8) .span) q (firstKey kids - 1) next)
+    {via : List (List ℕ)} {m' : ℕ} (v : Lowered kids m (kidRow (firstValue kids / 8) next) via m') where
+  abbrev top : First kids (λ j. ltb 0 (kid j .key)) (λ j. kid j .key) (λ j. 8 * j + kid j .at) n
+  top = kid-row kid u chain some
+
+  abbrev after : ℕ → KidPick
+  after = put kid (top .at) next
+
+  abbrev left : Kids t q rows via m' n after
+  left = taken-kids kid u chain some next b v
+
+  abbrev where-is : ℕ → ℕ
+  where-is = blockAt t (slotBy t rows)
+
+  leads : leadsWith via m' (firstKey kids) ≡ true → (0 < m') × (firstKey via ≡ firstKey kids)
+  leads h = go (eqb m' 0) refl h
+    where
+      go : (b : Bool) → eqb m' 0 ≡ b → cond b false (eqb (firstKey via) (firstKey kids)) ≡ true → (0 < m') × (firstKey via ≡ firstKey kids)
+      go true e f = absurd (false≢true f)
+      go false e f = (let d = eqb-false m' 0 e in omega (arith, d), eqb-true (firstKey via) (firstKey kids) f)
+
+  -- no row left is above the one taken
+  lower-first : 0 < m' → firstKey via ≤ firstKey kids
+  lower-first l =
+      let s = top .at in
+      let r = kid-row after left chain l in
+      ⊎-elim
+      (λ (e : r .at ≡ s).
+      let w : firstKey via ≡ next .key = r .key-is ∙ ap (λ (j : ℕ). after j .key) e ∙ ap (λ (k : KidPick). k .key) (put-same kid s next) in
+      omega (
+        arith,
+        w,
+        top .key-is,
+        next-low t q (slotBy t rows s) (valid kid u chain some next b) (chain .sized) (kid s .key) (kid s .at) (key-some-row kid u chain some) (key-is kid u chain some) next (best kid u chain some next b),
+      ))
+      (λ (d : r .at ≡ s → ⊥).
+      let k = put-other kid s next (r .at) d in
+      let w = first-most (λ j. ltb 0 (kid j .key)) (λ j. kid j .key) (λ j. 8 * j + kid j .at) (u .held) (r .at) (r .inside) (ap (λ (x : KidPick). ltb 0 (x .key)) (sym k) ∙ r .there) in
+      omega (arith, r .key-is, ap (λ (x : KidPick). x .key) k, w .1))
+      (same-or-not (r .at) s)
+
+  -- where the first row left has another key, no unread child shows the same rank and block
+  pub kid-alone : leadsWith via m' (firstKey kids) ≡ false → (j : ℕ) → j < 8 * n → 0 < cellBy t q rows (put kid (kid-row kid u chain some .at) next) j
+      → cellBy t q rows (put kid (kid-row kid u chain some .at) next) j ≡ cellBy t q rows kid (firstValue kids) → blockAt t (slotBy t rows) j ≡ blockAt t (slotBy t rows) (firstValue kids) → ⊥
+  kid-alone h j l above e f =
+      let k = unread-key after left chain j l above in
+      let w : firstKey via ≡ firstKey kids = omega (arith, k .1, e, f, kid-key kid u chain some .0, lower-first (k .0)) in
+      true≢false
+      (sym (ap (λ (b : Bool). cond b false (eqb (firstKey via) (firstKey kids))) (ne-eqb m' 0 (λ z. let y : ⊥ = omega (arith, k .0) in y)) ∙ eq-eqb (firstKey via) (firstKey kids) w) ∙ h)
+
+  -- where it has the same, its child does
+  pub kid-tied : leadsWith via m' (firstKey kids) ≡ true
+      → (j : ℕ) × (j < 8 * n) × (0 < cellBy t q rows (put kid (kid-row kid u chain some .at) next) j)
+      × (cellBy t q rows (put kid (kid-row kid u chain some .at) next) j ≡ cellBy t q rows kid (firstValue kids)) × (blockAt t (slotBy t rows) j ≡ blockAt t (slotBy t rows) (firstValue kids))
+  kid-tied h =
+      let r = leads h in
+      let j = firstValue via in
+      let c = firstValue kids in
+      let k = kid-key after left chain (r .0) in
+      let g = kid-key kid u chain some in
+      let w = keys-same (cellBy t q rows after j) (cellBy t q rows kid c) (where-is j) (where-is c) (k .1) (g .1) (sym (k .0) ∙ r .1 ∙ g .0) in
+      (j, kid-inside after left chain (r .0), kid-cell-some after left chain (r .0), w .0, w .1)

@@ -20,6 +20,7 @@ use Rattle.tree.specs.Walk.{admits, finds}
 use Rattle.tree.specs.Trace.{namedBy}
 use Rattle.tree.specs.BestFirst.{Pending}
 use Rattle.tree.proofs.BestFirst.{Progress}
+use Rattle.within_theory.proofs.Following.{Follows}
 use Rattle.visit.specs.declared.Path.{Path}
 use Rattle.visit.specs.Visit.{partOf, above}
 use Rattle.frontier.specs.Frontier.{Slot, kidCount, kidEntry, kidPart, Standing}
@@ -89,4 +90,5 @@ pub record Known (t : List ℕ) (q : Query) (slot : ℕ → Slot) (head : ℕ �
 pub record Underway (t : List ℕ) (x1 x2 : ℤ) (k : ℕ) (slot : ℕ → Slot) (head : ℕ → Next) (cell : ℕ → ℕ) (n : ℕ) (given : List Spot) (blocks : List ℕ) : Type 0 where
   pub known : Known t (topQuery x1 x2 0) slot head cell n
   pub progress : Progress t x1 x2 k (unreadOf t slot cell n) (foundOf t (topQuery x1 x2 0) slot head n) given blocks
+  pub follows : Follows t x1 x2 k (unreadOf t slot cell n) (foundOf t (topQuery x1 x2 0) slot head n) given blocks
   pub count : length blocks ≡ n

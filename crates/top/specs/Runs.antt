@@ -1,11 +1,12 @@
 -- What the functions of Top are handed and hand back.
 -- Assumes nothing.
 use mathlib.Core.Path.{_≡_}
-use mathlib.Core.Bool.{true, false}
+use mathlib.Core.Bool.{Bool, true, false, cond}
 use mathlib.Core.Logic.{_⊎_}
 use mathlib.Core.List.{List, [], _∷_, _++_, List·Memᴰ}
 use Prim.Native.Nat.{ℕ, _+_, _-_, _*_, _/_, _%_, _≤_, _<_}
 use lib.ListN.{length, take, drop, getD, set, replicate}
+use lib.Dec.{eqb}
 use lib.IntN.{ℤ}
 use Rattle.octets.specs.Bitmap.{bit, setBit}
 use Rattle.octets.specs.Lists.{has}
@@ -24,6 +25,9 @@ use Rattle.tree.specs.Walk.{broken}
 use Rattle.tree.specs.Top.{topWalk}
 use Rattle.tree.specs.ReadMap.{readMap}
 use Rattle.tree.proofs.BestFirstTop.{Done}
+use Rattle.tree.proofs.Sources.{Source, InTable}
+use Rattle.within_theory.specs.Reading.{reading}
+use Rattle.within_theory.proofs.Following.{Sure}
 use Rattle.heap.specs.Heaps.{Heap}
 use Rattle.frontier.specs.declared.Pick.{Pick}
 use Rattle.frontier.specs.declared.KidPick.{KidPick}
@@ -125,13 +129,19 @@ pub record NextKid (t : List ℕ) (q : Query) (seen : List ℕ) (rows kids heads
   pub reads : (kids' : List (List ℕ)) (f : Fresh) → KidTaken t q rows kids kids' (z .kids) f → length kids' ≡ length kids
       → Readable t seen rows kids' heads (withKids z (f .kids)) (f .place) (Child (f .entry)) (f .up)
 
--- it is read
+-- the first of m rows has this key
+abbrev pub leadsWith : List (List ℕ) → ℕ → ℕ → Bool
+leadsWith kids m key = cond (eqb m 0) false (eqb (firstKey kids) key)
+
+-- it is read, or another has its key
 pub record KidRead (t : List ℕ) (q : Query) (seen seen' : List ℕ) (rows rows' kids kids' heads heads' : List (List ℕ)) (z : Sizes) (r : Joined) : Type 0 where
   pub fresh : Fresh
   pub via : List (List ℕ)
   pub long : length via ≡ length kids
   pub taken : KidTaken t q rows kids via (z .kids) fresh
-  pub read : NodeRead t q seen seen' rows rows' via kids' heads heads' (withKids z (fresh .kids)) (fresh .place) (Child (fresh .entry)) (fresh .up) r
+  pub tied : leadsWith via (fresh .kids) (firstKey kids) ≡ true → r .ok ≡ false
+  pub read : leadsWith via (fresh .kids) (firstKey kids) ≡ false
+      → NodeRead t q seen seen' rows rows' via kids' heads heads' (withKids z (fresh .kids)) (fresh .place) (Child (fresh .entry)) (fresh .up) r
 
 -- ---- spots are given
 
@@ -210,7 +220,7 @@ pub record Swept (t : List ℕ) (q : Query) (k room : ℕ) (base seen out : List
   pub seenIs : Seen seen blocks
 
 -- the root is read
-pub record Sweepable (t : List ℕ) (q : Query) (seen out : List ℕ) (rows kids heads : List (List ℕ)) (z : Sizes) (k room : ℕ) : Type 0 where
+pub record Sweepable (t : List ℕ) (q : Query) (seen out : List ℕ) (rows kids heads : List (List ℕ)) (z : Sizes) (k most room : ℕ) : Type 0 where
   pub x1 : ℤ
   pub x2 : ℤ
   pub asks : q ≡ topQuery x1 x2 0
@@ -218,9 +228,50 @@ pub record Sweepable (t : List ℕ) (q : Query) (seen out : List ℕ) (rows kids
   pub few : length rows ≤ 4096
   pub kidRows : length kids ≡ length rows
   pub headRows : length heads ≡ length rows
+  pub allowed : z .slots ≤ most
   pub begun : Swept t q k room out seen out rows kids heads z 0
 
-pub record Searchable (t : List ℕ) (q : Query) (seen out : List ℕ) (rows kids heads : List (List ℕ)) (k room : ℕ) : Type 0 where
+pub record Searchable (t : List ℕ) (q : Query) (seen out : List ℕ) (rows kids heads : List (List ℕ)) (k most room : ℕ) : Type 0 where
+  pub x1 : ℤ
+  pub x2 : ℤ
+  pub asks : q ≡ topQuery x1 x2 0
+  pub sized : tableSized (length t) ≡ true
+  pub clear : seen ≡ replicate 512 0
+  pub some : 0 < k
+  pub allowed : 0 < most
+  pub fits : 12 * room ≤ length out
+  pub slots : 1 ≤ length rows
+  pub few : length rows ≤ 4096
+  pub kidRows : length kids ≡ length rows
+  pub headRows : length heads ≡ length rows
+
+-- a search is at its end that may read `most` blocks: what it gives, reads and says of the rest is the definition's; with an allowance that no table reaches, it is Top's
+pub record Halted (t : List ℕ) (x1 x2 : ℤ) (k most room : ℕ) (base seen' out' : List ℕ) (spots ceiling : ℕ) : Type 0 where
+  pub given : List Spot
+  pub blocks : List ℕ
+  pub sure : Sure t x1 x2 k most given blocks ceiling
+  pub done : 4096 ≤ most → Done t x1 x2 k given blocks
+  pub from : (s : Spot) → List·Memᴰ s given → Source (storeOf t) (topQuery x1 x2 0) blocks s
+  pub places : (b : ℕ) → List·Memᴰ b blocks → InTable t b
+  pub counted : spots ≡ length given
+  pub few : spots ≤ k
+  pub output : out' ≡ written room given base
+  pub map : seen' ≡ readMap blocks
+  pub low : ceiling < 4294967296
+
+-- a rule is broken, for a Top and for one that may read `most` blocks
+pub record Stuck (t : List ℕ) (x1 x2 : ℤ) (k most : ℕ) : Type 0 where
+  pub top : topWalk t x1 x2 k ≡ broken
+  pub within : reading t x1 x2 k most .whole ≡ false
+
+-- the search of a table with `cap` slots: it is short only where they are fewer than a table may need
+pub record Searched (t : List ℕ) (q : Query) (k most room cap : ℕ) (out seen' out' : List ℕ) (r : Search) : Type 0 where
+  pub short : r .short ≡ true → cap ≤ 4095
+  pub fails : (x1 x2 : ℤ) → q ≡ topQuery x1 x2 0 → r .short ≡ false → r .ok ≡ false → Stuck t x1 x2 k most
+  pub ends : (x1 x2 : ℤ) → q ≡ topQuery x1 x2 0 → r .ok ≡ true → Halted t x1 x2 k most room out seen' out' (r .spots) (r .ceiling)
+  pub behind : drop (12 * room) out' ≡ drop (12 * room) out
+
+pub record Runnable (t : List ℕ) (q : Query) (seen out : List ℕ) (k room : ℕ) : Type 0 where
   pub x1 : ℤ
   pub x2 : ℤ
   pub asks : q ≡ topQuery x1 x2 0
@@ -228,10 +279,25 @@ pub record Searchable (t : List ℕ) (q : Query) (seen out : List ℕ) (rows kid
   pub clear : seen ≡ replicate 512 0
   pub some : 0 < k
   pub fits : 12 * room ≤ length out
-  pub slots : 1 ≤ length rows
-  pub few : length rows ≤ 4096
-  pub kidRows : length kids ≡ length rows
-  pub headRows : length heads ≡ length rows
+
+-- a search with slots enough: it is stuck, or at its end
+pub record WideRun (t : List ℕ) (q : Query) (k most room : ℕ) (out seen' out' : List ℕ) (r : TopTally) : Type 0 where
+  pub fails : (x1 x2 : ℤ) → q ≡ topQuery x1 x2 0 → r .ok ≡ false → Stuck t x1 x2 k most
+  pub ends : (x1 x2 : ℤ) → q ≡ topQuery x1 x2 0 → r .ok ≡ true → Halted t x1 x2 k most room out seen' out' (r .spots) (r .ceiling)
+
+-- at its end, with any bytes between the spots written and the end of the room; behind it nothing has changed
+pub record HaltedOn (t : List ℕ) (x1 x2 : ℤ) (k most room : ℕ) (out seen' out' : List ℕ) (spots ceiling : ℕ) : Type 0 where
+  pub base : List ℕ
+  pub long : length base ≡ length out
+  pub behind : drop (12 * room) base ≡ drop (12 * room) out
+  pub halted : Halted t x1 x2 k most room base seen' out' spots ceiling
+
+-- the same as a WideRun but for those bytes
+pub record WithinFront (t : List ℕ) (q : Query) (k most room : ℕ) (out seen' out' : List ℕ) (r : TopTally) : Type 0 where
+  pub fails : (x1 x2 : ℤ) → q ≡ topQuery x1 x2 0 → r .ok ≡ false → Stuck t x1 x2 k most
+  pub ends : (x1 x2 : ℤ) → q ≡ topQuery x1 x2 0 → r .ok ≡ true → HaltedOn t x1 x2 k most room out seen' out' (r .spots) (r .ceiling)
+
+-- ---- Top
 
 -- Top is at its end: what it gives and what it reads are the definition's
 pub record Ended (t : List ℕ) (x1 x2 : ℤ) (k room : ℕ) (base seen' out' : List ℕ) (spots : ℕ) : Type 0 where
@@ -244,27 +310,6 @@ pub record Ended (t : List ℕ) (x1 x2 : ℤ) (k room : ℕ) (base seen' out' : 
   pub output : out' ≡ written room given base
   pub map : seen' ≡ readMap blocks
 
--- the search of a table with `cap` slots: it is short only where they are fewer than a table may need
-pub record Searched (t : List ℕ) (q : Query) (k room cap : ℕ) (out seen' out' : List ℕ) (r : Search) : Type 0 where
-  pub short : r .short ≡ true → cap ≤ 4095
-  pub fails : (x1 x2 : ℤ) → q ≡ topQuery x1 x2 0 → r .short ≡ false → r .ok ≡ false → topWalk t x1 x2 k ≡ broken
-  pub ends : (x1 x2 : ℤ) → q ≡ topQuery x1 x2 0 → r .ok ≡ true → Ended t x1 x2 k room out seen' out' (r .spots)
-  pub behind : drop (12 * room) out' ≡ drop (12 * room) out
-
-pub record Runnable (t : List ℕ) (q : Query) (seen out : List ℕ) (k room : ℕ) : Type 0 where
-  pub x1 : ℤ
-  pub x2 : ℤ
-  pub asks : q ≡ topQuery x1 x2 0
-  pub sized : tableSized (length t) ≡ true
-  pub clear : seen ≡ replicate 512 0
-  pub some : 0 < k
-  pub fits : 12 * room ≤ length out
-
--- Top of a table: a rule is broken where the definition's walk is, else what is given, written and read is the definition's
-pub record TopRun (t : List ℕ) (q : Query) (k room : ℕ) (out seen' out' : List ℕ) (r : TopTally) : Type 0 where
-  pub fails : (x1 x2 : ℤ) → q ≡ topQuery x1 x2 0 → r .ok ≡ false → topWalk t x1 x2 k ≡ broken
-  pub ends : (x1 x2 : ℤ) → q ≡ topQuery x1 x2 0 → r .ok ≡ true → Ended t x1 x2 k room out seen' out' (r .spots)
-
 -- Top is at its end, with any bytes between the spots written and the end of the room; behind it nothing has changed
 pub record Based (t : List ℕ) (x1 x2 : ℤ) (k room : ℕ) (out seen' out' : List ℕ) (spots : ℕ) : Type 0 where
   pub base : List ℕ
@@ -272,7 +317,7 @@ pub record Based (t : List ℕ) (x1 x2 : ℤ) (k room : ℕ) (out seen' out' : L
   pub behind : drop (12 * room) base ≡ drop (12 * room) out
   pub ended : Ended t x1 x2 k room base seen' out' spots
 
--- the same as a TopRun but for those bytes
+-- a rule is broken where the definition's walk is, else what is given, written and read is the definition's
 pub record TopFront (t : List ℕ) (q : Query) (k room : ℕ) (out seen' out' : List ℕ) (r : TopTally) : Type 0 where
   pub fails : (x1 x2 : ℤ) → q ≡ topQuery x1 x2 0 → r .ok ≡ false → topWalk t x1 x2 k ≡ broken
   pub ends : (x1 x2 : ℤ) → q ≡ topQuery x1 x2 0 → r .ok ≡ true → Based t x1 x2 k room out seen' out' (r .spots)

@@ -2,7 +2,7 @@
 ghost use mathlib.Core.Path.{_≡_};
 ghost use mathlib.Core.Bool.{false, cond};
 ghost use mathlib.Core.List.{[]};
-ghost use Prim.Native.Nat.{_*_, _/_, _≤_, _<_};
+ghost use Prim.Native.Nat.{_-_, _*_, _/_, _≤_, _<_, max};
 ghost use lib.Dec.{eqb, ltb};
 ghost use lib.ListN.{length};
 ghost use Rattle.spot.specs.Spots.{putSpot};
@@ -10,7 +10,7 @@ ghost use Rattle.heap.specs.Heaps.{Heap};
 ghost use Rattle.frontier.specs.Frontier.{blockBy};
 ghost use Rattle.frontier.specs.Picks.{spotBy};
 ghost use Rattle.top.specs.Rows.{pickRow, firstKey, leadAt, leadSlot, Seated, Hung, Lowered};
-ghost use Rattle.top.specs.Runs.{Joinable, Added, Readable, NodeRead, Takable, KidTaken, NextKid, KidRead, LeadRow, Movable, MovedOn, Givable, Gave, Sweepable, Searchable, Searched, Runnable, TopRun, TopFront};
+ghost use Rattle.top.specs.Runs.{Joinable, Added, Readable, NodeRead, Takable, KidTaken, leadsWith, NextKid, KidRead, LeadRow, Movable, MovedOn, Givable, Gave, Sweepable, Searchable, Searched, Runnable, WideRun, WithinFront, TopFront};
 
 // How many slots there are, and how many rows in the heaps of children and of spots.
 pub struct Sizes {
@@ -39,17 +39,20 @@ pub struct Given {
     pub heads: usize,
 }
 
-// A search: whether it ended, or would have needed more slots, and how many spots it gave.
+// A search: whether it ended, or would have needed more slots, how many spots it gave, and the highest rank that is left: of an unread
+// child or of a spot found and not given.
 pub struct Search {
     pub ok: bool,
     pub short: bool,
     pub spots: usize,
+    pub ceiling: u64,
 }
 
 // A whole Top: false where a rule is broken.
 pub struct TopTally {
     pub ok: bool,
     pub spots: usize,
+    pub ceiling: u64,
 }
 
 // The row of slot s's best spot, if it has one.
@@ -178,7 +181,19 @@ fn take_kid(t: &[u8], rows: &[[u16; 2]], kids: &mut [[u64; 2]], m: usize, q: spo
     }
 }
 
-// Reads the child with the highest key into the next slot.
+// The first of m rows has this key.
+fn leads_with(kids: &[[u64; 2]], m: usize, key: u64) -> bool
+    requires { ⌜ m ≤ length (now kids) ⌝ }
+    ensures { λ r. ⌜ r ≡ leadsWith (now (kids .entry)) m key ⌝ }
+{
+    if m == 0 {
+        return false;
+    }
+    let row = kids[0];
+    row[0] == key
+}
+
+// Reads the child with the highest key into the next slot. Where another has that key, two entries lead to one block: not ok.
 fn read_kid(
     t: &[u8],
     seen: &mut [u8],
@@ -191,7 +206,14 @@ fn read_kid(
     requires { ⌜ NextKid (now t) q (now seen) (now rows) (now kids) (now heads) z ⌝ }
     ensures { λ r. ⌜ KidRead (now (t .entry)) q (now (seen .entry)) (now (seen .exit)) (now (rows .entry)) (now (rows .exit)) (now (kids .entry)) (now (kids .exit)) (now (heads .entry)) (now (heads .exit)) z r ⌝ }
 {
+    let first = kids[0];
     let kid = take_kid(t, rows, kids, z.kids, q);
+    if leads_with(kids, kid.kids, first[0]) {
+        return Joined {
+            ok: false,
+            sizes: z,
+        };
+    }
     let place = kid.place;
     let entry = kid.entry;
     let sizes = Sizes {
@@ -303,18 +325,38 @@ fn floor_of(kids: &[[u64; 2]], m: usize) -> u64
     row[0] / 65536
 }
 
+// The highest rank that an unread child shows, where `floor` is one more, or that the first of m spots left has; 0 where there is neither.
+fn ceiling_of(floor: u64, heads: &[[u64; 2]], m: usize) -> u64
+    requires { ⌜ m ≤ length (now heads) ⌝ }
+    ensures { λ r. ⌜ r ≡ max (floor - 1) (cond (eqb m 0) 0 (firstKey (now (heads .entry)) / 4294967296)) ⌝ }
+{
+    if m == 0 {
+        if floor == 0 {
+            return 0;
+        }
+        return floor - 1;
+    }
+    let row = heads[0];
+    let rank = row[0] / 4294967296;
+    if rank < floor {
+        return floor - 1;
+    }
+    rank
+}
+
 // A search that gives nothing.
 fn stops(short: bool) -> Search
-    ensures { λ r. ⌜ r ≡ record { ok = false; short = short; spots = 0 } ⌝ }
+    ensures { λ r. ⌜ r ≡ record { ok = false; short = short; spots = 0; ceiling = 0 } ⌝ }
 {
     Search {
         ok: false,
         short,
         spots: 0,
+        ceiling: 0,
     }
 }
 
-// The search once the root is read, with as many slots as are lent; `seen` becomes the map of the blocks read.
+// The search once the root is read, with as many slots as are lent; `seen` becomes the map of the blocks read. At most `most` are read.
 fn sweep(
     t: &[u8],
     seen: &mut [u8],
@@ -324,11 +366,12 @@ fn sweep(
     start: Sizes,
     q: spot::Query,
     k: usize,
+    most: usize,
     out: &mut [u8],
     room: usize,
 ) -> Search
-    requires { ⌜ Sweepable (now t) q (now seen) (now out) (now rows) (now kids) (now heads) start k room ⌝ }
-    ensures { λ r. ⌜ Searched (now (t .entry)) q k room (length (now (rows .entry))) (now (out .entry)) (now (seen .exit)) (now (out .exit)) r ⌝ }
+    requires { ⌜ Sweepable (now t) q (now seen) (now out) (now rows) (now kids) (now heads) start k most room ⌝ }
+    ensures { λ r. ⌜ Searched (now (t .entry)) q k most room (length (now (rows .entry))) (now (out .entry)) (now (seen .exit)) (now (out .exit)) r ⌝ }
 {
     let cap = rows.len();
     let mut z = start;
@@ -337,12 +380,14 @@ fn sweep(
         let floor = floor_of(kids, z.kids);
         let g = give_above(t, rows, heads, z.heads, q, floor, given, k, out, room);
         given = g.spots;
-        if (k <= given) | (floor == 0) {
+        if (k <= given) | (floor == 0) | (most <= z.slots) {
+            let ceiling = ceiling_of(floor, heads, g.heads);
             octets::set_bit(seen, 0);
             return Search {
                 ok: true,
                 short: false,
                 spots: given,
+                ceiling,
             };
         }
         let sizes = Sizes {
@@ -366,14 +411,15 @@ fn look(
     seen: &mut [u8],
     q: spot::Query,
     k: usize,
+    most: usize,
     out: &mut [u8],
     room: usize,
     rows: &mut [[u16; 2]],
     kids: &mut [[u64; 2]],
     heads: &mut [[u64; 2]],
 ) -> Search
-    requires { ⌜ Searchable (now t) q (now seen) (now out) (now rows) (now kids) (now heads) k room ⌝ }
-    ensures { λ r. ⌜ Searched (now (t .entry)) q k room (length (now (rows .entry))) (now (out .entry)) (now (seen .exit)) (now (out .exit)) r ⌝ }
+    requires { ⌜ Searchable (now t) q (now seen) (now out) (now rows) (now kids) (now heads) k most room ⌝ }
+    ensures { λ r. ⌜ Searched (now (t .entry)) q k most room (length (now (rows .entry))) (now (out .entry)) (now (seen .exit)) (now (out .exit)) r ⌝ }
 {
     if !block::header_ok(t) {
         return stops(false);
@@ -400,54 +446,104 @@ fn look(
         return stops(false);
     }
     let sizes = first.sizes;
-    sweep(t, seen, rows, kids, heads, sizes, q, k, out, room)
+    sweep(t, seen, rows, kids, heads, sizes, q, k, most, out, room)
 }
 
-// Top of a table, with a slot for every block that a table may have.
+// The search with a slot for every block that a table may have.
 // Its frame takes 148 KB, so it has one caller: inlined at two, it would lie on the stack twice.
 fn wide_run(
     t: &[u8],
     seen: &mut [u8],
     q: spot::Query,
     k: usize,
+    most: usize,
     out: &mut [u8],
     room: usize,
 ) -> TopTally
-    requires { ⌜ Runnable (now t) q (now seen) (now out) k room ⌝ }
-    ensures { λ r. ⌜ TopRun (now (t .entry)) q k room (now (out .entry)) (now (seen .exit)) (now (out .exit)) r ⌝ }
+    requires { ⌜ Runnable (now t) q (now seen) (now out) k room × (0 < most) ⌝ }
+    ensures { λ r. ⌜ WideRun (now (t .entry)) q k most room (now (out .entry)) (now (seen .exit)) (now (out .exit)) r ⌝ }
 {
     let mut rows = [[0u16; 2]; 4096];
     let mut kids = [[0u64; 2]; 4096];
     let mut heads = [[0u64; 2]; 4096];
-    let all = look(t, seen, q, k, out, room, &mut rows, &mut kids, &mut heads);
+    let all = look(
+        t,
+        seen,
+        q,
+        k,
+        most,
+        out,
+        room,
+        &mut rows,
+        &mut kids,
+        &mut heads,
+    );
     TopTally {
         ok: all.ok,
         spots: all.spots,
+        ceiling: all.ceiling,
     }
 }
 
-// The search with few slots, which are soon cleared; for many spots of more than 128 blocks it is short at once, since they are seldom enough.
+// The search with few slots, which are soon cleared; for many spots and blocks of more than 128 it is short at once, since they are seldom enough.
 fn narrow_run(
     t: &[u8],
     seen: &mut [u8],
     q: spot::Query,
     k: usize,
+    most: usize,
     out: &mut [u8],
     room: usize,
 ) -> Search
-    requires { ⌜ Runnable (now t) q (now seen) (now out) k room ⌝ }
-    ensures { λ r. ⌜ Searched (now (t .entry)) q k room 128 (now (out .entry)) (now (seen .exit)) (now (out .exit)) r ⌝ }
+    requires { ⌜ Runnable (now t) q (now seen) (now out) k room × (0 < most) ⌝ }
+    ensures { λ r. ⌜ Searched (now (t .entry)) q k most room 128 (now (out .entry)) (now (seen .exit)) (now (out .exit)) r ⌝ }
 {
-    if (513 < k) & (262144 < t.len()) {
+    if (513 < k) & (262144 < t.len()) & (127 < most) {
         return stops(true);
     }
     let mut rows = [[0u16; 2]; 128];
     let mut kids = [[0u64; 2]; 128];
     let mut heads = [[0u64; 2]; 128];
-    look(t, seen, q, k, out, room, &mut rows, &mut kids, &mut heads)
+    look(
+        t,
+        seen,
+        q,
+        k,
+        most,
+        out,
+        room,
+        &mut rows,
+        &mut kids,
+        &mut heads,
+    )
 }
 
-// The same, tried with few slots first, which are enough for most.
+// A Top that reads at most `most` node blocks, tried with few slots first, which are enough for most.
+pub fn run_within(
+    t: &[u8],
+    seen: &mut [u8],
+    q: spot::Query,
+    k: usize,
+    most: usize,
+    out: &mut [u8],
+    room: usize,
+) -> TopTally
+    requires { ⌜ Runnable (now t) q (now seen) (now out) k room × (0 < most) ⌝ }
+    ensures { λ r. ⌜ WithinFront (now (t .entry)) q k most room (now (out .entry)) (now (seen .exit)) (now (out .exit)) r ⌝ }
+{
+    let some = narrow_run(t, seen, q, k, most, out, room);
+    if !some.short {
+        return TopTally {
+            ok: some.ok,
+            spots: some.spots,
+            ceiling: some.ceiling,
+        };
+    }
+    octets::zero(seen, 512);
+    wide_run(t, seen, q, k, most, out, room)
+}
+
+// Top of a table: as many blocks as it takes, which are fewer than 4,096.
 pub fn top_run(
     t: &[u8],
     seen: &mut [u8],
@@ -459,13 +555,5 @@ pub fn top_run(
     requires { ⌜ Runnable (now t) q (now seen) (now out) k room ⌝ }
     ensures { λ r. ⌜ TopFront (now (t .entry)) q k room (now (out .entry)) (now (seen .exit)) (now (out .exit)) r ⌝ }
 {
-    let some = narrow_run(t, seen, q, k, out, room);
-    if !some.short {
-        return TopTally {
-            ok: some.ok,
-            spots: some.spots,
-        };
-    }
-    octets::zero(seen, 512);
-    wide_run(t, seen, q, k, out, room)
+    run_within(t, seen, q, k, 4096, out, room)
 }

@@ -10,7 +10,7 @@ use crate::shown::show_spots;
 // What a count is, and what a byte of the output, when it is lent.
 const COUNT: u32 = 77;
 
-const BYTE: u8 = 165;
+pub const BYTE: u8 = 165;
 
 // n ranges over place 0, from rank 0 on.
 pub fn begun(n: usize) -> ranges::Batch {
@@ -45,7 +45,7 @@ pub fn hand_in(b: ranges::Batch, r: Row) -> ranges::Batch {
     b
 }
 
-fn smaller(a: usize, b: usize) -> usize
+pub fn smaller(a: usize, b: usize) -> usize
     ensures { λ r. ⌜ r ≤ b ⌝ }
 {
     if a < b {
@@ -101,10 +101,10 @@ fn changed_counts(counts: &[u32; 66], from: usize) -> u64 {
     changed
 }
 
-fn changed_bytes(output: &[u8; 4096], from: usize) -> u64 {
+pub fn changed_bytes(output: &[u8], from: usize) -> u64 {
     let mut changed = 0;
     let mut i = from;
-    while i < 4096 {
+    while i < output.len() {
         changed = std::num::wrapping_add_u64(changed, (output[i] != BYTE) as u64);
         i += 1;
     }

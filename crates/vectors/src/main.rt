@@ -4,6 +4,7 @@
 ghost use Prim.Native.Nat.{_+_, _≤_, _<_};
 ghost use lib.ListN.{length};
 
+mod allowances;
 mod batches;
 mod marks;
 mod shown;
@@ -243,21 +244,24 @@ fn carry_out(
     scratch: &mut [u8],
     marks: &mut [u8; 1024],
     b: ranges::Batch,
+    l: allowances::Allowed,
     r: Row,
 ) {
     make_call(table, scratch, r);
     hang(table, scratch, r);
     ask(table, marks, r);
     batches::ask(table, marks, b, r);
+    allowances::ask(table, marks, l, r);
     write(table, marks, r);
     mark(marks, r.op);
     print(table, r);
 }
 
-// What is kept from row to row: the table's length, and the ranges that are handed in.
+// What is kept from row to row: the table's length, the ranges that are handed in, and what is allowed.
 struct State {
     bytes: usize,
     batch: ranges::Batch,
+    allowed: allowances::Allowed,
 }
 
 // < makes the table x bytes long, at most 65,536.
@@ -309,15 +313,25 @@ fn obey(
     let r = row_of(line[0], label.len() == 0, text::parse(&line[1..bar]));
     let bytes = length_after(s.bytes, r);
     let batch = batches::hand_in(s.batch, r);
-    carry_out(&mut memory[0..bytes], scratch, marks, batch, r);
-    State { bytes, batch }
+    let allowed = allowances::allow(s.allowed, r);
+    carry_out(&mut memory[0..bytes], scratch, marks, batch, allowed, r);
+    State {
+        bytes,
+        batch,
+        allowed,
+    }
 }
 
 fn empty_state() -> State
     ensures { λ r. ⌜ r .bytes ≤ 65536 ⌝ }
 {
     let batch = batches::begun(0);
-    State { bytes: 0, batch }
+    let allowed = allowances::begun();
+    State {
+        bytes: 0,
+        batch,
+        allowed,
+    }
 }
 
 fn obey_all(script: &[u8], memory: &mut [u8], scratch: &mut [u8], marks: &mut [u8; 1024])

@@ -11,6 +11,16 @@ pub fn say_number(words: &[u8], n: u64) {
     io::print_decimal(1, n);
 }
 
+pub fn say_signed(words: &[u8], x: i32) {
+    let u = spot::bias(x);
+    say(words);
+    if u < 2147483648 {
+        say_number(b"-", 2147483648 - u);
+        return;
+    }
+    io::print_decimal(1, u - 2147483648);
+}
+
 pub fn show_number(n: u64) {
     say_number(b": ", n);
     say(b"\n");

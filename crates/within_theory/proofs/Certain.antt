@@ -24,7 +24,6 @@ use Rattle.tree.specs.Top.{topWalk, topTable}
 use Rattle.tree.specs.Sound.{sound}
 use Rattle.tree.proofs.BestFirstSums.{Same}
 use Rattle.tree.proofs.BestFirstParts.{rank-word}
-use Rattle.tree.proofs.Sources.{InTable}
 use Rattle.within_theory.specs.Reading.{reading, certain, givenOf, ceilingOf, foundOnce, readsInAll}
 use Rattle.within_theory.proofs.Edges.{edge, certain-split, given-first, given-many, ceiling-held, ceiling-edge}
 use Rattle.within_theory.proofs.Soundly.{live-small}
@@ -49,10 +48,6 @@ module _ (t : List ℕ) (s : sound t ≡ true) (x1 x2 : ℤ) (k : ℕ) where
   unfolding foundOnce
   within-once a = settled t s x1 x2 k a .once
 
-  -- the blocks read are node blocks of the table
-  pub within-in : (a b : ℕ) → List·Memᴰ b (reading t x1 x2 k a .blocks) → InTable t b
-  within-in a b i = settled t s x1 x2 k a .places b i
-
   -- what is given are the first of the live spots of the range, in Top's order
   pub within-first : (a : ℕ) → let n = length (givenOf k (reading t x1 x2 k a)) in
       givenOf k (reading t x1 x2 k a) ≡ take n (byTop (keep (wants (topQuery x1 x2 0)) (liveSpots t)))
@@ -61,10 +56,6 @@ module _ (t : List ℕ) (s : sound t ≡ true) (x1 x2 : ℤ) (k : ℕ) where
       let live = ranged t x1 x2 in
       given-first r k ∙ ap (take (length (givenOf k r))) (settled t s x1 x2 k a .sure) ∙
       high-enough (edge (r .unread)) (length (givenOf k r)) live (omega (arith, given-many r k, many-sure a))
-
-  -- no more than k
-  pub within-few : (a : ℕ) → length (givenOf k (reading t x1 x2 k a)) ≤ k
-  within-few a = omega (arith, given-many (reading t x1 x2 k a) k)
 
   -- "no other live spot of the range is above it"
   pub within-over : (a : ℕ) (x : Spot) → List·Memᴰ x (keep (wants (topQuery x1 x2 0)) (liveSpots t)) → (List·Memᴰ x (givenOf k (reading t x1 x2 k a)) → ⊥)

@@ -5,7 +5,9 @@ use crate::flat;
 use crate::row::{self, Row};
 use crate::sqlite::Sqlite;
 use spot_reference::{holds, make, plain, Key, Random};
-use spot_table::{add, check, count, format, rebuild, report, report_many, top, withdraw, Range, Spot, BLOCK, MAP, MOST_RANGES, SPOT};
+use spot_table::{
+    add, check, count, format, rebuild, report, report_many, top, top_within, withdraw, Range, Spot, BLOCK, MAP, MOST_RANGES, SPOT,
+};
 use std::collections::{BTreeMap, BTreeSet};
 use std::hint::black_box;
 
@@ -138,6 +140,11 @@ impl Setting {
                 }
             }
         }
+        for (name, places, k) in [(row::TEN, part(10), 10), (row::THOUSAND, all, 1000)] {
+            for (allowance, text) in row::ALLOWANCES.into_iter().filter(|_| k < ranks.len()) {
+                out.push(self.top_within(rounds, format!("{name}, {text}"), places, k as u32, allowance));
+            }
+        }
         out.push(self.count(rounds));
         out.push(self.check(rounds));
         out.extend(self.updates(rounds, random));
@@ -219,6 +226,25 @@ impl Setting {
             None,
         ];
         self.row(format!("top {name}"), n, race(rounds, contenders), [Some(marked), Some(read[0]), Some(read[1])])
+    }
+
+    /// What is certain of a Top after so many node blocks, beside the library's own Top.
+    fn top_within(&self, rounds: usize, name: String, (x1, x2): (i32, i32), k: u32, allowance: u32) -> Row {
+        let (mut map, mut own) = ([0; MAP], [0; MAP]);
+        let [mut a, mut b] = [0; 2].map(|_| vec![0u8; SPOT * k as usize]);
+        let n = top_within(&self.table, x1, x2, k, allowance, &mut a, &mut map).0.result().unwrap() as usize;
+        let all = top(&self.table, x1, x2, k, &mut b, &mut own).result().unwrap() as usize;
+        assert!(a[..SPOT * n] == b[..SPOT * n] && (allowance < u32::MAX || n == all && map == own));
+        let marked = ones(&map);
+        let contenders: Contenders = vec![
+            timed(|| top_within(black_box(&self.table), x1, x2, k, allowance, &mut a, &mut map)),
+            None,
+            None,
+            None,
+            None,
+            timed(|| top(black_box(&self.table), x1, x2, k, &mut b, &mut own)),
+        ];
+        self.row(name, n, race(rounds, contenders), [Some(marked), None, None])
     }
 
     fn count(&self, rounds: usize) -> Row {

@@ -3,12 +3,17 @@
 use crate::clock::{median, Runs};
 use std::fmt::Write;
 
-/// The library comes first; the others stand in the columns behind it, but for the last: the library's own Report for each of many ranges.
-pub const CONTENDERS: [&str; 6] = ["library", "file", "halved", "SQLite", "plain", "single"];
+/// The library comes first; the others stand in the columns behind it, but for the last, another call of the library: a Report for each of many ranges, a Top for one within
+/// an allowance.
+pub const CONTENDERS: [&str; 6] = ["library", "file", "halved", "SQLite", "plain", "own"];
 
 /// The calls with many ranges.
 pub const NARROW: &str = "64 ranges, narrow, 0.1 %";
 pub const WIDE: &str = "64 ranges, wide, 1 %";
+/// What is asked of a Top within an allowance, and the allowances.
+pub const TEN: &str = "top 10 of 10 %";
+pub const THOUSAND: &str = "top 1,000 of all";
+pub const ALLOWANCES: [(u32, &str); 3] = [(4, "4 nodes"), (16, "16 nodes"), (u32::MAX, "any number")];
 
 pub struct Row {
     pub blocks: usize,
@@ -90,7 +95,7 @@ pub const HEAD: &str =
 
 /// Ratios of the library's own calls, where the table has them.
 pub fn within(rows: &[Row]) -> String {
-    let mut s = String::from("| blocks | table | everything ÷ Count | Top of all ÷ everything | Top of all ÷ Top 10,000 | Count, µs a block | Rebuild ÷ sort and copy | 64 narrow ranges in one call ÷ 64 single reports | 64 ranges of 1 % ÷ 64 single reports |\n|---|---|---|---|---|---|---|---|---|\n");
+    let mut s = String::from("| blocks | table | everything ÷ Count | Top of all ÷ everything | Top of all ÷ Top 10,000 | Count, µs a block | Rebuild ÷ sort and copy | 64 narrow ranges in one call ÷ 64 single reports | 64 ranges of 1 % ÷ 64 single reports | Top 10 of 10 % within 4, 16, any number of nodes ÷ Top | Top 1,000 of all within so many ÷ Top |\n|---|---|---|---|---|---|---|---|---|---|---|\n");
     let mut kinds: Vec<(usize, &str)> = rows.iter().map(|r| (r.blocks, r.state)).collect();
     kinds.dedup();
     for (blocks, state) in kinds {
@@ -101,7 +106,9 @@ pub fn within(rows: &[Row]) -> String {
         let each = find("count").and_then(|r| r.touched[0]).zip(count).map_or(String::new(), |(n, ns)| short(ns / 1e3 / n, 2));
         let beside = |call: &str, contender: usize| find(call).map_or(String::new(), |r| r.ratio(contender));
         let tops = [ratio(best, all), ratio(best, time("top 10,000 of all"))].join(" | ");
-        let line = [ratio(all, count), tops, each, beside("rebuild", 4), beside(NARROW, 5), beside(WIDE, 5)].join(" | ");
+        let each_of = |call: &str| ALLOWANCES.map(|(_, text)| beside(&format!("{call}, {text}"), 5)).join(", ");
+        let within = [TEN, THOUSAND].map(|call| if find(call).is_some() { each_of(call) } else { String::new() }).join(" | ");
+        let line = [ratio(all, count), tops, each, beside("rebuild", 4), beside(NARROW, 5), beside(WIDE, 5), within].join(" | ");
         writeln!(s, "| {blocks} | {state} | {line} |").unwrap();
     }
     s

@@ -1,5 +1,5 @@
 //! The spot table's rules read plainly, apart from the proved library and without it: tables in many arrangements, soundness with its reasons ([`sound`], [`faults`]),
-//! what a Report reads, histories of changes, and a walk in plain Rust as a yardstick. For tests, benchmarks and explanations; nothing here is proved.
+//! what a Report and a Top within an allowance read, histories of changes, and a walk in plain Rust as a yardstick. For tests, benchmarks and explanations; nothing here is proved.
 
 mod explain;
 pub mod histories;
@@ -8,6 +8,7 @@ pub mod plain;
 mod range;
 mod tables;
 mod tree;
+mod within;
 pub mod words;
 
 pub use explain::{faults, sound, Fault, Way, MOST_FAULTS, RULES};
@@ -15,3 +16,4 @@ pub use layout::{top_order, Key};
 pub use range::{holds, reported, reported_many, stretches};
 pub use tables::{make, read_by_many, read_by_report, some_spots, Entry, Made, Node, Random};
 pub use tree::{nodes, Placed};
+pub use within::{top_within, Within};

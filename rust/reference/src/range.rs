@@ -14,6 +14,14 @@ pub fn holds(x1: i32, x2: i32, place: i32) -> bool {
     stretches(x1, x2).any(|(first, last)| first <= place && place <= last)
 }
 
+/// Whether a range of identities, from the first up to, and without, the second, has one of the places; None has no end.
+pub(crate) fn meets(x1: i32, x2: i32, from: Option<Key>, to: Option<Key>) -> bool {
+    stretches(x1, x2).any(|(first, last)| {
+        let begin = from.unwrap_or((i32::MIN, i32::MIN)).max((first, i32::MIN));
+        begin <= (last, i32::MAX) && to.map_or(true, |end| begin < end)
+    })
+}
+
 /// What Report(x1, x2, y) gives: stretch after stretch the spots of rank y or more, each in place order.
 pub fn reported(live: &BTreeMap<Key, u32>, x1: i32, x2: i32, y: i32) -> Vec<(Key, u32)> {
     let mut out = vec![];

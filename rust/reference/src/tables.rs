@@ -1,7 +1,7 @@
 //! Tables made in many arrangements, with changes waiting in every inner node, and what a Report reads of them by the scope paper's words.
 
 use crate::layout::{block, by_rank, key, root, track, Key};
-use crate::stretches;
+use crate::range::meets;
 use std::collections::{BTreeMap, BTreeSet};
 
 #[derive(Clone, Debug)]
@@ -284,11 +284,7 @@ pub fn read_by_report(table: &[u8], x1: i32, x2: i32, y: i32) -> BTreeSet<usize>
         for (j, e) in n.entries.iter().enumerate() {
             let clo = if j == 0 { lo } else { e.low };
             let chi = n.entries.get(j + 1).map_or(hi, |f| f.low);
-            let held = |(x1, x2): (i32, i32)| {
-                let first = clo.unwrap_or((i32::MIN, i32::MIN)).max((x1, i32::MIN));
-                first <= (x2, i32::MAX) && chi.map_or(true, |h| first < h)
-            };
-            if e.size > 0 && e.top.unwrap().1 >= q.2 && stretches(q.0, q.1).any(held) {
+            if e.size > 0 && e.top.unwrap().1 >= q.2 && meets(q.0, q.1, clo, chi) {
                 go(table, e.block, clo, chi, q, out);
             }
         }

@@ -79,7 +79,7 @@ pub fn report(path: &Path, wanted: &[Wanted], shape: &Shape) -> Result<()> {
     let Card { table, .. } = read_for_question(path)?;
     if let [one] = wanted {
         let found = table.report(one.range.x1, one.range.x2, one.y)?;
-        return show(&found, shape, &spots_of(one, &found.spots), table.blocks());
+        return show(&found, shape, &spots_of(one, &found.spots), vec![], table.blocks());
     }
     let ranges: Vec<_> = wanted.iter().map(|w| (w.range.x1, w.range.x2, w.y)).collect();
     let (each, blocks) = table.report_many(&ranges)?;
@@ -91,21 +91,45 @@ pub fn report(path: &Path, wanted: &[Wanted], shape: &Shape) -> Result<()> {
     }
     let total = each.iter().map(Vec::len).sum();
     out.push(format!("{} in {}", words::count(total, "spot"), words::count(each.len(), "range")));
-    print(if shape.csv { csv } else { out }, &blocks, shape, table.blocks())
+    print(if shape.csv { csv } else { out }, vec![], &blocks, shape, table.blocks())
 }
 
 fn spots_of(wanted: &Wanted, spots: &[Spot]) -> String {
     format!("{} {} with rank {} or more", words::count(spots.len(), "spot"), wanted.range.words(), wanted.y)
 }
 
-pub fn top(path: &Path, range: &Range, k: u32, shape: &Shape) -> Result<()> {
+pub fn top(path: &Path, range: &Range, k: u32, allow: Option<u32>, shape: &Shape) -> Result<()> {
     let Card { table, .. } = read_for_question(path)?;
-    let found = table.top(range.x1, range.x2, k)?;
+    let (found, notes) = match allow {
+        None => (table.top(range.x1, range.x2, k)?, vec![]),
+        Some(nodes) => {
+            let (found, ceiling) = table.top_within(range.x1, range.x2, k, nodes)?;
+            let rest = rest(&found, k, nodes, ceiling);
+            (found, vec![rest])
+        }
+    };
     let title = format!("the best {} {}", words::count(found.spots.len(), "spot"), range.words());
-    show(&found, shape, &title, table.blocks())
+    show(&found, shape, &title, notes, table.blocks())
 }
 
-fn show(found: &Found, shape: &Shape, title: &str, of: usize) -> Result<()> {
+/// What is known of the spots that are not shown, where k were asked for and so many nodes allowed.
+fn rest(found: &Found, k: u32, allowed: u32, ceiling: i32) -> String {
+    // block 0 is no node
+    let read = found.blocks.len() - 1;
+    let what = if found.spots.len() == k as usize {
+        "these are all that were asked for".into()
+    } else if read < allowed as usize {
+        "nothing else stands there".into()
+    } else if ceiling == i32::MIN {
+        // the ceiling is the same where such a spot is left and where nothing is
+        format!("nothing else stands there, except perhaps with the lowest rank of all, {ceiling}")
+    } else {
+        format!("others may still stand there, up to rank {ceiling}")
+    };
+    format!("{} read: {what}", words::count(read, "node"))
+}
+
+fn show(found: &Found, shape: &Shape, title: &str, notes: Vec<String>, of: usize) -> Result<()> {
     let mut out = vec![];
     if shape.csv {
         out.push(csv_of(&found.spots).trim_end().to_string());
@@ -113,7 +137,7 @@ fn show(found: &Found, shape: &Shape, title: &str, of: usize) -> Result<()> {
         out.push(title.to_string());
         out.extend(listed(&found.spots));
     }
-    print(out, &found.blocks, shape, of)
+    print(out, notes, &found.blocks, shape, of)
 }
 
 /// A line for each spot, under one that names the columns.
@@ -128,15 +152,17 @@ fn listed(spots: &[Spot]) -> Vec<String> {
     out
 }
 
-/// The lines, and the blocks read, where they are asked for.
-fn print(mut out: Vec<String>, blocks: &[usize], shape: &Shape, of: usize) -> Result<()> {
-    let numbers: Vec<String> = blocks.iter().map(|b| b.to_string()).collect();
-    let read = format!("{} read of {}: {}", words::count(blocks.len(), "block"), words::number(of as i128), numbers.join(" "));
-    match (shape.blocks, shape.csv) {
-        (true, false) => out.push(read),
-        // The blocks are no rows of the sheet.
-        (true, true) => problem::print(&read),
-        (false, _) => {}
+/// The lines, what is to be said of them, and the blocks read, where they are asked for.
+fn print(mut out: Vec<String>, mut notes: Vec<String>, blocks: &[usize], shape: &Shape, of: usize) -> Result<()> {
+    if shape.blocks {
+        let numbers: Vec<String> = blocks.iter().map(|b| b.to_string()).collect();
+        notes.push(format!("{} read of {}: {}", words::count(blocks.len(), "block"), words::number(of as i128), numbers.join(" ")));
+    }
+    if shape.csv {
+        // These are no rows of the sheet.
+        notes.iter().for_each(|note| problem::print(note));
+    } else {
+        out.extend(notes);
     }
     say(out.join("\n"))
 }

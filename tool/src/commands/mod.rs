@@ -22,7 +22,7 @@ pub fn run(command: Command) -> Result<()> {
         Command::Export { card, output, force } => ask::export(&card, output.as_deref(), force),
         Command::Diff { card, sheet, csv } => ask::diff(&card, &sheet, csv),
         Command::Report { card, wanted, more, shape } => ask::report(&card, &wanted.and_more(&more), &shape),
-        Command::Top { card, range, k, shape } => ask::top(&card, &range, k, &shape),
+        Command::Top { card, range, k, allow, shape } => ask::top(&card, &range, k, allow, &shape),
         Command::Info { card } => info::info(&card),
         Command::Check { card } => look::check(&card),
         Command::Picture { card, report, top, output, force } => look::picture(&card, report.as_deref(), top.as_deref(), &output, force),

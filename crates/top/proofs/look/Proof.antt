@@ -3,11 +3,10 @@
 use mathlib.Core.Path.{refl, sym, _∙_}
 use native.Mathlib.Omega.{arith}
 use denote.Ref.{now}
-use borrow.Author.Tests.{not-true, not-false}
 use borrow.Author.Needs.{needs}
-use Rattle.tree.proofs.BestFirstTop.{broken-head}
+use borrow.Author.Tests.{not-true, not-false}
 use Rattle.visit.proofs.Roots.{sized-long}
-use Rattle.top.proofs.Sweeps.{root-reads, root-breaks, root-swept, searched-as, searched-broken}
+use Rattle.top.proofs.Sweeps.{head-stuck, root-reads, root-stuck, root-swept, root-allowed, searched-as, searched-broken}
 use Rattle.top.proofs.look.Statement.{statement}
 use Rattle.top.proofs.look.Tie as tie
 
@@ -17,36 +16,40 @@ header-ok-requires c κs = sized-long (now (c .before .before .before .args .t))
 returns : tie.Need-returns
 returns c =
     let a = c .before .before .before .before .before .before .args in
-    searched-broken (c .stops .ensures) refl (λ y1 y2 e. broken-head (now (a .t)) y1 y2 (a .k) (sym (c .before .before .header-ok .ensures) ∙ not-true _ (c .before .if1 .taken)))
+    searched-broken (c .stops .ensures) refl (λ y1 y2 e. head-stuck (now (a .t)) y1 y2 (a .k) (a .most) (sym (c .before .before .header-ok .ensures) ∙ not-true _ (c .before .if1 .taken)))
 
 root-place-requires : tie.Need-root-place-requires
-root-place-requires c κs = (c .before .before .before .before .before .pre .sized, sym (c .before .header-ok .ensures) ∙ not-false _ (c .if1 .left))
+root-place-requires c κs =
+    let p = c .before .before .before .before .before .pre in
+    (p .sized, sym (c .before .header-ok .ensures) ∙ not-false _ (c .if1 .left))
 
 read-node-requires : tie.Need-read-node-requires
 read-node-requires c κs =
     let p = c .before .before .before .before .before .before .before .before .before .before .pre in
-    let at-header = c .before .before .before .before .before .before .header-ok in
     let good = c .before .before .before .before .before .if1 in
+    let at-header = c .before .before .before .before .before .before .header-ok in
     root-reads p (sym (at-header .ensures) ∙ not-false _ (good .left)) (c .before .before .before .before .root-place .ensures)
 
 returns-2 : tie.Need-returns-2
 returns-2 c =
+    let good = c .before .before .before .before .before .before .before .before .before .before .before .before .before .before .if1 in
     let p = c .before .before .before .before .before .before .before .before .before .before .before .before .before .before .before .before .before .before .before .pre in
     let at-header = c .before .before .before .before .before .before .before .before .before .before .before .before .before .before .before .header-ok in
-    let good = c .before .before .before .before .before .before .before .before .before .before .before .before .before .before .if1 in
     let at-root = c .before .before .before .before .before .before .before .before .before .before .before .before .before .root-place in
     let at-read = c .before .before .before .before .before .before .before .before .read-node in
     searched-broken (c .stops2 .ensures) refl
-    (root-breaks p (sym (at-header .ensures) ∙ not-false _ (good .left)) (at-root .ensures) (at-read .ensures) (not-true _ (c .before .if2 .taken)))
+    (root-stuck p (sym (at-header .ensures) ∙ not-false _ (good .left)) (at-root .ensures) (at-read .ensures) (not-true _ (c .before .if2 .taken)))
 
 sweep-requires : tie.Need-sweep-requires
 sweep-requires c κs =
+    let good = c .before .before .before .before .before .before .before .before .before .before .before .before .before .before .before .before .before .before .before .if1 in
+    let done = c .before .before .before .before .before .before .if2 in
     let p = c .before .before .before .before .before .before .before .before .before .before .before .before .before .before .before .before .before .before .before .before .before .before .before .before .pre in
     let at-header = c .before .before .before .before .before .before .before .before .before .before .before .before .before .before .before .before .before .before .before .before .header-ok in
-    let good = c .before .before .before .before .before .before .before .before .before .before .before .before .before .before .before .before .before .before .before .if1 in
+    let valid = sym (at-header .ensures) ∙ not-false _ (good .left) in
     let at-root = c .before .before .before .before .before .before .before .before .before .before .before .before .before .before .before .before .before .before .root-place in
     let at-read = c .before .before .before .before .before .before .before .before .before .before .before .before .before .read-node in
-    let done = c .before .before .before .before .before .before .if2 in
+    let ok = not-false _ (done .left) in
     let rows = at-read .kept .1 .1 .0 in
     record {
       x1 = p .x1;
@@ -56,7 +59,8 @@ sweep-requires c κs =
       few = omega (arith, rows, p .few);
       kidRows = at-read .kept .1 .1 .1 .0 ∙ p .kidRows ∙ sym rows;
       headRows = at-read .kept .1 .1 .1 .1 .0 ∙ p .headRows ∙ sym rows;
-      begun = root-swept p (sym (at-header .ensures) ∙ not-false _ (good .left)) (at-root .ensures) (at-read .ensures) (not-false _ (done .left));
+      allowed = root-allowed p valid (at-root .ensures) (at-read .ensures) ok;
+      begun = root-swept p valid (at-root .ensures) (at-read .ensures) ok;
     }
 
 returns-3 : tie.Need-returns-3

@@ -9,10 +9,14 @@ use Rattle.top.proofs.wide_run.Statement.{statement}
 use Rattle.top.proofs.wide_run.Tie as tie
 
 look-requires : tie.Need-look-requires
-look-requires c κs = look-ready 4096 (omega arith) (omega arith) (c .before .before .before .before .before .before .before .before .pre)
+look-requires c κs =
+    let p = c .before .before .before .before .before .before .before .before .pre in
+    look-ready 4096 (omega arith) (omega arith) p
 
 returns : tie.Need-returns
-returns c = run-wide (searched-as (length-replicate 4096 (replicate {A = ℕ} 2 0)) (c .before .before .before .before .before .before .before .look .ensures))
+returns c =
+    let at-look = c .before .before .before .before .before .before .before .look in
+    run-wide (searched-as (length-replicate 4096 (replicate {A = ℕ} 2 0)) (at-look .ensures))
 
 pub wide-run-spec : {M : Type 1} → statement M
 wide-run-spec =
