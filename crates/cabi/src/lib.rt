@@ -1,7 +1,7 @@
 // The calls for C and Rust: a slice is a pointer and a length, in elements; the answer is number · 2^32 + detail.
 ghost use mathlib.Core.Path.{_≡_};
 ghost use Prim.Native.Nat.{_+_, _*_};
-ghost use Rattle.table.specs.Queries.{ReportPost, ManyPost, TopPost, WithinPost, CountPost, CheckPost};
+ghost use Rattle.table.specs.Queries.{ReportPost, ManyPost, TopPost, TopWithinPost, CountPost, CheckPost};
 ghost use Rattle.table.specs.Updates.{FormatPost, AddPost, WithdrawPost, RebuildPost};
 ghost use Rattle.cabi.specs.Packed.{Packed};
 
@@ -111,7 +111,7 @@ pub extern "C" fn spot_top_within(
     read_map: &mut [u8],
     ceiling: &mut i32,
 ) -> u64
-    ensures { λ r. ⌜ Packed r (λ a. WithinPost x1 x2 k allowance (now (table .entry)) (now (output .entry)) (now («read_map» .entry)) a (now (output .exit)) (now («read_map» .exit)) (now (ceiling .exit))) ⌝ }
+    ensures { λ r. ⌜ Packed r (λ a. TopWithinPost x1 x2 k allowance (now (table .entry)) (now (output .entry)) (now («read_map» .entry)) a (now (output .exit)) (now («read_map» .exit)) (now (ceiling .exit))) ⌝ }
 {
     pack(within::top_within(table, x1, x2, k, allowance, output, read_map, ceiling))
 }

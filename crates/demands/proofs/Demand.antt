@@ -28,7 +28,7 @@ use Rattle.within_theory.proofs.Certain.{within-once}
 use Rattle.ranges.specs.declared.Range.{Range}
 use Rattle.report.specs.Joined.{reportOf}
 use Rattle.table.specs.Calls.{Call, format, add, withdraw, report, top, count, check, rebuild, reportMany, topWithin, queries, Lengths, rangeFits, argumentsFit}
-use Rattle.demands.specs.Model.{Plain, PlainSpot, Reply, begunEmpty, outputAfter, countsAfter, refuse, accept, badTable, badLent, tooMany, handOut, ownReply, reply, told, highest}
+use Rattle.demands.specs.Model.{Plain, PlainSpot, Reply, begunEmpty, outputAfter, countsAfter, refuse, accept, badTable, badLent, tooMany, handOut, ownReply, reply, toldCall, highest}
 use Rattle.demands.specs.TopMarks.{MarksFew}
 use Rattle.demands.specs.History.{Event, MetBy, History, Agreed, FullExactly, MarksExactly, UnionMarked, TopMarksFew, SaidWithin, WithinSaid, TopReached, AllAgreed, Demand3, lengthsIn, certainIn, replyIn, modelAfter}
 use Rattle.tree.proofs.Fresh.{fresh-sized, fresh-sound, fresh-empty}
@@ -133,7 +133,7 @@ gives-highest l x1 x2 k ps = go (badTable (l .table)) (badLent l queries) (ltb (
     go false false false e = refl
 
 -- so it is with an accepted call that the model takes for one
-given-in : (c : Call) (t : List ℕ) (ps : Plain) (e : Event) (x1 x2 : ℤ) (k : ℕ) → told c (certainIn c t) ≡ top x1 x2 k → e .answer ≡ replyIn c t ps e .answer → e .answer .number ≡ 0
+given-in : (c : Call) (t : List ℕ) (ps : Plain) (e : Event) (x1 x2 : ℤ) (k : ℕ) → toldCall c (certainIn c t) ≡ top x1 x2 k → e .answer ≡ replyIn c t ps e .answer → e .answer .number ≡ 0
     → replyIn c t ps e .given ≡ highest x1 x2 k (ps .spots)
 given-in c t ps e x1 x2 k q due z =
     let l = lengthsIn t e in
@@ -155,7 +155,7 @@ top-marks-few c t ps e s same fit a p due x1 x2 k q z =
     let h = top-places x1 x2 k (ap argumentsFit (sym q) ∙ a) in
     let f1 = signed-fits x1 (h .0) in
     let f2 = signed-fits x2 (h .1) in
-    let gives = given-in c t ps e x1 x2 k (ap (λ (d : Call). told d (certainIn d t)) q) due z in
+    let gives = given-in c t ps e x1 x2 k (ap (λ (d : Call). toldCall d (certainIn d t)) q) due z in
     subst (λ (l : List PlainSpot). MarksFew x1 x2 k l t (e .readMap′)) (sym gives)
     (marks-few t s x1 x2 (h .0) (h .1) k (highest x1 x2 k (ps .spots)) (highest-fit x1 x2 f1 f2 k (ps .spots) fit) (top-keyed t s ps same fit x1 x2 f1 f2 k) (e .readMap′)
     (m .promised .exact (top-rises t s x1 x2 k) .marks ∙ map-accepted _ _ _ z))
@@ -163,7 +163,7 @@ top-marks-few c t ps e s same fit a p due x1 x2 k q z =
 -- ---- a Top within an allowance
 
 -- what the model is told fits its 32 bits: no more than k are given
-told-fits : (c : Call) (t : List ℕ) → argumentsFit c ≡ true → argumentsFit (told c (certainIn c t)) ≡ true
+told-fits : (c : Call) (t : List ℕ) → argumentsFit c ≡ true → argumentsFit (toldCall c (certainIn c t)) ≡ true
 unfolding argumentsFit unsigned32
 told-fits format t h = h
 told-fits (add place rank track) t h = h
@@ -199,7 +199,7 @@ module _ (c : Call) (t : List ℕ) (ps : Plain) (e : Event) (s : sound t ≡ tru
   within-said p due x1 x2 k b q z =
       let m : MetBy (topWithin x1 x2 k b) t e = subst (λ (d : Call). MetBy d t e) q p in
       let f = within-places x1 x2 k b q in
-      let gives = given-in c t ps e x1 x2 _ (ap (λ (d : Call). told d (certainIn d t)) q) due z in
+      let gives = given-in c t ps e x1 x2 _ (ap (λ (d : Call). toldCall d (certainIn d t)) q) due z in
       subst (λ (l : List PlainSpot). SaidWithin x1 x2 k b t ps l e) (sym gives) (said-within t s ps same fit x1 x2 (f .0) (f .1) k b e m z)
 
   top-reached : TopReached c t ps e

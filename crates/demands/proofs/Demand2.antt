@@ -44,7 +44,7 @@ use Rattle.ranges.specs.declared.Range.{Range}
 use Rattle.report.specs.Joined.{joined, countsOf}
 use Rattle.table.specs.Calls.{add, withdraw, report, top, reportMany, topWithin, rangeFits, argumentsFit}
 use Rattle.table.specs.Answers.{withScratch, withOutput, withCounts, earlyNumber, unlessRefused, spotsAnswer, outputLeft, countsLeft}
-use Rattle.table.specs.Queries.{walkAnswer, WalkPost, ReportPost, ManyPost, TopPost, WithinPost}
+use Rattle.table.specs.Queries.{walkAnswer, WalkPost, ReportPost, ManyPost, TopPost, TopWithinPost}
 use Rattle.table.specs.Updates.{AddPost, WithdrawPost}
 use Rattle.demands.specs.Model.{PlainSpot, hasIdentity, topBefore, asBytes}
 use Rattle.demands.specs.TopMarks.{MarksFew}
@@ -280,7 +280,7 @@ module _ (t : List ℕ) (g : sound t ≡ true) where
 
   within-given : (x1 x2 : ℤ) → Fits x1 → Fits x2 → (k a : ℕ) (out map : List ℕ) (r : Answer) (out′ map′ : List ℕ) (c : ℤ)
       → earlyNumber (withOutput t out map) (topWithin x1 x2 k a) ≡ 0
-      → WithinPost x1 x2 k a t out map r out′ map′ c
+      → TopWithinPost x1 x2 k a t out map r out′ map′ c
       → (given : List PlainSpot) × WithinOf x1 x2 k t given r c × HandedOut given out r out′
   unfolding of-places
   within-given x1 x2 f1 f2 k a out map r out′ map′ c l p =

@@ -41,7 +41,7 @@ use Rattle.table.specs.Calls.{Call, format, add, withdraw, report, top, count, 
 use Rattle.table.specs.Answers.{withScratch, withOutput, withCounts, earlyNumber, spotsAnswer, outputLeft, unlessRefused, mapLeft, countsLeft}
 use Rattle.table.specs.Queries.{walkAnswer, countAnswer, WalkPost}
 use Rattle.table.specs.Updates.{UpdatePost}
-use Rattle.demands.specs.Model.{told}
+use Rattle.demands.specs.Model.{toldCall}
 use Rattle.demands.specs.History.{Event, MetBy, lengthsIn, certainIn, SecondTable, SameOnSecond, Agreed}
 use Rattle.demands.proofs.Keyed.{KeyReply, keyReply, replyTo, refusedOr, accepted, changed, nextBy, gives, singlyIn, highestBy}
 use Rattle.report.proofs.Reports.{report-blocks, report-length, report-turned, report-same}
@@ -150,7 +150,7 @@ counts-refused (suc n) found counts z = refl
 
 -- the reply of the plain list over keys, told of the table what the model is told
 abbrev pub keyReplyIn : Call → List ℕ → List Spot → Event → KeyReply
-keyReplyIn c t ss e = keyReply (lengthsIn t e) (told c (certainIn c t)) ss
+keyReplyIn c t ss e = keyReply (lengthsIn t e) (toldCall c (certainIn c t)) ss
 
 -- what a step of the history keeps: the claim, and that list as the live spots
 pub record Kept (c : Call) (t : List ℕ) (e : Event) : Type 0 where

@@ -33,7 +33,7 @@ use Rattle.within_theory.proofs.Certain.{within-whole, within-once, within-firs
 use Rattle.within_theory.proofs.Repeated.{within-second, within-none, none-given, none-ceiling}
 use Rattle.table.specs.Calls.{topWithin}
 use Rattle.table.specs.Answers.{ceilingLeft}
-use Rattle.table.specs.Queries.{WithinPost}
+use Rattle.table.specs.Queries.{TopWithinPost}
 use Rattle.demands.specs.Model.{Plain, PlainSpot, topBefore, ofPlaces, chosen, sortBy, highest}
 use Rattle.demands.specs.History.{Event, MetBy, SaidWithin}
 use Rattle.demands.proofs.Orders.{unbiased-rises}
@@ -68,7 +68,7 @@ module _ (t : List ℕ) (g : sound t ≡ true) (x1 x2 : ℤ) (k a : ℕ) where
   reading-second u n h =
       within-second t u x1 x2 k a n (within-whole t g x1 x2 k a) (λ b i. h b (ap (λ (w : Walk). bit (readMap (blocksRead w)) b) walk-is ∙ i))
 
-  pub within-left : (out map : List ℕ) (r : Answer) (out′ map′ : List ℕ) (c : ℤ) → WithinPost x1 x2 k a t out map r out′ map′ c → r .number ≡ 0 → Left x1 x2 k a t r map′ c
+  pub within-left : (out map : List ℕ) (r : Answer) (out′ map′ : List ℕ) (c : ℤ) → TopWithinPost x1 x2 k a t out map r out′ map′ c → r .number ≡ 0 → Left x1 x2 k a t r map′ c
   unfolding ceilingWithin ceilingLeft
   within-left out map r out′ map′ c p z =
       let once = within-once t g x1 x2 k a in

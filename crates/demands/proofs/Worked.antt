@@ -28,7 +28,7 @@ use Rattle.ranges.specs.declared.Range.{Range}
 use Rattle.table.specs.Calls.{Call, format, add, withdraw, report, top, count, check, rebuild, reportMany, topWithin, Lengths, rangeFits, argumentsFit}
 use Rattle.table.specs.Answers.{withOutput, spotsAnswer, outputLeft}
 use Rattle.table.specs.Queries.{walkAnswer, ReportPost}
-use Rattle.demands.specs.Model.{Plain, begunEmpty, eqZ, hasIdentity, placeBefore, topBefore, ofPlaces, ofReport, fromOnward, reported, takenOut, broughtIn, highest, fourBytes, complement, Reply, outputAfter, countsAfter, refuse, accept, badTable, badLent, tooMany, full, handOut, ownReply, reply, told}
+use Rattle.demands.specs.Model.{Plain, begunEmpty, eqZ, hasIdentity, placeBefore, topBefore, ofPlaces, ofReport, fromOnward, reported, takenOut, broughtIn, highest, fourBytes, complement, Reply, outputAfter, countsAfter, refuse, accept, badTable, badLent, tooMany, full, handOut, ownReply, reply, toldCall}
 use Rattle.table.proofs.Answering.{long-enough}
 
 -- a table of this many blocks, a read map and a work area as they should be, an output of this many bytes, and this many counts
@@ -146,9 +146,9 @@ rows =
     -- within an allowance: untold, as a Top; told how many it can give, as a Top for so many, and 5 is about those
     asks (record { before = two; call = within; lent = room 24; number = 0; detail = 2; front = 0 ∷ 0 ∷ 0 ∷ 0 ∷ 0 ∷ 0 ∷ 0 ∷ 7 ∷ 0 ∷ 0 ∷ 0 ∷ 1 ∷ 0 ∷ 0 ∷ 0 ∷ 240 ∷ 0 ∷ 0 ∷ 0 ∷ 7 ∷ 0 ∷ 0 ∷ 0 ∷ 2 ∷ [] }) ∷
     asks (record { before = two; call = within; lent = room 23; number = 5; detail = 2; front = [] }) ∷
-    asks (record { before = two; call = told within 1; lent = room 23; number = 0; detail = 1; front = 0 ∷ 0 ∷ 0 ∷ 0 ∷ 0 ∷ 0 ∷ 0 ∷ 7 ∷ 0 ∷ 0 ∷ 0 ∷ 1 ∷ [] }) ∷
-    asks (record { before = two; call = told within 1; lent = room 11; number = 5; detail = 1; front = [] }) ∷
-    asks (record { before = two; call = told within 0; lent = room 0; number = 0; detail = 0; front = [] }) ∷
+    asks (record { before = two; call = toldCall within 1; lent = room 23; number = 0; detail = 1; front = 0 ∷ 0 ∷ 0 ∷ 0 ∷ 0 ∷ 0 ∷ 0 ∷ 7 ∷ 0 ∷ 0 ∷ 0 ∷ 1 ∷ [] }) ∷
+    asks (record { before = two; call = toldCall within 1; lent = room 11; number = 5; detail = 1; front = [] }) ∷
+    asks (record { before = two; call = toldCall within 0; lent = room 0; number = 0; detail = 0; front = [] }) ∷
     asks (record { before = two; call = within; lent = record { table = 18432; output = 24; readMap = 511; scratch = 0; counts = 0 }; number = 2; detail = 0; front = [] }) ∷
     -- M5: "gives both spots, place 240 first"
     asks (record { before = two; call = report (pos 240) (pos 0) (pos 7); lent = room 24; number = 0; detail = 2; front = 0 ∷ 0 ∷ 0 ∷ 240 ∷ 0 ∷ 0 ∷ 0 ∷ 7 ∷ 0 ∷ 0 ∷ 0 ∷ 2 ∷ 0 ∷ 0 ∷ 0 ∷ 0 ∷ 0 ∷ 0 ∷ 0 ∷ 7 ∷ 0 ∷ 0 ∷ 0 ∷ 1 ∷ [] }) ∷

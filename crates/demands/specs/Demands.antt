@@ -21,7 +21,7 @@ use Rattle.ranges.specs.Ranges.{forEach, countEach}
 use Rattle.ranges.specs.declared.Range.{Range}
 use Rattle.table.specs.Calls.{Call, add, withdraw, report, top, reportMany, topWithin, isQuery, isCounting, hasCeiling, argumentsFit}
 use Rattle.table.specs.Answers.{lengths, earlyNumber, spotsAnswer}
-use Rattle.table.specs.Queries.{HandsOut, HandsOutEach, ReportPost, ManyPost, TopPost, WithinPost}
+use Rattle.table.specs.Queries.{HandsOut, HandsOutEach, ReportPost, ManyPost, TopPost, TopWithinPost}
 use Rattle.table.specs.Updates.{AddPost, WithdrawPost}
 use Rattle.demands.specs.Model.{PlainSpot, hasIdentity, placeBefore, topBefore, asBytes}
 use Rattle.demands.specs.History.{Event, MetBy, SecondTable, SameOnSecond}
@@ -182,7 +182,7 @@ pub record Demand2 : Type 0 where
       CountedOut given rs counts r counts′
   -- request 2026-10
   pub withins : (x1 x2 : ℤ) (k a : ℕ) (t out map : List ℕ) (r : Answer) (out′ map′ : List ℕ) (c : ℤ) → OnSound (topWithin x1 x2 k a) t out map [] []
-      → WithinPost x1 x2 k a t out map r out′ map′ c
+      → TopWithinPost x1 x2 k a t out map r out′ map′ c
       → (given : List PlainSpot) × WithinOf x1 x2 k t given r c × HandedOut given out r out′
 
 -- ---- request 2026-09

@@ -21,9 +21,9 @@ use Rattle.within_theory.specs.Reading.{reading, givenOf, ceilingOf, readsInAll
 use Rattle.ranges.specs.declared.Range.{Range}
 use Rattle.table.specs.Calls.{Call, format, add, withdraw, report, top, count, check, rebuild, reportMany, topWithin, kind, mayChange, isQuery, isCounting, hasCeiling, Lengths, argumentsFit}
 use Rattle.table.specs.Answers.{lengths}
-use Rattle.table.specs.Queries.{ReportPost, ManyPost, TopPost, WithinPost, CountPost, CheckPost}
+use Rattle.table.specs.Queries.{ReportPost, ManyPost, TopPost, TopWithinPost, CountPost, CheckPost}
 use Rattle.table.specs.Updates.{FormatPost, AddPost, WithdrawPost, RebuildPost}
-use Rattle.demands.specs.Model.{Plain, PlainSpot, begunEmpty, Reply, reply, told, outputAfter, countsAfter, listed, ofPlaces, highest}
+use Rattle.demands.specs.Model.{Plain, PlainSpot, begunEmpty, Reply, reply, toldCall, outputAfter, countsAfter, listed, ofPlaces, highest}
 use Rattle.demands.specs.TopMarks.{MarksFew}
 
 -- a call as it happened: what it was lent beside the table, what it answered, and all that it left. "Outputs, maps and work areas may be of any length
@@ -53,7 +53,7 @@ Promised count t e = CountPost t (e .answer)
 Promised check t e = CheckPost t (e .answer)
 Promised rebuild t e = RebuildPost t (e .scratch) (e .answer) (e .table′) (e .scratch′)
 Promised (reportMany rs) t e = ManyPost rs t (e .counts) (e .output) (e .readMap) (e .answer) (e .counts′) (e .output′) (e .readMap′)
-Promised (topWithin x1 x2 k a) t e = WithinPost x1 x2 k a t (e .output) (e .readMap) (e .answer) (e .output′) (e .readMap′) (e .ceiling′)
+Promised (topWithin x1 x2 k a) t e = TopWithinPost x1 x2 k a t (e .output) (e .readMap) (e .answer) (e .output′) (e .readMap′) (e .ceiling′)
 
 -- the call met its post-condition on the table t; calls that are lent the table to be read leave it as it was
 pub record MetBy (c : Call) (t : List ℕ) (e : Event) : Type 0 where
@@ -84,7 +84,7 @@ certainIn (topWithin x1 x2 k a) t = length (givenOf k (reading t x1 x2 k a))
 
 -- the model's reply to it, and what the model holds afterwards. That number is all that the model is told of the table.
 abbrev pub replyIn : Call → List ℕ → Plain → Event → Reply
-replyIn c t ps e = reply (lengthsIn t e) (told c (certainIn c t)) ps
+replyIn c t ps e = reply (lengthsIn t e) (toldCall c (certainIn c t)) ps
 
 abbrev pub modelAfter : List ℕ → Plain → Event → Plain
 modelAfter t ps e = replyIn (e .call) t ps e .next

@@ -182,14 +182,14 @@ reply l c ps =
 
 -- request 2026-10: how many spots a Top within an allowance can give hangs on the arrangement, of which the list knows nothing. Told that number, the list answers
 -- as to a Top for so many; untold, as to a Top with no allowance. Every other call is as it is.
-abbrev pub told : Call → ℕ → Call
-told format n = format
-told (add place rank track) n = add place rank track
-told (withdraw place rank) n = withdraw place rank
-told (report x1 x2 y) n = report x1 x2 y
-told (top x1 x2 k) n = top x1 x2 k
-told count n = count
-told check n = check
-told rebuild n = rebuild
-told (reportMany rs) n = reportMany rs
-told (topWithin x1 x2 k a) n = top x1 x2 n
+abbrev pub toldCall : Call → ℕ → Call
+toldCall format n = format
+toldCall (add place rank track) n = add place rank track
+toldCall (withdraw place rank) n = withdraw place rank
+toldCall (report x1 x2 y) n = report x1 x2 y
+toldCall (top x1 x2 k) n = top x1 x2 k
+toldCall count n = count
+toldCall check n = check
+toldCall rebuild n = rebuild
+toldCall (reportMany rs) n = reportMany rs
+toldCall (topWithin x1 x2 k a) n = top x1 x2 n

@@ -21,7 +21,7 @@ use Rattle.ranges.specs.declared.Range.{Range}
 use Rattle.ranges.specs.declared.Batch.{Batch}
 use Rattle.ranges.proofs.Batches.{batch-has}
 use Rattle.table.specs.Calls.{Call, format, add, withdraw, report, top, count, check, rebuild, reportMany, topWithin, kind, takesScratch, mayChange, isQuery, isCounting, hasCeiling, argumentsFit}
-use Rattle.table.specs.Queries.{ReportPost, ManyPost, TopPost, WithinPost, CountPost, CheckPost}
+use Rattle.table.specs.Queries.{ReportPost, ManyPost, TopPost, TopWithinPost, CountPost, CheckPost}
 use Rattle.table.specs.Updates.{FormatPost, AddPost, WithdrawPost, RebuildPost}
 use Rattle.demands.specs.History.{Promised}
 use Rattle.within.specs.declared.Said.{Said}
@@ -171,7 +171,7 @@ module _ {s : List ℕ} {at n : ℕ} {x y : ℤ} {k : ℕ} (row : Row s at n x y
             p
 
       -- a Top within an allowance, the fourth argument; it answers with its ceiling
-      pub made-within : (r : Said) (a : ℕ) (m′ out′ : List ℕ) → 8 < n → a ≡ be 4 s (at + 16) → WithinPost x′ y′ k a t out m (r .answer) out′ m′ (r .ceiling)
+      pub made-within : (r : Said) (a : ℕ) (m′ out′ : List ℕ) → 8 < n → a ≡ be 4 s (at + 16) → TopWithinPost x′ y′ k a t out m (r .answer) out′ m′ (r .ceiling)
           → Called t (eventOf made w m v out r t w m′ v out′)
       unfolding argumentsFit
       made-within r a m′ out′ e ea p =

@@ -8,7 +8,7 @@ use lib.ListN.{length, take, drop}
 use Rattle.block.specs.declared.Answer.{Answer}
 use Rattle.tree.specs.Sound.{sound}
 use Rattle.table.specs.Calls.{Call, format, add, withdraw, report, top, count, check, rebuild, reportMany, topWithin, kind, isQuery, Lengths}
-use Rattle.demands.specs.Model.{PlainSpot, Plain, Reply, asBytes, outputAfter, refuse, accept, badTable, badLent, tooMany, full, ownReply, reply, told, fourBytes, complement}
+use Rattle.demands.specs.Model.{PlainSpot, Plain, Reply, asBytes, outputAfter, refuse, accept, badTable, badLent, tooMany, full, ownReply, reply, toldCall, fourBytes, complement}
 use Rattle.demands.specs.History.{Event, History, AllAgreed, certainIn, replyIn, modelAfter}
 use Rattle.script.specs.Script.{Step, lentTo, logAfter}
 use Rattle.script.specs.Run.{entry, tellings, RunState, heldAfter, passed, outputOf, InTurn, AllInTurn, entries}
@@ -41,7 +41,7 @@ hands-none l c ps q =
     (unless-refused (badLent l (kind c)) 2 0 ps _ (unless-refused (tooMany (kind c)) 6 0 ps (ownReply l c ps) (own-none l c ps q)))
 
 -- a query stays one when the model is told what hangs on the arrangement
-told-query : (c : Call) (n : ℕ) → isQuery (told c n) ≡ isQuery c
+told-query : (c : Call) (n : ℕ) → isQuery (toldCall c n) ≡ isQuery c
 told-query format n = refl
 told-query (add place rank track) n = refl
 told-query (withdraw place rank) n = refl
@@ -82,10 +82,10 @@ module _ (l : Lengths) where
 
     -- the model's reply to its step
     abbrev told-reply : Reply
-    told-reply = reply (lentTo c l) (told (c .call) certain) ps
+    told-reply = reply (lentTo c l) (toldCall (c .call) certain) ps
 
     reply-is : replyIn (e .call) (h .table) ps e ≡ told-reply
-    reply-is = ap₂ (λ (k : Lengths) (x : Call). reply k (told x certain) ps) (i .lent) (i .call)
+    reply-is = ap₂ (λ (k : Lengths) (x : Call). reply k (toldCall x certain) ps) (i .lent) (i .call)
 
     -- the output of any call is left as the model says
     output-left : (isQuery (e .call) ≡ true → e .output′ ≡ outputAfter (replyIn (e .call) (h .table) ps e) (e .output))
@@ -96,7 +96,7 @@ module _ (l : Lengths) where
         go true q = p q
         go false q =
             i .called .outputKept q
-            ∙ sym (output-stays (replyIn (e .call) (h .table) ps e) (e .output) (hands-none _ (told (e .call) certain) ps (told-query (e .call) certain ∙ q)))
+            ∙ sym (output-stays (replyIn (e .call) (h .table) ps e) (e .output) (hands-none _ (toldCall (e .call) certain) ps (told-query (e .call) certain ∙ q)))
 
     -- the model's entry for its step
     due : List ℕ

@@ -13,7 +13,7 @@ use Rattle.octets.specs.Lists.{records}
 use Rattle.ranges.specs.Ranges.{rangesIn}
 use Rattle.ranges.specs.declared.Range.{Range}
 use Rattle.table.specs.Calls.{Call, format, add, withdraw, report, top, count, check, rebuild, reportMany, topWithin, Lengths}
-use Rattle.demands.specs.Model.{Plain, reply, told, outputAfter, fourBytes, complement}
+use Rattle.demands.specs.Model.{Plain, reply, toldCall, outputAfter, fourBytes, complement}
 
 -- a call is 36 bytes; fewer at the end are no call
 abbrev pub callsIn : List ℕ → ℕ
@@ -85,7 +85,7 @@ abbrev pub logAfter : Lengths → List Step → List Telling → Plain → List 
 logAfter l [] xs ps log = log
 logAfter l (c ∷ cs) [] ps log = log
 logAfter l (c ∷ cs) (x ∷ xs) ps log =
-    let r = reply (lentTo c l) (told (c .call) (x .certain)) ps in
+    let r = reply (lentTo c l) (toldCall (c .call) (x .certain)) ps in
     let output = take (l .output) (drop 12 log) in
     fourBytes (r .answer .number) ++ fourBytes (r .answer .detail) ++ fourBytes (complement (x .ceiling)) ++
     (outputAfter r (take (c .output) output) ++ drop (c .output) output) ++

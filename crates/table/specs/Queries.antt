@@ -95,9 +95,9 @@ TopPost x1 x2 k t out map r out′ map′ =
     map′
 
 -- request 2026-10: "the guide allows Top, in a call of its own with Top's refusals, a 32-bit number of node blocks". The reading order, what is given and the ceiling
--- are `reading`, `givenOf` and `ceilingOf`; 5 is about the spots that this call gives. Where an identity is found twice, which only an unsound table has, the
--- choice between the two, and the ceiling, are free.
-pub record WithinPost (x1 x2 : ℤ) (k a : ℕ) (t out map : List ℕ) (r : Answer) (out′ map′ : List ℕ) (c : ℤ) : Type 0 where
+-- are `reading`, `givenOf` and `ceilingOf`; 5 is about the spots that this call gives. Where an identity is found twice, which only an unsound table has, no
+-- more is promised than `SearchPost` says of every table.
+pub record TopWithinPost (x1 x2 : ℤ) (k a : ℕ) (t out map : List ℕ) (r : Answer) (out′ map′ : List ℕ) (c : ℤ) : Type 0 where
   pub search : SearchPost (topWithin x1 x2 k a) x1 x2
       (foundOnce t x1 x2 k a ≡ true → QueryPost (topWithin x1 x2 k a) (withinTable t x1 x2 k a) t out map r out′ map′)
       t

@@ -15,7 +15,7 @@ use Rattle.spot.specs.declared.Query.{Query}
 use Rattle.spot.proofs.Stored.{length-spotsBytes}
 use Rattle.top.specs.Runs.{Halted, WithinFront}
 use Rattle.top.specs.declared.TopTally.{TopTally}
-use Rattle.within.specs.Within.{HeldFew, Given, Delivered}
+use Rattle.within.specs.Within.{HeldFew, GivenOut, Delivered}
 
 -- a search at its end, which gave n spots
 module _ {t : List ℕ} {x1 x2 : ℤ} {k most room : ℕ} {base seen held : List ℕ} {m c : ℕ} (n : ℕ) (h : Halted t x1 x2 k most room base seen held m c) (e : n ≡ length (h .given)) where
@@ -27,7 +27,7 @@ module _ {t : List ℕ} {x1 x2 : ℤ} {k most room : ℕ} {base seen held : List
       ∙ ap (λ (i : ℕ). spotsBytes g ++ drop (12 * i) base) (sym e)
 
   -- they stand at the front of the output
-  given-by : (out out′ : List ℕ) → out′ ≡ spotsBytes (h .given) ++ drop (12 * n) out → Given t x1 x2 k most n out seen out′
+  given-by : (out out′ : List ℕ) → out′ ≡ spotsBytes (h .given) ++ drop (12 * n) out → GivenOut t x1 x2 k most n out seen out′
   given-by out out′ o =
       record {
         given = h .given;

@@ -28,9 +28,9 @@ use Rattle.within_theory.proofs.Following.{Sure}
 use Rattle.within_theory.proofs.Repeated.{within-none, none-given, none-ceiling}
 use Rattle.table.specs.Calls.{Call, topWithin}
 use Rattle.table.specs.Answers.{earlyNumber, ceilingLeft}
-use Rattle.table.specs.Queries.{QueryPost, SearchPost, WithinPost}
+use Rattle.table.specs.Queries.{QueryPost, SearchPost, TopWithinPost}
 use Rattle.table.proofs.Searching.{Serves, search-short, search-lent, search-broken, search-many, search-given}
-use Rattle.within.specs.Within.{told, Saying, NoneSaid, Given}
+use Rattle.within.specs.Within.{saidOf, Saying, NoneSaid, GivenOut}
 use Rattle.within.specs.declared.Said.{Said}
 
 -- the highest rank
@@ -48,9 +48,9 @@ left-none zero c h = absurd (h refl)
 left-none (suc n) c h = refl
 
 -- the ceiling as it is held
-pub ceiling-as : {x1 x2 : ℤ} {k a : ℕ} {t out map : List ℕ} {r : Answer} {out′ map′ : List ℕ} {c d : ℤ} → c ≡ d → WithinPost x1 x2 k a t out map r out′ map′ c
-    → WithinPost x1 x2 k a t out map r out′ map′ d
-ceiling-as {x1} {x2} {k} {a} {t} {out} {map} {r} {out′} {map′} e v = subst (λ (z : ℤ). WithinPost x1 x2 k a t out map r out′ map′ z) e v
+pub ceiling-as : {x1 x2 : ℤ} {k a : ℕ} {t out map : List ℕ} {r : Answer} {out′ map′ : List ℕ} {c d : ℤ} → c ≡ d → TopWithinPost x1 x2 k a t out map r out′ map′ c
+    → TopWithinPost x1 x2 k a t out map r out′ map′ d
+ceiling-as {x1} {x2} {k} {a} {t} {out} {map} {r} {out′} {map′} e v = subst (λ (z : ℤ). TopWithinPost x1 x2 k a t out map r out′ map′ z) e v
 
 -- the test for a call that reads no node
 pub none-asked : (k a : ℕ) → eqb k 0 || eqb a 0 ≡ true → (k ≡ 0) ⊎ (a ≡ 0)
@@ -81,16 +81,16 @@ module _ (x1 x2 : ℤ) (k a : ℕ) (t out map : List ℕ) where
   Search r = SearchPost call x1 x2 (once → QueryPost call gives t out map r out map) t out map r out map
 
   -- refused
-  refused-as : (n d : ℕ) (s : Said) → s ≡ told (suc n) d (pos 0) → Search (answer (suc n) d) → Saying x1 x2 k a t out map s out map
+  refused-as : (n d : ℕ) (s : Said) → s ≡ saidOf (suc n) d (pos 0) → Search (answer (suc n) d) → Saying x1 x2 k a t out map s out map
   unfolding ceilingLeft
   refused-as n d s e v =
       subst (λ (z : Said). Saying x1 x2 k a t out map z out map) (sym e) (record { search = v; ceiling = λ h. refl; refused = λ h. refl })
 
-  pub within-short : (s : Said) → tableSized (length t) ≡ false → s ≡ told 1 0 (pos 0) → Saying x1 x2 k a t out map s out map
+  pub within-short : (s : Said) → tableSized (length t) ≡ false → s ≡ saidOf 1 0 (pos 0) → Saying x1 x2 k a t out map s out map
   within-short s e h = refused-as 0 0 s h (search-short call refl refl x1 x2 once gives t out map (answer 1 0) e refl)
 
   module _ (e : tableSized (length t) ≡ true) where
-    pub within-lent : (s : Said) → eqb (length map) 512 ≡ false → s ≡ told 2 0 (pos 0) → Saying x1 x2 k a t out map s out map
+    pub within-lent : (s : Said) → eqb (length map) 512 ≡ false → s ≡ saidOf 2 0 (pos 0) → Saying x1 x2 k a t out map s out map
     within-lent s f h = refused-as 1 0 s h (search-lent call refl refl x1 x2 once gives t out map (answer 2 0) e f refl)
 
     module _ (f : eqb (length map) 512 ≡ true) where
@@ -99,19 +99,19 @@ module _ (x1 x2 : ℤ) (k a : ℕ) (t out map : List ℕ) where
       walk-of b h = ap (λ (z : Bool). cond z (walked (givenOf k ended) (ended .blocks)) broken) h
 
       -- a rule is broken
-      pub within-broken : (s : Said) → ended .whole ≡ false → s ≡ told 3 0 (pos 0) → Saying x1 x2 k a t out map s out map
+      pub within-broken : (s : Said) → ended .whole ≡ false → s ≡ saidOf 3 0 (pos 0) → Saying x1 x2 k a t out map s out map
       within-broken s w h =
           refused-as 2 0 s h (search-broken call refl refl x1 x2 once gives t out map (answer 3 0) e f (ap isBroken (walk-of false w)) refl)
 
       -- more spots than the output holds
-      pub within-many : (s : Said) (n : ℕ) → ended .whole ≡ true → n ≡ length (givenOf k ended) → length out / 12 < n → s ≡ told 5 n (pos 0)
+      pub within-many : (s : Said) (n : ℕ) → ended .whole ≡ true → n ≡ length (givenOf k ended) → length out / 12 < n → s ≡ saidOf 5 n (pos 0)
           → Saying x1 x2 k a t out map s out map
       within-many s n w m l h =
           let is = walk-of true w in
           refused-as 4 n s h
           (search-many call refl refl x1 x2 once gives t out map (answer 5 n) e f n (ap isBroken is) (m ∙ sym (ap (λ (v : Walk). length (spots v)) is)) l refl)
 
-      serves : {n : ℕ} {seen′ out′ : List ℕ} (g : Given t x1 x2 k a n out seen′ out′) → Serves t x1 x2 once gives (g .given) (g .blocks)
+      serves : {n : ℕ} {seen′ out′ : List ℕ} (g : GivenOut t x1 x2 k a n out seen′ out′) → Serves t x1 x2 once gives (g .given) (g .blocks)
       serves g =
           let is = walk-of true (g .sure .whole) in
           record {
@@ -124,8 +124,8 @@ module _ (x1 x2 : ℤ) (k a : ℕ) (t out map : List ℕ) where
           }
 
       -- accepted: the spots given, and the ceiling c of a search for the same
-      pub within-given : (s : Said) (n c : ℕ) (seen′ out′ map′ : List ℕ) {given : List Spot} {blocks : List ℕ} → Given t x1 x2 k a n out seen′ out′ → Sure t x1 x2 k a given blocks c
-          → n ≤ length out / 12 → map′ ≡ seen′ → s ≡ told 0 n (unbiased c)
+      pub within-given : (s : Said) (n c : ℕ) (seen′ out′ map′ : List ℕ) {given : List Spot} {blocks : List ℕ} → GivenOut t x1 x2 k a n out seen′ out′ → Sure t x1 x2 k a given blocks c
+          → n ≤ length out / 12 → map′ ≡ seen′ → s ≡ saidOf 0 n (unbiased c)
           → Saying x1 x2 k a t out map s out′ map′
       unfolding ceilingLeft ceilingWithin
       within-given s n c seen′ out′ map′ g sure l m h =

@@ -18,16 +18,16 @@ use Rattle.tree.proofs.Sources.{Source, InTable}
 use Rattle.within_theory.proofs.Following.{Sure}
 use Rattle.top.specs.Runs.{HaltedOn}
 use Rattle.table.specs.Answers.{ceilingLeft}
-use Rattle.table.specs.Queries.{TopPost, WithinPost}
+use Rattle.table.specs.Queries.{TopPost, TopWithinPost}
 use Rattle.within.specs.declared.Said.{Said}
 
 -- an answer with a ceiling
-abbrev pub told : ℕ → ℕ → ℤ → Said
-told number detail c = record { answer = answer number detail; ceiling = c }
+abbrev pub saidOf : ℕ → ℕ → ℤ → Said
+saidOf number detail c = record { answer = answer number detail; ceiling = c }
 
 -- the promise, with the ceiling beside the answer
 abbrev pub Saying : ℤ → ℤ → ℕ → ℕ → List ℕ → List ℕ → List ℕ → Said → List ℕ → List ℕ → Type 0
-Saying x1 x2 k a t out map r out′ map′ = WithinPost x1 x2 k a t out map (r .answer) out′ map′ (r .ceiling)
+Saying x1 x2 k a t out map r out′ map′ = TopWithinPost x1 x2 k a t out map (r .answer) out′ map′ (r .ceiling)
 
 -- as a Top of none, with the highest rank as the ceiling where it is accepted
 pub record NoneSaid (x1 x2 : ℤ) (t out map : List ℕ) (r : Said) (out′ map′ : List ℕ) : Type 0 where
@@ -35,7 +35,7 @@ pub record NoneSaid (x1 x2 : ℤ) (t out map : List ℕ) (r : Said) (out′ map�
   pub ceiling : r .ceiling ≡ ceilingLeft (r .answer .number) (pos 2147483647)
 
 -- the lengths are right, and neither number is 0
-pub record Lent (t map : List ℕ) (k a : ℕ) : Type 0 where
+pub record Askable (t map : List ℕ) (k a : ℕ) : Type 0 where
   pub sized : tableSized (length t) ≡ true
   pub mapped : length map ≡ 512
   pub some : 0 < k
@@ -57,7 +57,7 @@ pub record HeldFew (t : List ℕ) (q : Query) (k most : ℕ) (seen few out : Lis
   pub halted : HaltedOn t x1 x2 k most 512 base seen few n ceiling
 
 -- the n spots of such a search stand at the front of the output, and the map is made
-pub record Given (t : List ℕ) (x1 x2 : ℤ) (k most n : ℕ) (out seen′ out′ : List ℕ) : Type 0 where
+pub record GivenOut (t : List ℕ) (x1 x2 : ℤ) (k most n : ℕ) (out seen′ out′ : List ℕ) : Type 0 where
   pub given : List Spot
   pub blocks : List ℕ
   pub ceiling : ℕ
@@ -69,4 +69,4 @@ pub record Given (t : List ℕ) (x1 x2 : ℤ) (k most n : ℕ) (out seen′ out�
   pub map : seen′ ≡ readMap blocks
 
 pub record Delivered (t : List ℕ) (q : Query) (k most n : ℕ) (out seen′ out′ : List ℕ) : Type 0 where
-  pub ends : (x1 x2 : ℤ) → q ≡ topQuery x1 x2 0 → Given t x1 x2 k most n out seen′ out′
+  pub ends : (x1 x2 : ℤ) → q ≡ topQuery x1 x2 0 → GivenOut t x1 x2 k most n out seen′ out′

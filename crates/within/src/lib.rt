@@ -1,7 +1,7 @@
 // Request 2026-10: a Top that is allowed so many node blocks, and the ceiling of what it leaves open. No public function has a `requires`.
 ghost use mathlib.Core.Path.{_≡_};
-ghost use Rattle.table.specs.Queries.{WithinPost};
-ghost use Rattle.within.specs.Within.{told, NoneSaid, Lent, Saying, HeldFew, Delivered};
+ghost use Rattle.table.specs.Queries.{TopWithinPost};
+ghost use Rattle.within.specs.Within.{saidOf, NoneSaid, Askable, Saying, HeldFew, Delivered};
 
 // An answer, and the ceiling after it.
 pub struct Said {
@@ -10,7 +10,7 @@ pub struct Said {
 }
 
 fn tell(number: u32, detail: u32, ceiling: i32) -> Said
-    ensures { λ r. ⌜ r ≡ told number detail ceiling ⌝ }
+    ensures { λ r. ⌜ r ≡ saidOf number detail ceiling ⌝ }
 {
     Said {
         answer: block::Answer { number, detail },
@@ -67,7 +67,7 @@ fn say_some(
     output: &mut [u8],
     read_map: &mut [u8],
 ) -> Said
-    requires { ⌜ Lent (now table) (now «read_map») k allowance ⌝ }
+    requires { ⌜ Askable (now table) (now «read_map») k allowance ⌝ }
     ensures { λ r. ⌜ Saying x1 x2 k allowance (now (table .entry)) (now (output .entry)) (now («read_map» .entry)) r (now (output .exit)) (now («read_map» .exit)) ⌝ }
 {
     let q = spot::top_query(x1, x2, 0);
@@ -140,7 +140,7 @@ pub fn top_within(
     read_map: &mut [u8],
     ceiling: &mut i32,
 ) -> block::Answer
-    ensures { λ r. ⌜ WithinPost x1 x2 k allowance (now (table .entry)) (now (output .entry)) (now («read_map» .entry)) r (now (output .exit)) (now («read_map» .exit)) (now (ceiling .exit)) ⌝ }
+    ensures { λ r. ⌜ TopWithinPost x1 x2 k allowance (now (table .entry)) (now (output .entry)) (now («read_map» .entry)) r (now (output .exit)) (now («read_map» .exit)) (now (ceiling .exit)) ⌝ }
 {
     let said = say(table, x1, x2, k, allowance, output, read_map);
     let left = said.ceiling;

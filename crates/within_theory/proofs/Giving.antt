@@ -2,7 +2,7 @@
 -- Assumes nothing.
 use mathlib.Core.Path.{_≡_, refl, ap, sym, subst, _∙_}
 use mathlib.Core.Logic.{⊎-elim}
-use mathlib.Core.Bool.{Bool, true, false, _&&_}
+use mathlib.Core.Bool.{_&&_, and-false}
 use mathlib.Core.List.{List, [], _∷_, _++_, append-nil, append-assoc, List·Memᴰ, List·Memᴰ·head, List·Memᴰ·tail, List·Memᴰ·not-nil, List·Memᴰ·cases-cons, List·Memᴰ·append-cases, Memᴰ·append-left, Memᴰ·append-right}
 use Prim.Native.Nat.{ℕ, _+_, _≤_, _<_}
 use native.Mathlib.Omega.{arith}
@@ -80,9 +80,5 @@ ranks-first y z found h =
     both : (x : Spot) → ofRank y x ≡ ofRank z x && ofRank y x
     both x =
         ⊎-elim (λ (l : y ≤ rankOf (x .key)). rw (le-leb y (rankOf (x .key)) l, le-leb z (rankOf (x .key)) (omega arith)))
-        (λ (l : rankOf (x .key) < y). rw (lt-leb y (rankOf (x .key)) l) (sym (none (ofRank z x))))
+        (λ (l : rankOf (x .key) < y). rw (lt-leb y (rankOf (x .key)) l) (sym (and-false (ofRank z x))))
         (less-or-not y (rankOf (x .key)))
-      where
-        none : (b : Bool) → b && false ≡ false
-        none true = refl
-        none false = refl

@@ -2,7 +2,7 @@
 -- Assumes nothing.
 use mathlib.Core.Path.{_≡_, refl, ap, sym, _∙_}
 use mathlib.Core.Logic.{⊎-elim}
-use mathlib.Core.Bool.{Bool, true, false, cond, not, _&&_, _||_}
+use mathlib.Core.Bool.{Bool, true, false, cond, not, _&&_, _||_, or-true}
 use mathlib.Core.List.{List, [], _∷_, _++_, List·Memᴰ, List·Memᴰ·not-nil}
 use Prim.Native.Nat.{ℕ, zero, suc, _+_, _-_, _≤_, _<_}
 use native.Mathlib.Omega.{arith}
@@ -93,20 +93,11 @@ broken-stopped k s h = rw h
 
 pub empty-stopped : (k : ℕ) (s : Reading) → s .unread ≡ [] → stopped k s ≡ true
 unfolding stopped
-empty-stopped k s h = ap (λ (us : List Pending). not (s .whole) || (isEmpty us || leb k (length (certain s)))) h ∙ last (not (s .whole))
-  where
-    last : (b : Bool) → b || true ≡ true
-    last true = refl
-    last false = refl
+empty-stopped k s h = ap (λ (us : List Pending). not (s .whole) || (isEmpty us || leb k (length (certain s)))) h ∙ or-true (not (s .whole))
 
 pub enough-stopped : (k : ℕ) (s : Reading) → k ≤ length (certain s) → stopped k s ≡ true
 unfolding stopped
-enough-stopped k s h = rw (le-leb k (length (certain s)) h) (last (not (s .whole)) (isEmpty (s .unread)))
-  where
-    last : (b c : Bool) → b || (c || true) ≡ true
-    last true c = refl
-    last false true = refl
-    last false false = refl
+enough-stopped k s h = rw (le-leb k (length (certain s)) h, or-true (isEmpty (s .unread))) (or-true (not (s .whole)))
 
 pub not-stopped : (k : ℕ) (s : Reading) → s .whole ≡ true → isEmpty (s .unread) ≡ false → length (certain s) < k → stopped k s ≡ false
 unfolding stopped

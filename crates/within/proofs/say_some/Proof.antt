@@ -1,6 +1,6 @@
 -- `within::say_some` meets its contract: a rule is broken, too many spots, or given with the ceiling that the search says.
 -- Assumes nothing.
-use Rattle.within.specs.Within.{told}
+use Rattle.within.specs.Within.{saidOf}
 use Rattle.within.proofs.Saying.{within-broken, within-many, within-given}
 use Rattle.table.proofs.Topping.{top-asks}
 use Rattle.table.proofs.Answering.{map-is}
@@ -125,7 +125,7 @@ returns-3 c =
     (ended at-unbias .halted .sure)
     (at-room .if2 .left)
     (map-is _ (now (a .read-map)) _ (at-deliver .deliver .kept .1 .0 ∙ mapped at-run) (start at-run .pre .mapped) (at-copy .copy .ensures))
-    (c .tell3 .ensures ∙ ap (told 0 (at-run .run-within .result .spots)) ceiling)
+    (c .tell3 .ensures ∙ ap (saidOf 0 (at-run .run-within .result .spots)) ceiling)
 
 pub say-some-spec : {M : Type 1} → statement M
 say-some-spec =
