@@ -79,6 +79,9 @@ int main(void) {
     answer = spot_report(table, sizeof table, -200, 700, 0, output, SPOT_BYTES, read_map, sizeof read_map);
     printf("with room for one: %" PRIu32 ", %s (%" PRIu32 ")\n", spot_number(answer), spot_error_text(spot_number(answer)), spot_detail(answer));
 
+    answer = spot_add(table, sizeof table, work, sizeof work, SPOT_HIGHEST_PLACE + 1, 5, 5);
+    printf("a spot one centimetre too far: %" PRIu32 ", %s\n", spot_number(answer), spot_error_text(spot_number(answer)));
+
     n = accepted("check", spot_check(table, sizeof table));
     printf("%" PRIu32 " live spots, %s\n", accepted("count", spot_count(table, sizeof table)), n ? "sound" : "not sound");
     return n ? 0 : 1;

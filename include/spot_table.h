@@ -10,13 +10,17 @@
  *   - The ceiling of spot_top_within is a result: one number, in no lent slice, which every call sets. Its pointer is not NULL.
  *
  * The answer is number * 2^32 + detail (spot_number, spot_detail). Number 0 is an accepted call; detail is the number of spots for spot_report, spot_report_many, spot_top,
- * spot_top_within and spot_count, 1 or 0 for spot_check's yes or no, else 0. The other numbers are refusals (enum spot_error), asked in their order, but 6 after 2 and before 3.
- * After a refusal every lent byte is as it was, but for a work area after 3: its first table-length bytes are zero then, as after an accepted call.
+ * spot_top_within and spot_count, 1 or 0 for spot_check's yes or no, else 0. The other numbers are refusals (enum spot_error), asked in their order, but 6 and 9 after 2 and
+ * before 3. After a refusal every lent byte is as it was, but for a work area after 3: its first table-length bytes are zero then, as after an accepted call.
+ *
+ * Places lie from SPOT_LOWEST_PLACE to SPOT_HIGHEST_PLACE, in centimetres. spot_add and spot_withdraw refuse another one with 9, and one that is stored in a table breaks a rule.
+ * So every spot that an accepted call gives has its place there, whatever the table holds, and the difference of two of these places fits int32_t. The ends of a range may be any
+ * numbers.
  *
  * The archive is for x86-64 Linux. Of the C library it needs memcpy, memmove, memset and memcmp at most.
  *
  * The format of a table is version 1 (byte 4 of block 0). Tables of version 1 stay readable and writable by all later versions of this library; another layout would
- * have another version number, which this library refuses with 3.
+ * have another version number, which this library refuses with 3. A place outside the limits that 0.1.0 stored breaks a rule now: calls that read it are refused with 3.
  *
  * What a call costs, in blocks of 2,048 bytes; h is the number of levels, 1 to 7:
  *   spot_format     writes every block.
@@ -54,6 +58,8 @@ extern "C" {
 #define SPOT_BYTES 12
 #define SPOT_MAP_BYTES 512
 #define SPOT_MOST_RANGES 64
+#define SPOT_LOWEST_PLACE (-1000000)
+#define SPOT_HIGHEST_PLACE 1000000
 
 /* Bytes of stack that suffice for a call on any table, return address included. measure/stack computes them from the built archive and fails where one is too low. */
 #define SPOT_STACK_FORMAT 8192
@@ -81,16 +87,19 @@ enum spot_error {
     /* spot_report, spot_report_many, spot_top and spot_top_within only: more spots than output length div 12; detail is their number */
     SPOT_OUTPUT = 5,
     /* spot_report_many only: more than 64 ranges; asked after 2 and before 3, detail 0 */
-    SPOT_TOO_MANY_RANGES = 6
+    SPOT_TOO_MANY_RANGES = 6,
+    /* spot_add and spot_withdraw only: the place is below SPOT_LOWEST_PLACE or above SPOT_HIGHEST_PLACE; asked after 2 and before 3, detail 0 */
+    SPOT_PLACE_OUTSIDE = 9
 };
 
+/* The place, in centimetres, lies from SPOT_LOWEST_PLACE to SPOT_HIGHEST_PLACE. */
 struct spot {
     int32_t place;
     int32_t rank;
     uint32_t track;
 };
 
-/* Two places and a lowest rank. */
+/* Two places and a lowest rank. The places may lie outside the limits. */
 typedef struct {
     int32_t x1, x2, y;
 } spot_range;
@@ -108,6 +117,7 @@ static inline const char *spot_error_text(uint32_t number) {
     case SPOT_FULL: return "the table is full, and has no spot of this place and rank";
     case SPOT_OUTPUT: return "there are more spots than the output has room for";
     case SPOT_TOO_MANY_RANGES: return "there are more than 64 ranges";
+    case SPOT_PLACE_OUTSIDE: return "the place does not lie from -1,000,000 to 1,000,000 cm";
     default: return "no number of the spot table";
     }
 }
@@ -177,10 +187,10 @@ uint64_t spot_top(const uint8_t *table, size_t table_len, int32_t x1, int32_t x2
 uint64_t spot_top_within(const uint8_t *table, size_t table_len, int32_t x1, int32_t x2, uint32_t k, uint32_t allowance,
                          uint8_t *output, size_t output_len, uint8_t *read_map, size_t read_map_len, int32_t *ceiling);
 
-/* Puts the spot in; one of the same place and rank is replaced. */
+/* Puts the spot in; one of the same place and rank is replaced. A place outside the limits is refused with 9, also where the table is full. */
 uint64_t spot_add(uint8_t *table, size_t table_len, uint8_t *work, size_t work_len, int32_t place, int32_t rank, uint32_t track);
 
-/* Takes out the spot of this place and rank; where there is none the spots stay as they are, and the call is accepted. */
+/* Takes out the spot of this place and rank; where there is none the spots stay as they are, and the call is accepted. A place outside the limits is refused with 9. */
 uint64_t spot_withdraw(uint8_t *table, size_t table_len, uint8_t *work, size_t work_len, int32_t place, int32_t rank);
 
 /* Lays the live spots out anew: no change waits in the table then. */

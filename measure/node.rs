@@ -1,9 +1,17 @@
 //! A full node validated, loaded, changed by one insert and stored again, beside the same in plain Rust, in one run. Prints times and the ratio; tests nothing.
 
 #[allow(dead_code)]
+#[path = "../rust/reference/src/layout.rs"]
+mod layout;
+#[allow(dead_code)]
 #[path = "../rust/reference/src/plain.rs"]
 mod plain;
+#[allow(dead_code)]
+#[path = "../rust/reference/src/range.rs"]
+mod range;
 
+use layout::Key;
+use range::stretches;
 use std::hint::black_box;
 use std::time::Instant;
 

@@ -1,7 +1,8 @@
 //! Safe Rust over the proved spot table: up to 65,520 spots (a place, a rank, a track) in lent memory.
 //!
 //! [`Table`] answers with `Result`; the ten functions of the crate ([`format`], [`add`], ...) give the library's own [`Answer`]. Every call ends on any bytes and
-//! arguments, touches only what it was lent, and allocates nothing; a refused call changes no byte but its work area (see [`Refusal`]).
+//! arguments, touches only what it was lent, and allocates nothing; a refused call changes no byte but its work area (see [`Refusal`]). Places lie from [`LOWEST_PLACE`] to
+//! [`HIGHEST_PLACE`]; the ends of a range may be any numbers.
 //!
 //! ```
 //! use spot_table::{ReadMap, Spot, Table, BLOCK};
@@ -45,6 +46,10 @@ pub const FEWEST_BLOCKS: usize = 9;
 pub const MOST_BLOCKS: usize = 4096;
 /// The most ranges of a Report of many ranges.
 pub const MOST_RANGES: usize = 64;
+/// The lowest place of a spot, in centimetres. The ends of a range may be any numbers.
+pub const LOWEST_PLACE: i32 = -1_000_000;
+/// The highest place of a spot, in centimetres. The difference of two places fits `i32`.
+pub const HIGHEST_PLACE: i32 = 1_000_000;
 /// Bytes of stack that suffice for every call: the largest figure of `include/spot_table.h`, which `measure/stack` holds against the built archive.
 pub const STACK: usize = 245_760;
 

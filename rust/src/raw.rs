@@ -57,7 +57,7 @@ extern "C" {
     fn spot_rebuild(table: *mut u8, len: usize, work: *mut u8, work_len: usize) -> u64;
 }
 
-/// What a call answers: 0 with its detail, or one of the six numbers of refusal.
+/// What a call answers: 0 with its detail, or one of the seven numbers of refusal.
 #[must_use = "the answer may be a refusal"]
 #[derive(Clone, Copy, Debug, PartialEq, Eq, Hash)]
 pub struct Answer {
@@ -85,11 +85,11 @@ impl Answer {
     ///
     /// # Panics
     ///
-    /// Where the number is over 6, which no call answers.
+    /// Where the number is one that no call answers: 7, 8, or over 9.
     pub fn result(self) -> Result<u32, Refusal> {
         match self.number {
             0 => Ok(self.detail),
-            number => Err(Refusal::new(number, self.detail).expect("a call answers 0 to 6")),
+            number => Err(Refusal::new(number, self.detail).expect("a call answers 0 to 6, or 9")),
         }
     }
 
@@ -199,13 +199,25 @@ pub fn top_within(table: &[u8], x1: i32, x2: i32, k: u32, allowance: u32, output
     (answer, ceiling)
 }
 
-/// Puts the spot in, in the place of one of the same place and rank, with a work area of at least the table's length.
+/// Puts the spot in, in the place of one of the same place and rank, with a work area of at least the table's length. A place that doesn't lie from
+/// [`LOWEST_PLACE`](crate::LOWEST_PLACE) to [`HIGHEST_PLACE`](crate::HIGHEST_PLACE) gives 9, also where the table is full.
+///
+/// ```
+/// use spot_table::{add, format, withdraw, Answer, Spot, HIGHEST_PLACE};
+/// let (mut table, mut work) = ([0; 9 * 2048], [0; 9 * 2048]);
+/// assert_eq!(format(&mut table), Answer::new(0, 0));
+/// let last = Spot { place: HIGHEST_PLACE, rank: 5, track: 1 };
+/// assert_eq!(add(&mut table, &mut work, last), Answer::new(0, 0));
+/// assert_eq!(add(&mut table, &mut work, Spot { place: HIGHEST_PLACE + 1, ..last }), Answer::new(9, 0));
+/// assert_eq!(withdraw(&mut table, &mut work, HIGHEST_PLACE + 1, 5), Answer::new(9, 0));
+/// ```
 pub fn add(table: &mut [u8], work: &mut [u8], spot: Spot) -> Answer {
     let (t, n) = (table.as_mut_ptr(), table.len());
     Answer::unpack(unsafe { spot_add(t, n, work.as_mut_ptr(), work.len(), spot.place, spot.rank, spot.track) })
 }
 
-/// Takes out the spot of this place and rank, if there is one, with a work area of at least the table's length.
+/// Takes out the spot of this place and rank, if there is one, with a work area of at least the table's length. A place that doesn't lie from
+/// [`LOWEST_PLACE`](crate::LOWEST_PLACE) to [`HIGHEST_PLACE`](crate::HIGHEST_PLACE) gives 9.
 pub fn withdraw(table: &mut [u8], work: &mut [u8], place: i32, rank: i32) -> Answer {
     Answer::unpack(unsafe { spot_withdraw(table.as_mut_ptr(), table.len(), work.as_mut_ptr(), work.len(), place, rank) })
 }

@@ -18,10 +18,12 @@ pub enum Refusal {
     },
     /// 6: Report of many ranges only. There are more than 64 ranges. This is asked after 2 and before 3.
     TooManyRanges,
+    /// 9: Add and Withdraw only. The place doesn't lie from [`LOWEST_PLACE`](crate::LOWEST_PLACE) to [`HIGHEST_PLACE`](crate::HIGHEST_PLACE). This is asked after 2 and before 3.
+    PlaceOutside,
 }
 
 impl Refusal {
-    /// The refusal of this number and detail; none for a number that is not 1 to 6.
+    /// The refusal of this number and detail; none for a number that is not 1 to 6 or 9.
     pub const fn new(number: u32, detail: u32) -> Option<Refusal> {
         match number {
             1 => Some(Refusal::TableLength),
@@ -30,11 +32,12 @@ impl Refusal {
             4 => Some(Refusal::Full),
             5 => Some(Refusal::Output { spots: detail }),
             6 => Some(Refusal::TooManyRanges),
+            9 => Some(Refusal::PlaceOutside),
             _ => None,
         }
     }
 
-    /// The papers' number, 1 to 6.
+    /// The papers' number, 1 to 6 or 9.
     pub const fn number(self) -> u32 {
         match self {
             Refusal::TableLength => 1,
@@ -43,6 +46,7 @@ impl Refusal {
             Refusal::Full => 4,
             Refusal::Output { .. } => 5,
             Refusal::TooManyRanges => 6,
+            Refusal::PlaceOutside => 9,
         }
     }
 
@@ -66,6 +70,7 @@ impl fmt::Display for Refusal {
             Refusal::Full => f.write_str("the table is full, and has no spot of this place and rank"),
             Refusal::Output { spots } => write!(f, "there are {spots} spots, more than the output has room for"),
             Refusal::TooManyRanges => f.write_str("there are more than 64 ranges"),
+            Refusal::PlaceOutside => f.write_str("the place does not lie from -1,000,000 to 1,000,000 cm"),
         }
     }
 }

@@ -5,7 +5,8 @@ use core::iter::FusedIterator;
 /// A place in centimetres, a rank and a track number.
 #[derive(Clone, Copy, Debug, PartialEq, Eq, Hash)]
 pub struct Spot {
-    /// Centimetres along the route.
+    /// Centimetres along the route. It lies from [`LOWEST_PLACE`](crate::LOWEST_PLACE) to [`HIGHEST_PLACE`](crate::HIGHEST_PLACE) in every spot that an accepted call gives, so the
+    /// difference of two places fits `i32`.
     pub place: i32,
     /// The rank; with the place it is the spot's identity.
     pub rank: i32,
@@ -25,7 +26,7 @@ impl Spot {
     }
 }
 
-/// The places from x1 to x2, or, if x1 is greater, on past the door, and the lowest rank.
+/// The places from x1 to x2, or, if x1 is greater, on past the door, and the lowest rank. The ends may be any numbers.
 #[repr(C)]
 #[derive(Clone, Copy, Debug, PartialEq, Eq, Hash)]
 pub struct Range {

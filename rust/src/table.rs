@@ -174,11 +174,20 @@ impl<B: AsMut<[u8]>> Table<B> {
     }
 
     /// Puts the spot in; one of the same place and rank is replaced. The work area is at least as long as the table.
+    ///
+    /// ```
+    /// use spot_table::{Refusal, Spot, Table, HIGHEST_PLACE};
+    /// let mut work = vec![0; 9 * 2048];
+    /// let mut table = Table::format(vec![0; 9 * 2048])?;
+    /// let beyond = Spot { place: HIGHEST_PLACE + 1, rank: 7, track: 1 };
+    /// assert_eq!(table.add(beyond, &mut work), Err(Refusal::PlaceOutside));
+    /// # Ok::<(), Refusal>(())
+    /// ```
     pub fn add(&mut self, spot: Spot, work: &mut [u8]) -> Result<(), Refusal> {
         raw::add(self.bytes.as_mut(), work, spot).result().map(drop)
     }
 
-    /// Takes out the spot of this place and rank, if there is one. The work area is at least as long as the table.
+    /// Takes out the spot of this place and rank, if there is one; a place outside the limits is refused as for `add`. The work area is at least as long as the table.
     pub fn withdraw(&mut self, place: i32, rank: i32, work: &mut [u8]) -> Result<(), Refusal> {
         raw::withdraw(self.bytes.as_mut(), work, place, rank).result().map(drop)
     }

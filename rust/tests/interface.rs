@@ -4,14 +4,14 @@ use spot_table::*;
 
 #[test]
 fn refusals() {
-    for number in 1..=6 {
+    for number in [1, 2, 3, 4, 5, 6, 9] {
         let r = Refusal::new(number, 7).unwrap();
         assert_eq!((r.number(), r.detail()), (number, if number == 5 { 7 } else { 0 }));
         assert_eq!(Answer::new(number, 7).result(), Err(r));
         let e: &dyn std::error::Error = &r;
         assert!(!e.to_string().is_empty());
     }
-    assert_eq!((Refusal::new(0, 0), Refusal::new(7, 0)), (None, None));
+    assert_eq!([0, 7, 8, 10, u32::MAX].map(|number| Refusal::new(number, 0)), [None; 5]);
     assert_eq!(Answer::new(0, 9).result(), Ok(9));
     assert_eq!(Table::format(vec![0; 8 * BLOCK]).unwrap_err(), Refusal::TableLength);
     let mut table = Table::format(vec![0; 9 * BLOCK]).unwrap();
@@ -20,6 +20,10 @@ fn refusals() {
     let (mut output, mut map, one) = ([0; 12], ReadMap::new(), Range { x1: 0, x2: 9, y: 0 });
     assert_eq!(table.report_many(&[one; 65], &mut [0; 65], &mut output, &mut map).unwrap_err(), Refusal::TooManyRanges);
     assert_eq!(table.report_many(&[one; 65], &mut [0; 64], &mut output, &mut map).unwrap_err(), Refusal::LentLength);
+    let (mut work, beyond) = (vec![0; 9 * BLOCK], Spot { place: HIGHEST_PLACE + 1, rank: 7, track: 1 });
+    assert_eq!(table.add(beyond, &mut work), Err(Refusal::PlaceOutside));
+    assert_eq!(table.withdraw(LOWEST_PLACE - 1, 7, &mut work), Err(Refusal::PlaceOutside));
+    assert_eq!(table.add(beyond, &mut work[1..]), Err(Refusal::LentLength));
 }
 
 #[test]
@@ -108,7 +112,9 @@ fn header() {
     ] {
         has(&std::format!("#define SPOT_{name} {value}\n"));
     }
-    for number in [1, 2, 3, 4, 6] {
+    has(&std::format!("#define SPOT_LOWEST_PLACE ({LOWEST_PLACE})\n#define SPOT_HIGHEST_PLACE {HIGHEST_PLACE}\n"));
+    has(&std::format!("SPOT_PLACE_OUTSIDE = {}\n", Refusal::PlaceOutside.number()));
+    for number in [1, 2, 3, 4, 6, 9] {
         has(&std::format!("return \"{}\";", Refusal::new(number, 0).unwrap()));
     }
 }

@@ -1,10 +1,11 @@
 //! Request 2026-05, ranges whose first place is greater than their last: Report and Top at the ends of the places, of the gap and of the answers' lengths.
 
-use spot_reference::{holds, make, nodes, read_by_report, reported, some_spots, top_order, Key, Made, Random};
+use spot_reference::{holds, in_limits, make, nodes, read_by_report, reported, some_spots, top_order, Key, Made, Random};
 use spot_table::*;
 use std::collections::{BTreeMap, BTreeSet};
 
 const ENDS: (i32, i32) = (i32::MIN, i32::MAX);
+const LIMITS: (i32, i32) = (LOWEST_PLACE, HIGHEST_PLACE);
 
 fn spot((k, track): (Key, u32)) -> Spot {
     Spot { place: k.0, rank: k.1, track }
@@ -85,20 +86,23 @@ fn m5() {
     assert_eq!(table.top(240, -1, 1, &mut out, &mut map).unwrap().collect::<Vec<_>>(), [far]);
 }
 
-/// Every pair of these places is a range: one place, a gap of one or of none, the two outermost places alone, all between them.
-const PLACES: [i32; 13] = [ENDS.0, ENDS.0 + 1, ENDS.0 + 2, -700, -2, -1, 0, 1, 2, 700, ENDS.1 - 2, ENDS.1 - 1, ENDS.1];
+/// Every pair of these numbers is a range: one place, a gap of one or of none, the two outermost places alone, all between them; with ends beyond the limits of places.
+#[rustfmt::skip]
+const NUMBERS: [i32; 17] = [
+    ENDS.0, LIMITS.0 - 1, LIMITS.0, LIMITS.0 + 1, LIMITS.0 + 2, -700, -2, -1, 0, 1, 2, 700, LIMITS.1 - 2, LIMITS.1 - 1, LIMITS.1, LIMITS.1 + 1, ENDS.1,
+];
 
 #[test]
 fn ends() {
     let mut random = Random(0x0501);
     for waiting in [false, true] {
         let mut spots = some_spots(1500, 1200, 40, &mut random);
-        for place in PLACES {
+        for place in NUMBERS.into_iter().filter(|n| in_limits(*n)) {
             spots.extend([ENDS.0, -1, 0, 1, ENDS.1].map(|rank| ((place, rank), random.draw() as u32)));
         }
         let made = make(160, &spots, waiting, &mut random);
         assert_eq!((check(&made.table).detail, made.levels), (1, 4));
-        for range in PLACES.iter().flat_map(|x1| PLACES.map(|x2| (*x1, x2))) {
+        for range in NUMBERS.iter().flat_map(|x1| NUMBERS.map(|x2| (*x1, x2))) {
             for y in [ENDS.0, 1, 15, ENDS.1] {
                 report_gives(&made, range, y, &mut random);
             }
@@ -115,7 +119,7 @@ fn no_gap() {
     let mut random = Random(0x0502);
     for n in [1, 100, 1500] {
         let made = make(160, &some_spots(n, 200, 100, &mut random), true, &mut random);
-        for x1 in [ENDS.0 + 1, -101, -100, -7, 0, 1, 99, 100, 101, ENDS.1] {
+        for x1 in [ENDS.0 + 1, LIMITS.0, LIMITS.0 + 1, -101, -100, -7, 0, 1, 99, 100, 101, LIMITS.1, LIMITS.1 + 1, ENDS.1] {
             let (given, _) = report_gives(&made, (x1, x1 - 1), ENDS.0, &mut random);
             let mut all: Vec<Spot> = made.live.iter().map(|(k, t)| spot((*k, *t))).collect();
             let before = all.iter().filter(|s| s.place < x1).count();
@@ -155,7 +159,7 @@ fn everything_in_the_gap() {
     let mut random = Random(0x0504);
     let spots: BTreeMap<Key, u32> = (0..2000).map(|i| ((i % 500 - 250, i / 500), i as u32)).collect();
     let made = make(160, &spots, true, &mut random);
-    for range in [(250, -251), (700, -700), (ENDS.1, ENDS.0)] {
+    for range in [(250, -251), (700, -700), LIMITS, (LIMITS.1 + 1, LIMITS.0 - 1), ENDS].map(|(a, b)| (a.max(b), a.min(b))) {
         let (given, read) = report_gives(&made, range, ENDS.0, &mut random);
         assert!(given.is_empty() && read.len() <= 2 * made.levels);
         assert_eq!(top_gives(&made, range, 3, &mut random), (given, read));

@@ -172,11 +172,11 @@ fn histories() {
                 Change::Add(k, t) => add(&mut table, &mut work, spot(k, t)),
                 Change::Withdraw(k) => withdraw(&mut table, &mut work, k.0, k.1),
             };
-            assert_eq!(a.number == 0, live.apply(c, capacity));
+            assert_eq!(a.number, live.apply(c, table.len(), work.len()));
             if step % (capacity / 3) == 0 {
-                // places of histories lie anywhere
-                let ends = [random.draw() as i32, random.draw() as i32];
-                for range in [ALL, (ends[0], ends[1]), (ends[1], ends[0])] {
+                // places of histories lie anywhere inside the limits
+                let ends = [random.place(), random.place()];
+                for range in [ALL, (ends[0], ends[1]), (ends[1], ends[0]), (ends[0], i32::MAX), (i32::MAX, ends[1])] {
                     grows(&table, &live.spots, range, some_k(capacity, &mut random), &mut random);
                 }
             }

@@ -1,18 +1,19 @@
 //! The command line.
 
-use crate::store::{LEAST_BLOCKS, MOST_BLOCKS};
+use crate::store::{HIGHEST_PLACE, LEAST_BLOCKS, LOWEST_PLACE, MOST_BLOCKS};
 use clap::error::ErrorKind;
 use clap::{Args, CommandFactory, Parser, Subcommand};
 use std::fmt::Display;
 use std::path::PathBuf;
+use std::str::FromStr;
 
 const ABOUT: &str = "Makes, changes, shows and checks cards of spots for audio guides";
 
 const LONG_ABOUT: &str = "\
 Makes, changes, shows and checks cards of spots for audio guides.
 
-A spot is a commentary: a place along the route in centimetres, a rank and a track number. Place and rank together say which spot it is; \
-there is never a second one of the same place and rank on a card.
+A spot is a commentary: a place along the route in centimetres (from -1000000 to 1000000), a rank and a track number. Place and rank together \
+say which spot it is; there is never a second one of the same place and rank on a card.
 
 The spots usually stand in a spreadsheet with columns named place, rank and track. Save it as CSV, then:
 
@@ -75,8 +76,9 @@ pub enum Command {
     },
     /// Put the rows of a sheet on a card: all of them or none
     ///
-    /// The sheet is a CSV file. Its first line names the columns; place, rank and track are used, in any order, and all others are ignored. Every row is
-    /// judged before the card is touched: if one is wrong, all that is wrong is listed with line numbers, and the card stays as it is.
+    /// The sheet is a CSV file. Its first line names the columns; place, rank and track are used, in any order, and all others are ignored. A place lies from
+    /// -1000000 to 1000000. Every row is judged before the card is touched: if one is wrong, all that is wrong is listed with line numbers, and the card
+    /// stays as it is.
     ///
     /// Without --replace the rows join the spots on the card. A row that gives another track to a spot on the card is an error then.
     #[command(after_help = IMPORT_EXAMPLES)]
@@ -237,8 +239,8 @@ pub enum Command {
 
 #[derive(Args)]
 pub struct PlaceAndRank {
-    /// Place in centimetres
-    #[arg(allow_negative_numbers = true, value_parser = signed)]
+    /// Place in centimetres, -1000000 to 1000000
+    #[arg(allow_negative_numbers = true, value_parser = place)]
     pub place: i32,
     /// Rank
     #[arg(allow_negative_numbers = true, value_parser = signed)]
@@ -336,8 +338,14 @@ fn blocks(text: &str) -> Result<usize, String> {
     n.ok_or_else(|| format!("a card has {least} to {most} blocks"))
 }
 
-fn whole<T: std::str::FromStr>(text: &str, least: impl Display, most: impl Display) -> Result<T, String> {
-    text.parse().map_err(|_| format!("not a whole number from {least} to {most}"))
+fn whole<T: FromStr + PartialOrd + Display>(text: &str, least: T, most: T) -> Result<T, String> {
+    let number = text.parse().ok().filter(|n| least <= *n && *n <= most);
+    number.ok_or_else(|| format!("not a whole number from {least} to {most}"))
+}
+
+/// Where a spot can be; the ends of a range are any numbers.
+fn place(text: &str) -> Result<i32, String> {
+    whole(text, LOWEST_PLACE, HIGHEST_PLACE)
 }
 
 fn signed(text: &str) -> Result<i32, String> {
@@ -348,7 +356,7 @@ fn unsigned(text: &str) -> Result<u32, String> {
     whole(text, u32::MIN, u32::MAX)
 }
 
-/// A place or a number of spots.
+/// The end of a range or a number of spots.
 fn wide(text: &str) -> Result<i64, String> {
-    whole(text, i32::MIN, u32::MAX)
+    whole(text, i32::MIN.into(), u32::MAX.into())
 }

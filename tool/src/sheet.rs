@@ -2,7 +2,7 @@
 
 use crate::problem::{refused, Problem};
 use crate::spot::{Key, Spot};
-use crate::store::is_length;
+use crate::store::{is_length, HIGHEST_PLACE, LOWEST_PLACE};
 use crate::words;
 use anyhow::{Context, Result};
 use csv::{ByteRecord, ReaderBuilder, Terminator};
@@ -233,7 +233,7 @@ impl Columns {
             return Err(vec![wrong_width(self.width, record)]);
         }
         let [place, rank, track] = self.at.map(|i| record[i].trim_ascii());
-        let place = whole(place, "place", i32::MIN, i32::MAX);
+        let place = whole(place, "place", LOWEST_PLACE, HIGHEST_PLACE);
         let rank = whole(rank, "rank", i32::MIN, i32::MAX);
         let track = whole(track, "track", u32::MIN, u32::MAX);
         match (place, rank, track) {
@@ -270,10 +270,10 @@ fn wrong_width(width: usize, record: &ByteRecord) -> String {
 /// A whole number in its limits, or the words that say why not.
 pub fn whole<T>(field: &[u8], name: &str, least: T, most: T) -> Result<T, String>
 where
-    T: std::str::FromStr + std::fmt::Display,
+    T: std::str::FromStr + PartialOrd + std::fmt::Display,
 {
     let number = std::str::from_utf8(field).ok().and_then(|text| text.parse().ok());
-    if let Some(number) = number {
+    if let Some(number) = number.filter(|n| least <= *n && *n <= most) {
         return Ok(number);
     }
     if field.is_empty() {
@@ -340,7 +340,8 @@ mod tests {
 
     #[test]
     fn what_is_wrong_is_said_in_plain_words() {
-        let text = "place,rank,track\n2400,\"12,5\",1\n2400,7,51\n,7,x\n2400,7,60\n1,2\n1,2,3,4\n2147483648,-2147483649,4294967296\n\u{2212}5,1,1\n1;2;3\n";
+        let text = "place,rank,track\n2400,\"12,5\",1\n2400,7,51\n,7,x\n2400,7,60\n1,2\n1,2,3,4\n2147483648,-2147483649,4294967296\n\u{2212}5,1,1\n1;2;3\n1000001,1,1\n-1000001,1,1\n";
+        let limits = "is not a whole number from -1000000 to 1000000";
         let range = "is not a whole number from -2147483648 to 2147483647";
         let expected = [
             (2, format!("rank \"12,5\" {range}")),
@@ -349,13 +350,20 @@ mod tests {
             (5, "place 2400 rank 7 stands already in line 3 (track 51, here 60)".into()),
             (6, "there are 2 columns where the first line has 3".into()),
             (7, "there are 4 columns where the first line has 3. A field with a comma in it has to stand in quotation marks".into()),
-            (8, format!("place \"2147483648\" {range}")),
+            (8, format!("place \"2147483648\" {limits}")),
             (8, format!("rank \"-2147483649\" {range}")),
             (8, "track \"4294967296\" is not a whole number from 0 to 4294967295".into()),
-            (9, format!("place \"\u{2212}5\" {range}: its minus sign has to be the plain -")),
+            (9, format!("place \"\u{2212}5\" {limits}: its minus sign has to be the plain -")),
             (10, "there is 1 column where the first line has 3. There are semicolons between columns; they have to be commas".into()),
+            (11, format!("place \"1000001\" {limits}")),
+            (12, format!("place \"-1000001\" {limits}")),
         ];
         assert_eq!(wrong(text), expected);
+    }
+
+    #[test]
+    fn both_limits_are_places() {
+        assert_eq!(lines("place,rank,track\n-1000000,0,0\n1000000,0,0\n+1000000,1,0\n"), [(2, -1_000_000), (3, 1_000_000), (4, 1_000_000)]);
     }
 
     #[test]

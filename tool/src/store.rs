@@ -1,8 +1,8 @@
 //! The proved calls, over a table in memory. No other module knows the library.
 
 use crate::spot::{Key, Spot};
-pub use spot_table::BLOCK;
 use spot_table::{Answer, Range, MAP, MOST_RANGES, SPOT};
+pub use spot_table::{BLOCK, HIGHEST_PLACE, LOWEST_PLACE};
 
 pub const LEAST_BLOCKS: usize = 9;
 pub const MOST_BLOCKS: usize = 4096;
@@ -27,6 +27,8 @@ pub enum Refusal {
     Room,
     #[error("at most 64 ranges can be asked for at once")]
     Ranges,
+    #[error("a place has to lie from {LOWEST_PLACE} to {HIGHEST_PLACE} cm")]
+    Place,
 }
 
 fn accepted(answer: Answer) -> Result<usize, Refusal> {
@@ -37,7 +39,8 @@ fn accepted(answer: Answer) -> Result<usize, Refusal> {
         3 => Err(Refusal::Unsound),
         4 => Err(Refusal::Full),
         5 => Err(Refusal::Room),
-        _ => Err(Refusal::Ranges),
+        6 => Err(Refusal::Ranges),
+        _ => Err(Refusal::Place),
     }
 }
 

@@ -1,7 +1,7 @@
 //! The plain reading of the rules against the library's verdict: on sound tables of many histories, and on tables with a few bytes changed.
 
 use crate::spot::{Key, Spot};
-use crate::store::{on_deep_stack, Table, BLOCK};
+use crate::store::{on_deep_stack, Table, BLOCK, HIGHEST_PLACE, LOWEST_PLACE};
 use crate::tree;
 use proptest::prelude::*;
 use spot_reference::faults;
@@ -85,6 +85,22 @@ proptest! {
         bytes[at] = bytes[at].wrapping_add(change);
         let found = faults(&bytes);
         prop_assert_eq!(is_sound(&bytes), found.is_empty(), "byte {}: {:?}", at, found);
+    }
+
+    /// A place at a limit, or outside, in any word of a block in use.
+    #[test]
+    fn the_same_for_places_at_the_limits(
+        which in 1usize..5,
+        pick in any::<prop::sample::Index>(),
+        word in 2usize..BLOCK / 4,
+        place in prop_oneof![Just(LOWEST_PLACE), Just(LOWEST_PLACE - 1), Just(HIGHEST_PLACE), Just(HIGHEST_PLACE + 1), any::<i32>()],
+    ) {
+        let mut bytes = tables()[which].clone();
+        let blocks = used(&bytes);
+        let at = blocks[pick.index(blocks.len())] * BLOCK + 4 * word;
+        bytes[at..at + 4].copy_from_slice(&place.to_be_bytes());
+        let found = faults(&bytes);
+        prop_assert_eq!(is_sound(&bytes), found.is_empty(), "{} at {}: {:?}", place, at, found);
     }
 
     /// An identity copied over another, or one node over another.

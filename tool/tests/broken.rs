@@ -43,6 +43,14 @@ impl Node {
     fn insert(self, i: usize) -> usize {
         self.point(self.points) + 12 * i
     }
+
+    fn last_point(self) -> usize {
+        self.point(self.points - 1)
+    }
+
+    fn last_insert(self) -> usize {
+        self.insert(self.inserts - 1)
+    }
 }
 
 /// A card with waiting changes in an inner root that has a full P.
@@ -177,9 +185,9 @@ fn rule_3_entry_outside_the_childs_range() {
     explained(
         |b, root| {
             let at = root.at(root.entry(1) + 12);
-            b[at] = 0x80;
+            b[at..at + 4].copy_from_slice(&(-1i32).to_be_bytes());
         },
-        |_, root| format!("block {}, bytes 48-55, breaks rule 3: entry 2 says that the highest of P is place -", root.block),
+        |_, root| format!("block {}, bytes 48-55, breaks rule 3: entry 2 says that the highest of P is place -1 rank ", root.block),
     );
 }
 
@@ -291,6 +299,48 @@ fn rule_6_entries() {
             b[at + 8..at + 16].copy_from_slice(&high);
         },
         |_, _| "bytes 48-63, breaks rule 6: entry 2 says that the highest of P is".into(),
+    );
+}
+
+#[test]
+fn rule_7_limits_of_places() {
+    const OUTSIDE: &str = "outside the limits of places, -1,000,000 to 1,000,000 cm";
+    let far = |b: &mut Vec<u8>, at: usize, place: i32| b[at..at + 4].copy_from_slice(&place.to_be_bytes());
+    // the rank that stands behind a place
+    let rank = |b: &[u8], at: usize| i32::from_be_bytes(b[at + 4..at + 8].try_into().unwrap());
+    for (place, at) in
+        [(1_000_001, Node::last_point as fn(Node) -> usize), (i32::MAX, Node::last_insert), (-1_000_001, |root| root.point(0))]
+    {
+        explained(
+            |b, root| far(b, root.at(at(root)), place),
+            |b, root| {
+                let (list, offset) = (if at(root) < root.insert(0) { 'P' } else { 'I' }, at(root));
+                let (bytes, rank) = (format!("bytes {offset}-{}", offset + 3), rank(b, root.at(offset)));
+                format!("block {}, {bytes}, breaks rule 7: place {place} rank {rank} in {list} lies {OUTSIDE}", root.block)
+            },
+        );
+    }
+    explained(
+        |b, root| far(b, root.at(root.entry(root.children - 1) + 4), 1_000_001),
+        |_, root| {
+            let (last, at) = (root.children, root.entry(root.children - 1) + 4);
+            let what = format!("the lowest identity of entry {last} is place 1000001 rank ");
+            format!("block {}, bytes {at}-{}, breaks rule 7: {what}", root.block, at + 3)
+        },
+    );
+    for (name, at) in [("highest", 12), ("lowest", 20)] {
+        explained(
+            |b, root| far(b, root.at(root.entry(0) + at), -1_000_001),
+            |b, root| {
+                let rank = rank(b, root.at(root.entry(0) + at));
+                let what = format!("entry 1 says that the {name} of P is place -1000001 rank {rank}, {OUTSIDE}");
+                format!("block {}, bytes {}-{}, breaks rule 7: {what}", root.block, at + 8, at + 11)
+            },
+        );
+    }
+    explained(
+        |b, root| far(b, root.at(root.last_point()), 1_000_001),
+        |_, _| "\nRule 7: A place lies in -1,000,000 to 1,000,000 centimetres".into(),
     );
 }
 

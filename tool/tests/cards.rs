@@ -9,13 +9,10 @@ use std::{fs, process};
 #[test]
 fn a_sheet_goes_onto_a_card_and_comes_back() {
     let f = Folder::new();
-    f.write(
-        "sheet.csv",
-        "Title,track,Place,rank,room\n\"Vase, blue\",51,2400,7,1\nMask,60,-5,7,2\nLamp,4294967295,2147483647,-2147483648,\n",
-    );
+    f.write("sheet.csv", "Title,track,Place,rank,room\n\"Vase, blue\",51,2400,7,1\nMask,60,-5,7,2\nLamp,4294967295,1000000,-2147483648,\n");
     f.run(&["new", "show.card", "--blocks", "9"]).exit(0).says("room for 128 spots");
     f.run(&["import", "sheet.csv", "show.card"]).exit(0).says("3 rows of sheet.csv: 3 new, 0 on the card already; it holds 3 of 128 spots");
-    let rows = "place,rank,track\n-5,7,60\n2400,7,51\n2147483647,-2147483648,4294967295\n";
+    let rows = "place,rank,track\n-5,7,60\n2400,7,51\n1000000,-2147483648,4294967295\n";
     assert_eq!(f.run(&["export", "show.card"]).exit(0).out, rows);
     f.run(&["export", "show.card", "-o", "back.csv"]).exit(0).says("3 spots");
     assert_eq!(f.text("back.csv"), rows);
@@ -76,6 +73,45 @@ fn spots_are_added_replaced_and_withdrawn() {
     f.run(&["withdraw", "a.card", "0", "0"]).exit(0).says("no spot of place 0 rank 0; nothing changes");
     f.run(&["withdraw", "a.card", "-240", "-7", "3"]).exit(0).says("withdrew place -240 rank -7 track 3; it holds 0");
     f.run(&["check", "a.card"]).exit(0);
+}
+
+#[test]
+fn places_have_an_end() {
+    let f = Folder::new();
+    f.card("a.card", 9, &[(-1_000_000, 5, 1), (1_000_000, 5, 2)]);
+    let files = || ["a.card", "a.card.sha256"].map(|name| f.read(name));
+    let before = files();
+    for place in ["-1000001", "1000001", "2147483647", "-2147483648", "4294967296"] {
+        let words = format!("'{place}' for '<PLACE>': not a whole number from -1000000 to 1000000");
+        f.run(&["add", "a.card", place, "5", "3"]).exit(2).complains(&words);
+        f.run(&["withdraw", "a.card", place, "5"]).exit(2).complains(&words);
+        f.write("far.csv", format!("place,rank,track\n7,7,7\n{place},5,3\n"));
+        for more in [&[][..], &["--replace"]] {
+            f.run(&[&["import", "far.csv", "a.card"], more].concat())
+                .exit(1)
+                .complains(&format!("far.csv line 3: place \"{place}\" is not a whole number from -1000000 to 1000000\n"))
+                .complains("1 error in far.csv. Nothing was changed.");
+        }
+        f.run(&["diff", "a.card", "far.csv"]).exit(1).complains("far.csv line 3: place");
+        assert_eq!(files(), before);
+    }
+    // the ends of a range are any numbers
+    let both = sheet(&[(-1_000_000, 5, 1), (1_000_000, 5, 2)]);
+    for (x1, x2) in [("-2147483648", "2147483647"), ("-1000001", "1000001"), ("-1000000", "1000000"), ("1000001", "1000000")] {
+        assert_eq!(f.run(&["report", "a.card", x1, x2, "0", "--csv"]).exit(0).out, both);
+        assert_eq!(f.run(&["top", "a.card", x1, x2, "9", "--csv"]).exit(0).out, both);
+        assert_eq!(f.run(&["top", "a.card", x1, x2, "9", "--allow", "1", "--csv"]).exit(0).out, both);
+        f.run(&["report", "a.card", x1, x2, "0", "1000001", "-1000001", "0"]).exit(0).says("range 2: 0 spots").says("2 spots in 2 ranges");
+        f.run(&["picture", "a.card", "--report", x1, x2, "0", "-o", "a.svg"]).exit(0);
+    }
+    for (place, track) in [("-1000000", "1"), ("1000000", "2")] {
+        f.run(&["withdraw", "a.card", place, "5", track]).exit(0).says("withdrew place");
+        f.run(&["add", "a.card", place, "6", "9"]).exit(0).says("added place");
+    }
+    f.run(&["check", "a.card"]).exit(0);
+    for command in ["add", "withdraw", "import"] {
+        f.run(&["help", command]).exit(0).says("-1000000 to 1000000");
+    }
 }
 
 #[test]
@@ -335,7 +371,7 @@ fn the_digest_is_the_one_that_sha256sum_knows() {
 #[test]
 fn wrong_command_lines_end_with_2() {
     let f = Folder::new();
-    let rows: [&[&str]; 10] = [
+    let rows: [&[&str]; 11] = [
         &[],
         &["make", "a.card"],
         &["new"],
@@ -343,6 +379,7 @@ fn wrong_command_lines_end_with_2() {
         &["new", "a.card", "--blocks", "4097"],
         &["add", "a.card", "1", "2"],
         &["add", "a.card", "1", "2147483648", "3"],
+        &["add", "a.card", "1000001", "2", "3"],
         &["top", "a.card", "0", "9", "-1"],
         &["top", "a.card", "0", "9", "1", "--allow", "-1"],
         &["picture", "a.card", "--top", "0", "9", "-1", "-o", "a.svg"],

@@ -4,6 +4,7 @@ mod common;
 use common::Folder;
 use proptest::prelude::*;
 
+const LIMITS: &str = "is not a whole number from -1000000 to 1000000";
 const RANGE: &str = "is not a whole number from -2147483648 to 2147483647";
 
 /// Imports the sheet and gives what is complained of, line by line; the card is as it was.
@@ -29,10 +30,15 @@ fn every_kind_of_bad_row_is_named_with_its_line() {
         ("title,place,rank,track", None),
         ("fine,2400,7,51", None),
         ("a comma in a number,2400,\"12,5\",1", Some(format!("rank \"12,5\" {RANGE}"))),
-        ("a point in a number,24.5,1,1", Some(format!("place \"24.5\" {RANGE}"))),
-        ("a unit,2400 cm,1,1", Some(format!("place \"2400 cm\" {RANGE}"))),
+        ("a point in a number,24.5,1,1", Some(format!("place \"24.5\" {LIMITS}"))),
+        ("a unit,2400 cm,1,1", Some(format!("place \"2400 cm\" {LIMITS}"))),
         ("a word,2400,high,1", Some(format!("rank \"high\" {RANGE}"))),
-        ("too large,2147483648,1,1", Some(format!("place \"2147483648\" {RANGE}"))),
+        ("too far,1000001,1,1", Some(format!("place \"1000001\" {LIMITS}"))),
+        ("too far the other way,-1000001,1,1", Some(format!("place \"-1000001\" {LIMITS}"))),
+        ("the last places,1000000,1,1", None),
+        ("the first places,-1000000,1,1", None),
+        ("much too far,2147483648,1,1", Some(format!("place \"2147483648\" {LIMITS}"))),
+        ("too large,1,2147483648,1", Some(format!("rank \"2147483648\" {RANGE}"))),
         ("too small,1,-2147483649,1", Some(format!("rank \"-2147483649\" {RANGE}"))),
         ("track below 0,1,1,-1", Some("track \"-1\" is not a whole number from 0 to 4294967295".into())),
         ("track too large,1,1,4294967296", Some("track \"4294967296\" is not a whole number from 0 to 4294967295".into())),
@@ -51,7 +57,7 @@ fn every_kind_of_bad_row_is_named_with_its_line() {
             "semicolons;1;1;1",
             Some("there is 1 column where the first line has 4. There are semicolons between columns; they have to be commas".into()),
         ),
-        ("a long minus,\u{2212}5,1,1", Some(format!("place \"\u{2212}5\" {RANGE}: its minus sign has to be the plain -"))),
+        ("a long minus,\u{2212}5,1,1", Some(format!("place \"\u{2212}5\" {LIMITS}: its minus sign has to be the plain -"))),
         ("\"also fine, 2 \"\"\",2401,+7,0051", None),
     ];
     for end in ["\n", "\r\n"] {
@@ -135,7 +141,7 @@ proptest! {
     /// Rows with titles of any text, blank lines, either line end: what is exported is what was in the sheet, and a wrong row is named by its line.
     #[test]
     fn rows_come_back_and_lines_are_right(
-        rows in prop::collection::btree_map((any::<i32>(), any::<i32>()), (any::<u32>(), "[a-z,\"\n;]{0,6}", any::<bool>(), 0usize..2), 1..30),
+        rows in prop::collection::btree_map((-1_000_000..=1_000_000, any::<i32>()), (any::<u32>(), "[a-z,\"\n;]{0,6}", any::<bool>(), 0usize..2), 1..30),
         is_crlf in any::<bool>(),
         bad in any::<prop::sample::Index>(),
     ) {

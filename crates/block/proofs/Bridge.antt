@@ -1,7 +1,7 @@
 -- The tests of the code are the rules of a node.
 -- Assumes nothing.
 use mathlib.Core.Path.{_≡_, refl, sym, ap, ap₂, subst, _∙_}
-use mathlib.Core.Bool.{Bool, true, false, not, cond, _&&_, _||_}
+use mathlib.Core.Bool.{Bool, true, false, cond, _&&_, _||_}
 use mathlib.Core.Logic.{_⊎_, inl, inr, ⊎-elim}
 use mathlib.Core.List.{List, [], _∷_, _++_, map}
 use Prim.Native.Nat.{ℕ, _+_, _-_, _*_, _≤_, _<_}
@@ -11,7 +11,7 @@ use lib.ListN.{drop}
 use borrow.Author.Tests.{eqb-true, leb-true, le-ltb}
 use Rattle.octets.specs.Lists.{all, every, records, rising, risingFrom, distinct, minimum}
 use Rattle.octets.specs.Bytes.{be}
-use Rattle.spot.specs.Keys.{rankKey}
+use Rattle.spot.specs.Keys.{rankKey, limited}
 use Rattle.spot.specs.Spots.{keyAt, keysFrom}
 use Rattle.spot.proofs.Card.{keyAt-lt}
 use Rattle.spot.proofs.Halves.{rank-small}
@@ -20,21 +20,22 @@ use Rattle.block.specs.declared.Front.{Front}
 use Rattle.block.specs.declared.Asked.{Asked}
 use Rattle.block.specs.Table.{blockOk, version1}
 use Rattle.block.specs.Node.{Node, nodeOf, nodeFrom, laidOut, usedBytes, entryAt, entryBlank, firstBlank, firstOpen}
-use Rattle.block.specs.NodeRules.{lowOf, standsIn, nodeOk, fewest, buffersRise, namedOnce, pointsAbove, tops, filled, lowest}
+use Rattle.block.specs.NodeRules.{lowOf, standsIn, nodeOk, fewest, buffersRise, namedOnce, pointsAbove, tops, filled, lowest, entriesCredible, extremes, insideLimits}
 use Rattle.block.specs.Access.{frontOf}
-use Rattle.block.specs.Checks.{_and_, entryKeyed, isZero, ranksUnder, apart, lastKey, risesUnder, sizesFine, otherBlock, entryShows, firstFine, entriesFine, blocksFine, aboveTops, countFine, frontFine, listsFine, restFine, bodyFine}
+use Rattle.block.specs.Checks.{_and_, entryKeyed, isZero, ranksUnder, apart, lastKey, startOf, risesInside, risesUnder, sizesFine, otherBlock, entryShows, firstFine, entriesFine, blocksFine, aboveTops, countFine, frontFine, listsFine, restFine, bodyFine}
 use Rattle.octets.proofs.Tests.{and-left, and-right, and-both, or-either, or-right, bool-ext, all-at, all-cons, all-nil, every-left, every-right, every-join}
 use Rattle.octets.proofs.Sets.{distinct-split, distinct-join}
 use Rattle.octets.proofs.Rising.{rising-lower, rising-from, rising-distinct}
 use Rattle.octets.proofs.Records.{left, left-first, none-left, records-cong, tests-at, tests-make}
-use Rattle.block.proofs.Shut.{fst, snd, pair, and-stop, and-go, in-left, in-right}
+use Rattle.block.proofs.Shut.{fst, snd, pair, in-left, in-right}
 use Rattle.block.proofs.Apart.{apart-test, apart-fact}
 use Rattle.block.proofs.Above.{above, above-under, least-above, above-apart}
 use Rattle.block.proofs.Agree.{agrees-is}
 use Rattle.spot.proofs.Buffers.{keys-records}
 use Rattle.block.proofs.Views.{every-entry, every-top, tests-mono}
 use Rattle.block.proofs.Marks.{credibleAt, fine-make, fine-blank, fine-block, fine-other, fine-top, fine-credible}
-use Rattle.block.proofs.Rules.{rising-floor, floor-forward, floor-back, names-are, count-is, count-most, filled-is, lowest-is, leaf-is, lows-is, blocks-is}
+use Rattle.block.proofs.Rules.{rising-floor, floor-forward, floor-back, names-are, count-is, count-most, filled-is, lowest-is, leaf-is, lows-is, limits-are, blocks-is}
+use Rattle.block.proofs.Inside.{inside-make, inside-from, inside-before, inside-rise, inside-limited}
 use Rattle.block.proofs.Children.{once-is, lows-above-is, apart-is, credible-is}
 
 module _ (s : List ℕ) (blocks level : ℕ) (a : Asked) (keys64 : entryKeyed a ≡ true) (c p i d : ℕ) where
@@ -112,7 +113,7 @@ module _ (s : List ℕ) (blocks level : ℕ) (a : Asked) (keys64 : entryKeyed a 
   ls = keysFrom s 28 (c - 1) 40
 
   abbrev shows : ℕ → Bool
-  shows e = entryShows blocks (standsIn a) over (lowOf a) (8 + 28 * c) s e
+  shows e = entryShows blocks (standsIn a) over (startOf a) (8 + 28 * c) s e
 
   abbrev others : ℕ → Bool
   others e = otherBlock (standsIn a) s e
@@ -121,7 +122,7 @@ module _ (s : List ℕ) (blocks level : ℕ) (a : Asked) (keys64 : entryKeyed a 
   covered e = empties e || ranksUnder over (keyAt s (e + 12))
 
   abbrev agreeable : ℕ → Bool
-  agreeable e = credibleAt (lowOf a) (8 + 28 * c) s e
+  agreeable e = credibleAt (startOf a) (8 + 28 * c) s e
 
   thin-i : thin ≡ true → is ≡ []
   thin-i h = none-left (keyAt s) 12 i (8 + 28 * c + 12 * p) (eqb-true i 0 (and-right (ltb p 32) (eqb i 0) (and-left (ltb p 32 && eqb i 0) (eqb d 0) h)))
@@ -181,9 +182,18 @@ module _ (s : List ℕ) (blocks level : ℕ) (a : Asked) (keys64 : entryKeyed a 
         ⊎-elim (λ h. every-right (ranksUnder low) is ds (every-left (ranksUnder low) (is ++ ds) (tops es) (under-full h)))
         (λ h. ap (every (ranksUnder low)) (thin-d (h .0))) kind
 
-    rise : (xs : List ℕ) → ((f : ℕ → Bool) → every f (ps ++ (is ++ ds)) ≡ true → every f xs ≡ true) → rising xs ≡ true → risingFrom (lowOf a) xs ≡ true
+    limits : (every limited (ps ++ (is ++ ds)) && every limited ls) && every limited (extremes es) ≡ true
     unfolding nodeOk
-    rise xs part h = floor-forward a node (ps ++ (is ++ ds)) xs (names-are blocks s c p i d) part (all-at _ ok 10) h
+    limits = sym (limits-are blocks s c p i d) ∙ all-at _ ok 15
+
+    limited-names : every limited (ps ++ (is ++ ds)) && every limited ls ≡ true
+    limited-names = and-left (every limited (ps ++ (is ++ ds)) && every limited ls) (every limited (extremes es)) limits
+
+    rise : (xs : List ℕ) → ((f : ℕ → Bool) → every f (ps ++ (is ++ ds)) ≡ true → every f xs ≡ true) → rising xs ≡ true → risesInside (startOf a) xs ≡ true
+    unfolding nodeOk
+    rise xs part h =
+        inside-make a xs (floor-forward a node (ps ++ (is ++ ds)) xs (names-are blocks s c p i d) part (all-at _ ok 10) h)
+        (part limited (and-left (every limited (ps ++ (is ++ ds))) (every limited ls) limited-names))
 
     buffers : buffersRise node ≡ true
     unfolding nodeOk
@@ -212,9 +222,11 @@ module _ (s : List ℕ) (blocks level : ℕ) (a : Asked) (keys64 : entryKeyed a 
     unfolding nodeOk
     count = count-most blocks s c p i d (fewest a) (sym (count-is blocks s c p i d a) ∙ all-at _ ok 2)
 
-    lows-above : every (leb (lowOf a)) ls ≡ true
+    lows-inside : risesInside (startOf a) ls ≡ true
     unfolding nodeOk
-    lows-above = sym (lows-above-is blocks s c p i d a) ∙ all-at _ ok 12
+    lows-inside =
+        inside-make a ls (rising-floor (lowOf a) ls (sym (lows-is blocks s c p i d) ∙ all-at _ ok 5) (sym (lows-above-is blocks s c p i d a) ∙ all-at _ ok 12))
+        (and-right (every limited (ps ++ (is ++ ds))) (every limited ls) limited-names)
 
     children : all (records others 28 c 8) && distinct (records (be 2 s) 28 c 8) ≡ true
     unfolding nodeOk
@@ -229,8 +241,10 @@ module _ (s : List ℕ) (blocks level : ℕ) (a : Asked) (keys64 : entryKeyed a 
     in-table = sym (blocks-is blocks s c p i d) ∙ all-at _ ok 11
 
     agreeing : all (records agreeable 28 c 8) ≡ true
-    unfolding nodeOk
-    agreeing = sym (credible-is blocks s c p i d a lows-above) ∙ all-at _ ok 14
+    unfolding nodeOk nodeFrom
+    agreeing =
+        sym (credible-is blocks s c p i d a (rising-from (startOf a) ls (inside-from a ls lows-inside)) (inside-before a ls lows-inside))
+        ∙ and-both _ _ (all-at _ ok 14) (and-right (every limited (ps ++ (is ++ ds)) && every limited ls) (every limited (extremes es)) limits)
 
     covers : all (records covered 28 c 8) ≡ true
     covers =
@@ -244,15 +258,15 @@ module _ (s : List ℕ) (blocks level : ℕ) (a : Asked) (keys64 : entryKeyed a 
     to-entries =
         tests-make shows 28 c 8
         (λ j l.
-        fine-make blocks (standsIn a) over (lowOf a) (8 + 28 * c) s (8 + 28 * j) (tests-at (entryBlank s) 28 c 8 j blank l) (tests-at (λ e. blockOk blocks (be 2 s e)) 28 c 8 j in-table l)
+        fine-make blocks (standsIn a) over (startOf a) (8 + 28 * c) s (8 + 28 * j) (tests-at (entryBlank s) 28 c 8 j blank l) (tests-at (λ e. blockOk blocks (be 2 s e)) 28 c 8 j in-table l)
         (tests-at others 28 c 8 j (and-left (all (records others 28 c 8)) (distinct (records (be 2 s) 28 c 8)) children) l) (tests-at covered 28 c 8 j covers l)
         (tests-at agreeable 28 c 8 j agreeing l))
 
-    to-first : firstFine (lowOf a) s c ≡ true
-    unfolding firstFine laidOut firstBlank nodeOk
+    to-first : firstFine (startOf a) s c ≡ true
+    unfolding firstFine laidOut firstBlank
     to-first =
-        ⊎-elim (λ h. in-left (eqb (be 8 s 12) 0 && risingFrom (lowOf a) ls) h)
-        (λ h. in-right (eqb c 0) (and-both _ _ h (rising-floor (lowOf a) ls (sym (lows-is blocks s c p i d) ∙ all-at _ ok 5) lows-above)))
+        ⊎-elim (λ h. in-left (eqb (be 8 s 12) 0 && risesInside (startOf a) ls) h)
+        (λ h. in-right (eqb c 0) (and-both _ _ h lows-inside))
         (or-either (eqb c 0) (eqb (be 8 s 12) 0) (all-at _ laid 5))
 
     to-blocks : blocksFine s c ≡ true
@@ -276,34 +290,43 @@ module _ (s : List ℕ) (blocks level : ℕ) (a : Asked) (keys64 : entryKeyed a 
     unfolding frontFine
     used-back = fst _ _ (fst _ _ (fst _ _ (fst _ _ (fst _ _ (fst _ _ hd)))))
 
-    rise-p : risingFrom (lowOf a) ps ≡ true
+    inside-p : risesInside (startOf a) ps ≡ true
     unfolding listsFine
-    rise-p = fst _ _ (fst _ _ lists)
+    inside-p = fst _ _ (fst _ _ lists)
 
-    both-i : risesUnder (lowOf a) low is ≡ true
+    both-i : risesUnder (startOf a) low is ≡ true
     unfolding listsFine
     both-i = snd _ _ (fst _ _ lists)
 
-    both-d : risesUnder (lowOf a) low ds ≡ true
+    both-d : risesUnder (startOf a) low ds ≡ true
     unfolding listsFine
     both-d = snd _ _ lists
 
+    inside-i : risesInside (startOf a) is ≡ true
+    inside-i = and-left (risesInside (startOf a) is) (every (ranksUnder low) is) both-i
+
+    inside-d : risesInside (startOf a) ds ≡ true
+    inside-d = and-left (risesInside (startOf a) ds) (every (ranksUnder low) ds) both-d
+
+    rise-p : risingFrom (lowOf a) ps ≡ true
+    rise-p = inside-rise a ps inside-p
+
     rise-i : risingFrom (lowOf a) is ≡ true
-    rise-i = and-left (risingFrom (lowOf a) is) (every (ranksUnder low) is) both-i
+    rise-i = inside-rise a is inside-i
 
     rise-d : risingFrom (lowOf a) ds ≡ true
-    rise-d = and-left (risingFrom (lowOf a) ds) (every (ranksUnder low) ds) both-d
+    rise-d = inside-rise a ds inside-d
 
     under-id : every (ranksUnder low) (is ++ ds) ≡ true
     under-id =
-        every-join (ranksUnder low) is ds (and-right (risingFrom (lowOf a) is) (every (ranksUnder low) is) both-i)
-        (and-right (risingFrom (lowOf a) ds) (every (ranksUnder low) ds) both-d)
+        every-join (ranksUnder low) is ds (and-right (risesInside (startOf a) is) (every (ranksUnder low) is) both-i)
+        (and-right (risesInside (startOf a) ds) (every (ranksUnder low) ds) both-d)
 
     entries : all (records shows 28 c 8) ≡ true
     unfolding restFine entriesFine
     entries = fst _ _ (snd _ _ (fst _ _ (fst _ _ more)))
 
-    first : firstFine (lowOf a) s c ≡ true
+    first : firstFine (startOf a) s c ≡ true
     unfolding restFine entriesFine
     first = snd _ _ (snd _ _ (fst _ _ (fst _ _ more)))
 
@@ -322,11 +345,11 @@ module _ (s : List ℕ) (blocks level : ℕ) (a : Asked) (keys64 : entryKeyed a 
         (all-cons _ _ (snd _ _ (fst _ _ (fst _ _ (fst _ _ (fst _ _ (fst _ _ hd))))))
         (all-cons _ _ (snd _ _ (fst _ _ (fst _ _ (fst _ _ (fst _ _ hd)))))
         (all-cons _ _ (ap (λ (k : ℕ). every isZero (drop k s)) (sym (eqb-true (be 2 s 0) (usedBytes version1 c p i d) used-back)) ∙ snd _ _ (fst _ _ (fst _ _ (fst _ _ more))))
-        (all-cons _ _ (tests-mono shows 28 (entryBlank s) (λ e q. fine-blank blocks (standsIn a) over (lowOf a) (8 + 28 * c) s e q) c 8 entries)
+        (all-cons _ _ (tests-mono shows 28 (entryBlank s) (λ e q. fine-blank blocks (standsIn a) over (startOf a) (8 + 28 * c) s e q) c 8 entries)
         (all-cons _ _
         (⊎-elim (λ h. in-left (eqb (be 8 s 12) 0) h)
-        (λ h. in-right (eqb c 0) (and-left (eqb (be 8 s 12) 0) (risingFrom (lowOf a) ls) h))
-        (or-either (eqb c 0) (eqb (be 8 s 12) 0 && risingFrom (lowOf a) ls) first))
+        (λ h. in-right (eqb c 0) (and-left (eqb (be 8 s 12) 0) (risesInside (startOf a) ls) h))
+        (or-either (eqb c 0) (eqb (be 8 s 12) 0 && risesInside (startOf a) ls) first))
         all-nil)))))
 
     from-rise : buffersRise node ≡ true
@@ -344,20 +367,20 @@ module _ (s : List ℕ) (blocks level : ℕ) (a : Asked) (keys64 : entryKeyed a 
         (distinct-join is ds (rising-distinct (lowOf a) is rise-i) (rising-distinct (lowOf a) ds rise-d) (apart-fact is ds (fst _ _ (fst _ _ (fst _ _ (fst _ _ more))))))
         (above-apart rankKey (is ++ ds) ps (least-above rankKey lastKey (is ++ ds) ps under-id))
 
-    from-lows : risingFrom (lowOf a) ls ≡ true
+    inside-l : risesInside (startOf a) ls ≡ true
     unfolding firstFine
-    from-lows =
-        ⊎-elim (λ h. let e : c - 1 ≡ 0 = omega (arith, eqb-true c 0 h) in ap (λ (k : ℕ). risingFrom (lowOf a) (keysFrom s 28 k 40)) e)
-        (λ h. and-right (eqb (be 8 s 12) 0) (risingFrom (lowOf a) ls) h)
-        (or-either (eqb c 0) (eqb (be 8 s 12) 0 && risingFrom (lowOf a) ls) first)
+    inside-l =
+        ⊎-elim (λ h. let e : c - 1 ≡ 0 = omega (arith, eqb-true c 0 h) in ap (λ (k : ℕ). risesInside (startOf a) (keysFrom s 28 k 40)) e)
+        (λ h. and-right (eqb (be 8 s 12) 0) (risesInside (startOf a) ls) h)
+        (or-either (eqb c 0) (eqb (be 8 s 12) 0 && risesInside (startOf a) ls) first)
 
-    from-below : every (leb (lowOf a)) ls ≡ true
-    from-below = rising-from (lowOf a) ls from-lows
+    from-lows : risingFrom (lowOf a) ls ≡ true
+    from-lows = inside-rise a ls inside-l
 
     -- an entry's top is below P's lowest, or there is none
     from-topped : all (records topped 28 c 8) ≡ true
     unfolding aboveTops
-    from-topped = tests-mono shows 28 topped (λ e q. pick (ltb p 32) (empties e) (rankKey (keyAt s (e + 12))) (fine-top blocks (standsIn a) over (lowOf a) (8 + 28 * c) s e q)) c 8 entries
+    from-topped = tests-mono shows 28 topped (λ e q. pick (ltb p 32) (empties e) (rankKey (keyAt s (e + 12))) (fine-top blocks (standsIn a) over (startOf a) (8 + 28 * c) s e q)) c 8 entries
       where
         pick : (t b : Bool) (r : ℕ) → b || ltb r (cond t 0 low) ≡ true → b || ltb r low ≡ true
         pick true b r q = in-left (ltb r low) (or-right b (ltb r 0) q (leb·suc-zero r))
@@ -375,15 +398,26 @@ module _ (s : List ℕ) (blocks level : ℕ) (a : Asked) (keys64 : entryKeyed a 
         (lowest-is blocks s c p i d
         ∙ and-both _ _ h
         (tests-mono shows 28 empties
-        (λ e q. or-right (empties e) (ranksUnder 0 (keyAt s (e + 12))) (subst (λ (l : ℕ). empties e || ranksUnder l (keyAt s (e + 12)) ≡ true) (thin-over h) (fine-top blocks (standsIn a) over (lowOf a) (8 + 28 * c) s e q)) (leb·suc-zero (rankKey (keyAt s (e + 12)))))
+        (λ e q. or-right (empties e) (ranksUnder 0 (keyAt s (e + 12))) (subst (λ (l : ℕ). empties e || ranksUnder l (keyAt s (e + 12)) ≡ true) (thin-over h) (fine-top blocks (standsIn a) over (startOf a) (8 + 28 * c) s e q)) (leb·suc-zero (rankKey (keyAt s (e + 12)))))
         c 8 entries)))
         (or-either full thin sizes)
 
     from-others : all (records others 28 c 8) ≡ true
-    from-others = tests-mono shows 28 others (λ e q. fine-other blocks (standsIn a) over (lowOf a) (8 + 28 * c) s e q) c 8 entries
+    from-others = tests-mono shows 28 others (λ e q. fine-other blocks (standsIn a) over (startOf a) (8 + 28 * c) s e q) c 8 entries
 
-    from-credible : all (records agreeable 28 c 8) ≡ true
-    from-credible = tests-mono shows 28 agreeable (λ e q. fine-credible blocks (standsIn a) over (lowOf a) (8 + 28 * c) s e q) c 8 entries
+    from-credible : entriesCredible a node && every limited (extremes (node .entries)) ≡ true
+    from-credible =
+        credible-is blocks s c p i d a (rising-from (startOf a) ls (inside-from a ls inside-l)) (inside-before a ls inside-l)
+        ∙ tests-mono shows 28 agreeable (λ e q. fine-credible blocks (standsIn a) over (startOf a) (8 + 28 * c) s e q) c 8 entries
+
+    from-limits : insideLimits node ≡ true
+    unfolding nodeFrom
+    from-limits =
+        limits-are blocks s c p i d
+        ∙ and-both _ _
+        (and-both _ _ (every-join limited ps (is ++ ds) (inside-limited a ps inside-p) (every-join limited is ds (inside-limited a is inside-i) (inside-limited a ds inside-d)))
+        (inside-limited a ls inside-l))
+        (and-right (entriesCredible a node) (every limited (extremes es)) from-credible)
 
     from-all : nodeOk level a node ≡ true
     unfolding nodeOk frontFine restFine nodeFrom
@@ -399,39 +433,19 @@ module _ (s : List ℕ) (blocks level : ℕ) (a : Asked) (keys64 : entryKeyed a 
         (all-cons _ _ (leaf-is blocks s c p i d ∙ snd _ _ hd)
         (all-cons _ _ (agrees-is blocks s c i d a keys64 p ∙ snd _ _ more)
         (all-cons _ _ (floor-back a node ps is ds (names-are blocks s c p i d) rise-p rise-i rise-d)
-        (all-cons _ _ (blocks-is blocks s c p i d ∙ tests-mono shows 28 (λ e. blockOk blocks (be 2 s e)) (λ e q. fine-block blocks (standsIn a) over (lowOf a) (8 + 28 * c) s e q) c 8 entries)
-        (all-cons _ _ (lows-above-is blocks s c p i d a ∙ from-below)
+        (all-cons _ _ (blocks-is blocks s c p i d ∙ tests-mono shows 28 (λ e. blockOk blocks (be 2 s e)) (λ e q. fine-block blocks (standsIn a) over (startOf a) (8 + 28 * c) s e q) c 8 entries)
+        (all-cons _ _ (lows-above-is blocks s c p i d a ∙ rising-from (lowOf a) ls from-lows)
         (all-cons _ _ (apart-is blocks s c p i d a ∙ and-both _ _ from-others (once-is s c (count-most blocks s c p i d (fewest a) counted) ∙ snd _ _ (fst _ _ more)))
-        (all-cons _ _ (credible-is blocks s c p i d a from-below ∙ from-credible)
-        all-nil))))))))))))))
+        (all-cons _ _ (and-left (entriesCredible a node) (every limited (extremes (node .entries))) from-credible)
+        (all-cons _ _ from-limits
+        all-nil)))))))))))))))
 
   same : (frontFine level (fewest a) head and bodyFine s blocks a head) ≡ nodeOk level a node
   same =
       bool-ext (frontFine level (fewest a) head and bodyFine s blocks a head) (nodeOk level a node) (λ q. from-all (fst _ _ q) (snd _ _ q)) (λ q. pair (to-head q) (to-body q))
 
 -- the node of a block passes exactly if its front and its body pass
-node-is : (s : List ℕ) (blocks level : ℕ) (a : Asked) → entryKeyed a ≡ true
+pub node-is : (s : List ℕ) (blocks level : ℕ) (a : Asked) → entryKeyed a ≡ true
     → (frontFine level (fewest a) (frontOf s) and bodyFine s blocks a (frontOf s)) ≡ nodeOk level a (nodeOf blocks s)
 unfolding frontOf nodeOf
 node-is s blocks level a k = same s blocks level a k (be 1 s 7) (be 1 s 4) (be 1 s 5) (be 1 s 6)
-
-pub used-fits : (level few : ℕ) (h : Front) → frontFine level few h ≡ true → usedBytes version1 (h .c) (h .p) (h .i) (h .d) ≤ 1896
-unfolding frontFine
-used-fits level few h q = leb-true _ _ (snd _ _ (fst _ _ (fst _ _ (fst _ _ (fst _ _ (fst _ _ q))))))
-
-pub used-is : (level few : ℕ) (h : Front) → frontFine level few h ≡ true → h .used ≡ usedBytes version1 (h .c) (h .p) (h .i) (h .d)
-unfolding frontFine
-used-is level few h q = eqb-true _ _ (fst _ _ (fst _ _ (fst _ _ (fst _ _ (fst _ _ (fst _ _ q))))))
-
--- a call that tests the front, and one that tests the body
-module _ (s : List ℕ) (blocks level : ℕ) (a : Asked) (keys64 : entryKeyed a ≡ true) {f : ℕ} {h : Front} {r : Bool} (ef : f ≡ fewest a) (eh : h ≡ frontOf s)
-    (er : r ≡ frontFine level f h) where
-  front-is : r ≡ frontFine level (fewest a) (frontOf s)
-  front-is = cc
-
-  pub node-stop : not r ≡ true → false ≡ nodeOk level a (nodeOf blocks s)
-  node-stop t = and-stop (bodyFine s blocks a (frontOf s)) front-is t ∙ node-is s blocks level a keys64
-
-  pub node-go : not r ≡ false → {q : Bool} → q ≡ bodyFine s blocks a h → q ≡ nodeOk level a (nodeOf blocks s)
-  node-go t e =
-      and-go (frontFine level (fewest a) (frontOf s)) front-is t (e ∙ ap (λ (x : Front). bodyFine s blocks a x) eh) ∙ node-is s blocks level a keys64

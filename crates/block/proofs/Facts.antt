@@ -15,8 +15,8 @@ use Rattle.octets.specs.Bitmap.{bit}
 use Rattle.octets.specs.Bytes.{be}
 use Rattle.octets.proofs.Order.{same-or-not}
 use Rattle.octets.proofs.UpTo.{upTo-in, every-upTo}
-use Rattle.octets.proofs.Tests.{all-at, all-cons, all-nil, every-mem, or-either, empty-list, empty-length}
-use Rattle.spot.specs.Keys.{rankKey}
+use Rattle.octets.proofs.Tests.{all-at, all-cons, all-nil, every-mem, every-left, every-right, or-either, empty-list, empty-length}
+use Rattle.spot.specs.Keys.{rankKey, limited}
 use Rattle.spot.specs.Spots.{keys}
 use Rattle.block.specs.declared.Entry.{Entry}
 use Rattle.block.specs.declared.Asked.{Asked}
@@ -24,7 +24,7 @@ use Rattle.block.specs.Table.{version1, blockOk, blocksOf, capacity, tab
 use Rattle.block.specs.Header.{Header}
 use Rattle.block.specs.HeaderRules.{headerOk, mapShows}
 use Rattle.block.specs.Node.{Node, nodeOf, nodeFrom, laidOut, pointsFrom, insertsFrom}
-use Rattle.block.specs.NodeRules.{nodeOk, names, fewest, childCountOk, childBlocksOk, buffersRise, namedOnce, lows, zeroFirst, lowsRise, tops, pointsAbove, filled, lowest, leafBuffersEmpty, agrees, notBelow}
+use Rattle.block.specs.NodeRules.{nodeOk, names, fewest, childCountOk, childBlocksOk, buffersRise, namedOnce, lows, zeroFirst, lowsRise, tops, pointsAbove, filled, lowest, leafBuffersEmpty, agrees, notBelow, extremes, insideLimits}
 use Rattle.block.specs.Access.{frontOf, usedOf}
 use Rattle.block.specs.Checks.{isZero}
 use Rattle.block.proofs.Making.{blocks-most}
@@ -50,6 +50,12 @@ pub record NodeFacts (level : ℕ) (a : Asked) (n : Node) : Type 0 where
   pub inner-least : (n .level ≡ 0 → ⊥) → fewest a ≤ length (n .entries)
   pub agreed : agrees a n ≡ true
   pub from-low : notBelow a n ≡ true
+  pub names-limited : every limited (names n) ≡ true
+  pub points-limited : every limited (keys (n .points)) ≡ true
+  pub inserts-limited : every limited (keys (n .inserts)) ≡ true
+  pub deletes-limited : every limited (n .deletes) ≡ true
+  pub lows-limited : every limited (rest (lows (n .entries))) ≡ true
+  pub extremes-limited : every limited (extremes (n .entries)) ≡ true
 
 module _ (level : ℕ) (a : Asked) (n : Node) (ok : nodeOk level a n ≡ true) where
   counted : childCountOk a n ≡ true
@@ -102,6 +108,21 @@ module _ (level : ℕ) (a : Asked) (n : Node) (ok : nodeOk level a n ≡ true) w
       (omega arith, omega arith, omega arith))
       kinds
 
+  -- the keys that it names, the lows and the extremes
+  limits : every limited (names n ++ rest (lows (n .entries)) ++ extremes (n .entries)) ≡ true
+  unfolding nodeOk insideLimits
+  limits = all-at _ ok 15
+
+  limited-more : every limited (names n ++ rest (lows (n .entries))) ≡ true
+  limited-more = every-left limited (names n ++ rest (lows (n .entries))) (extremes (n .entries)) limits
+
+  limited-names : every limited (keys (n .points) ++ keys (n .inserts) ++ n .deletes) ≡ true
+  unfolding names
+  limited-names = every-left limited (names n) (rest (lows (n .entries))) limited-more
+
+  limited-spots : every limited (keys (n .points) ++ keys (n .inserts)) ≡ true
+  limited-spots = every-left limited (keys (n .points) ++ keys (n .inserts)) (n .deletes) limited-names
+
   pub node-facts : NodeFacts level a n
   unfolding nodeOk namedOnce buffersRise lowsRise pointsAbove childBlocksOk blockOk
   node-facts =
@@ -131,6 +152,12 @@ module _ (level : ℕ) (a : Asked) (n : Node) (ok : nodeOk level a n ≡ true) w
         inner-least = λ d. count-inner d .0;
         agreed = all-at _ ok 9;
         from-low = all-at _ ok 10;
+        names-limited = every-left limited (names n) (rest (lows (n .entries))) limited-more;
+        points-limited = every-left limited (keys (n .points)) (keys (n .inserts)) limited-spots;
+        inserts-limited = every-right limited (keys (n .points)) (keys (n .inserts)) limited-spots;
+        deletes-limited = every-right limited (keys (n .points) ++ keys (n .inserts)) (n .deletes) limited-names;
+        lows-limited = every-right limited (names n) (rest (lows (n .entries))) limited-more;
+        extremes-limited = every-right limited (names n ++ rest (lows (n .entries))) (extremes (n .entries)) limits;
       }
 
 -- the bytes of a block: its counts, and where the lists of its node end

@@ -1,4 +1,5 @@
 pub mod Shut
+pub mod Inside
 pub mod Passes
 pub mod Apart
 pub mod Above
@@ -9,6 +10,7 @@ pub mod Agree
 pub mod Rules
 pub mod Children
 pub mod Bridge
+pub mod Verdict
 pub mod Heads
 pub mod Clear
 pub mod Making
@@ -16,3 +18,5 @@ pub mod Reading
 pub mod Facts
 pub mod Frames
 pub mod Heading
+pub mod Limits
+pub mod Extremes

@@ -15,7 +15,7 @@ use Rattle.spot.specs.Keys.{rankKey}
 use Rattle.spot.specs.Spots.{keyAt}
 use Rattle.block.specs.Table.{blockOk}
 use Rattle.block.specs.Node.{entryBlank}
-use Rattle.block.specs.Checks.{otherBlock, sizeAt, fromAt, credibleFine, entryFine, entryShows}
+use Rattle.block.specs.Checks.{otherBlock, sizeAt, fromAt, nextAt, credibleFine, entryFine, entryShows}
 use Rattle.octets.proofs.Bytes.{be-one}
 use Rattle.octets.proofs.Tests.{and-left, and-right, and-both, or-either}
 
@@ -39,19 +39,19 @@ kept-of true z f b k p = refl
 kept-of false z f b k p = and-both f k (and-left f (b && k) p) (and-right b k (and-right f (b && k) p))
 
 -- the test by calls that return the entry's fields
-pub entry-made : (blocks own low from : ℕ) (last : Bool) (next : ℕ) (s : List ℕ) (a : ℕ) {b n z t u x y r : ℕ} {k : Bool} → b ≡ be 2 s a
+pub entry-made : (blocks own low from next : ℕ) (s : List ℕ) (a : ℕ) {b n z t u x y r : ℕ} {k : Bool} → b ≡ be 2 s a
     → n ≡ getD s (a + 2) 0 → z ≡ getD s (a + 3) 0 → t ≡ keyAt s (a + 12) → u ≡ keyAt s (a + 20) → x ≡ be 8 s (a + 12) → y ≡ be 8 s (a + 20)
-    → r ≡ rankKey t → k ≡ credibleFine (n + 256 * z) t u from last next
+    → r ≡ rankKey t → k ≡ credibleFine (n + 256 * z) t u from next
     → (leb 1 b && ltb b blocks && not (eqb own b)) && ((eqb (n + 256 * z) 0 && eqb x 0 && eqb y 0) || (not (eqb (n + 256 * z) 0) && leb (n + 256 * z) 64 && (ltb r low && k)))
-    ≡ entryFine blocks own low from last next s a
+    ≡ entryFine blocks own low from next s a
 unfolding entryFine
-entry-made blocks own low from last next s a eb en ez et eu ex ey er ek = cc (be-one s (a + 2), be-one s (a + 3))
+entry-made blocks own low from next s a eb en ez et eu ex ey er ek = cc (be-one s (a + 2), be-one s (a + 3))
 
 -- some P agrees with the entry at a
 abbrev pub credibleAt : ℕ → ℕ → List ℕ → ℕ → Bool
 credibleAt floor end s a =
     eqb (be 1 s (a + 2)) 0
-    || (leb (be 1 s (a + 2)) 64 && credibleFine (be 1 s (a + 2)) (keyAt s (a + 12)) (keyAt s (a + 20)) (fromAt floor s a) (leb end (a + 28)) (keyAt s (a + 32)))
+    || (leb (be 1 s (a + 2)) 64 && credibleFine (be 1 s (a + 2)) (keyAt s (a + 12)) (keyAt s (a + 20)) (fromAt floor s a) (nextAt end s a))
 
 module _ (blocks own low floor end : ℕ) (s : List ℕ) (a : ℕ) where
   abbrev inside : Bool
@@ -73,7 +73,7 @@ module _ (blocks own low floor end : ℕ) (s : List ℕ) (a : ℕ) where
   below = ltb (rankKey (keyAt s (a + 12))) low
 
   abbrev kept : ℕ → Bool
-  kept n = credibleFine n (keyAt s (a + 12)) (keyAt s (a + 20)) (fromAt floor s a) (leb end (a + 28)) (keyAt s (a + 32))
+  kept n = credibleFine n (keyAt s (a + 12)) (keyAt s (a + 20)) (fromAt floor s a) (nextAt end s a)
 
   -- what a size n shows
   abbrev shown : ℕ → Bool

@@ -11,15 +11,16 @@ use lib.ListN.{length}
 use borrow.Author.Tests.{eqb-true, leb-true}
 use Rattle.octets.specs.Lists.{all, every, records, isEmpty, rest, rising, risingFrom}
 use Rattle.octets.specs.Bytes.{be}
+use Rattle.spot.specs.Keys.{limited}
 use Rattle.spot.specs.Spots.{keyAt, spotAt, keysFrom}
 use Rattle.block.specs.declared.Entry.{Entry}
 use Rattle.block.specs.declared.Asked.{Asked}
 use Rattle.block.specs.declared.Asked.the-variants.{Root, Child}
 use Rattle.block.specs.Table.{blockOk, version1}
 use Rattle.block.specs.Node.{Node, nodeFrom, entryAt, firstOpen}
-use Rattle.block.specs.NodeRules.{lowOf, names, fewest, childCountOk, filled, lowest, leafBuffersEmpty, notBelow, lows, zeroFirst, lowsRise, childBlocksOk}
+use Rattle.block.specs.NodeRules.{lowOf, names, fewest, childCountOk, filled, lowest, leafBuffersEmpty, notBelow, lows, zeroFirst, lowsRise, childBlocksOk, extremes, insideLimits}
 use Rattle.block.specs.Checks.{countFine, leafFine}
-use Rattle.octets.proofs.Tests.{and-left, and-right, and-both, or-either, every-join}
+use Rattle.octets.proofs.Tests.{and-left, and-right, and-both, or-either, every-append, every-join}
 use Rattle.octets.proofs.Rising.{rising-rest, rising-from}
 use Rattle.octets.proofs.Records.{length-records, empty-records}
 use Rattle.block.proofs.Shut.{cond-or, all2, all4}
@@ -114,3 +115,13 @@ module _ (blocks : ℕ) (s : List ℕ) (c p i d : ℕ) where
   pub blocks-is : childBlocksOk node ≡ all (records (λ a. blockOk blocks (be 2 s a)) 28 c 8)
   unfolding childBlocksOk nodeFrom entryAt
   blocks-is = every-entry (λ e. blockOk blocks (e .block)) (λ e. refl) s c
+
+  pub limits-are : insideLimits node
+      ≡ (every limited (keysFrom s 12 p (8 + 28 * c) ++ (keysFrom s 12 i (8 + 28 * c + 12 * p) ++ keysFrom s 8 d (8 + 28 * c + 12 * (p + i))))
+      && every limited (keysFrom s 28 (c - 1) 40))
+      && every limited (extremes es)
+  unfolding insideLimits nodeFrom
+  limits-are =
+      every-append limited (names node ++ rest (lows es)) (extremes es)
+      ∙ ap (λ (b : Bool). b && every limited (extremes es))
+      (every-append limited (names node) (rest (lows es)) ∙ ap₂ (λ (x y : List ℕ). every limited x && every limited y) names-are (rest-lows s c))

@@ -2,7 +2,7 @@
 -- Assumes nothing.
 use mathlib.Core.Path.{_≡_, refl, sym, ap, subst⁻¹, _∙_}
 use mathlib.Core.Logic.{⊎-elim}
-use mathlib.Core.Bool.{Bool, true, false, cond, _&&_, _||_}
+use mathlib.Core.Bool.{Bool, true, false, cond, _&&_, _||_, and-assoc}
 use mathlib.Core.List.{List, [], _∷_, _++_, List·Memᴰ, List·Memᴰ·head, List·Memᴰ·tail, List·Memᴰ·cases-cons}
 use Prim.Native.Nat.{ℕ, zero, suc, _+_, _-_, _*_}
 use native.Mathlib.Omega.{arith}
@@ -12,7 +12,7 @@ use Rattle.octets.specs.Lists.{all, every, records, isEmpty, rest}
 use Rattle.spot.specs.Spots.{keyAt, keysFrom}
 use Rattle.block.specs.declared.Entry.{Entry}
 use Rattle.block.specs.Node.{entryAt, openBelow, firstOpen}
-use Rattle.block.specs.NodeRules.{lows, zeroFirst, tops}
+use Rattle.block.specs.NodeRules.{lows, zeroFirst, tops, extremes}
 use Rattle.octets.proofs.Records.{every-records, tests-at, tests-make}
 
 -- ---- tests at every record
@@ -60,6 +60,16 @@ every-top u (e ∷ es) =
     pick : (b : Bool) → every u (cond b (tops es) (e .top ∷ tops es)) ≡ (b || u (e .top)) && every u (tops es)
     pick true = refl
     pick false = refl
+
+-- and so is one of the highest and the lowest
+pub every-extremes : (u : ℕ → Bool) (es : List Entry) → every u (extremes es) ≡ every (λ e. eqb (e .size) 0 || (u (e .top) && u (e .bottom))) es
+every-extremes u [] = refl
+every-extremes u (e ∷ es) =
+    pick (eqb (e .size) 0) ∙ ap (λ (b : Bool). (eqb (e .size) 0 || (u (e .top) && u (e .bottom))) && b) (every-extremes u es)
+  where
+    pick : (b : Bool) → every u (cond b (extremes es) (e .top ∷ e .bottom ∷ extremes es)) ≡ (b || (u (e .top) && u (e .bottom))) && every u (extremes es)
+    pick true = refl
+    pick false = sym (and-assoc (u (e .top)) (u (e .bottom)) (every u (extremes es)))
 
 -- the lows of entries
 pub length-lows : (es : List Entry) → length (lows es) ≡ length es

@@ -1,6 +1,6 @@
 -- What each part of the validation of a block computes.
 -- Assumes nothing.
-use Prim.Native.Nat.{ℕ, _+_, _-_, _*_, _≤_, _<_}
+use Prim.Native.Nat.{ℕ, _+_, _-_, _*_, _≤_, _<_, max}
 use mathlib.Core.Path.{_≡_}
 use mathlib.Core.Bool.{Bool, true, not, cond, _&&_, _||_}
 use mathlib.Core.List.{List, map}
@@ -9,7 +9,7 @@ use lib.ListN.{drop, set}
 use Rattle.octets.specs.Lists.{all, every, records, risingFrom, has, maximum, minimum, upTo}
 use Rattle.octets.specs.Bitmap.{bit}
 use Rattle.octets.specs.Bytes.{be}
-use Rattle.spot.specs.Keys.{rankKey}
+use Rattle.spot.specs.Keys.{rankKey, startKey, endKey}
 use Rattle.spot.specs.Spots.{keyAt, keysFrom}
 use Rattle.block.specs.declared.Points.{Points}
 use Rattle.block.specs.declared.Front.{Front}
@@ -31,17 +31,25 @@ isZero x = eqb x 0
 abbrev pub ranksUnder : ℕ → ℕ → Bool
 ranksUnder low k = ltb (rankKey k) low
 
--- rising, from floor on, and below low in rank order
+-- k comes before e
+abbrev pub comesBefore : ℕ → ℕ → Bool
+comesBefore e k = ltb k e
+
+-- rising, from floor on, and inside the limits above
+abbrev pub risesInside : ℕ → List ℕ → Bool
+risesInside floor ks = risingFrom floor ks && every (comesBefore endKey) ks
+
+-- the same, and below low in rank order
 abbrev pub risesUnder : ℕ → ℕ → List ℕ → Bool
-risesUnder floor low ks = risingFrom floor ks && every (ranksUnder low) ks
+risesUnder floor low ks = risesInside floor ks && every (ranksUnder low) ks
 
 -- the highest number of 64 bits
 abbrev pub lastKey : ℕ
 lastKey = 18446744073709551615
 
--- a pass over P: whether it rises from floor on, its lowest and its highest in rank order
+-- a pass over P: whether it rises from floor on inside the limits, its lowest and its highest in rank order
 pub record PointsAre (floor : ℕ) (ks : List ℕ) (r : Points) : Type 0 where
-  pub rise : r .ok ≡ risingFrom floor ks
+  pub rise : r .ok ≡ risesInside floor ks
   pub least : r .low ≡ minimum lastKey (map rankKey ks)
   pub most : r .high ≡ maximum (map rankKey ks)
 
@@ -56,16 +64,20 @@ pub record Past (s : List ℕ) (at n from k r : ℕ) : Type 0 where
 abbrev pub apart : List ℕ → List ℕ → Bool
 apart xs ys = every (λ x. not (has x ys)) xs
 
--- k lies in a child's range: from its low on, and before the next child's low unless it is the last
-unfoldable pub inFine : ℕ → Bool → ℕ → ℕ → Bool
-inFine from last next k = leb from k && (last || ltb k next)
+-- where the keys of a node begin: where its range does, inside the limits
+unfoldable pub startOf : Asked → ℕ
+startOf a = max (lowOf a) startKey
+
+-- k lies in a child's range: from its low on, and before the next child's low, the last one's inside the limits
+unfoldable pub inFine : ℕ → ℕ → ℕ → Bool
+inFine from next k = leb from k && ltb k next
 
 -- n points can have this highest and this lowest in rank order: they are the same of one, and of more the highest lies above; both lie in the child's range
-unfoldable pub credibleFine : ℕ → ℕ → ℕ → ℕ → Bool → ℕ → Bool
-credibleFine n top bottom from last next =
+unfoldable pub credibleFine : ℕ → ℕ → ℕ → ℕ → ℕ → Bool
+credibleFine n top bottom from next =
     ((eqb n 1 && eqb top bottom) || (not (eqb n 1) && ltb (rankKey bottom) (rankKey top)))
-    && inFine from last next top
-    && inFine from last next bottom
+    && inFine from next top
+    && inFine from next bottom
 
 -- the entry at a names another block than b
 abbrev pub otherBlock : ℕ → List ℕ → ℕ → Bool
@@ -75,25 +87,29 @@ otherBlock b s a = not (eqb b (be 2 s a))
 abbrev pub sizeAt : List ℕ → ℕ → ℕ
 sizeAt s a = be 1 s (a + 2) + 256 * be 1 s (a + 3)
 
--- what the entry at a shows, in the node of block own, of a child whose range begins at from: its block, its zero bytes, and where its child's P isn't
--- empty, that the top is below low in rank order and that some P has this size, top and bottom
-unfoldable pub entryFine : ℕ → ℕ → ℕ → ℕ → Bool → ℕ → List ℕ → ℕ → Bool
-entryFine blocks own low from last next s a =
+-- what the entry at a shows, in the node of block own, of a child whose range is from one key up to the next: its block, its zero bytes, and where its child's
+-- P isn't empty, that the top is below low in rank order and that some P has this size, top and bottom
+unfoldable pub entryFine : ℕ → ℕ → ℕ → ℕ → ℕ → List ℕ → ℕ → Bool
+entryFine blocks own low from next s a =
     (leb 1 (be 2 s a) && ltb (be 2 s a) blocks && otherBlock own s a)
     && ((eqb (sizeAt s a) 0 && eqb (be 8 s (a + 12)) 0 && eqb (be 8 s (a + 20)) 0)
-    || (not (eqb (sizeAt s a) 0) && leb (sizeAt s a) 64 && (ltb (rankKey (keyAt s (a + 12))) low && credibleFine (sizeAt s a) (keyAt s (a + 12)) (keyAt s (a + 20)) from last next)))
+    || (not (eqb (sizeAt s a) 0) && leb (sizeAt s a) 64 && (ltb (rankKey (keyAt s (a + 12))) low && credibleFine (sizeAt s a) (keyAt s (a + 12)) (keyAt s (a + 20)) from next)))
 
 -- where the range of a child begins whose entry stands at a: the first child's where the node's does
 abbrev pub fromAt : ℕ → List ℕ → ℕ → ℕ
 fromAt floor s a = cond (eqb a 8) floor (keyAt s (a + 4))
 
+-- and where it ends, of the entries that end at end: the last child's where the limits do
+abbrev pub nextAt : ℕ → List ℕ → ℕ → ℕ
+nextAt end s a = cond (leb end (a + 28)) endKey (keyAt s (a + 32))
+
 -- the same of one of the entries that end at end
 unfoldable pub entryShows : ℕ → ℕ → ℕ → ℕ → ℕ → List ℕ → ℕ → Bool
-entryShows blocks own low floor end s a = entryFine blocks own low (fromAt floor s a) (leb end (a + 28)) (keyAt s (a + 32)) s a
+entryShows blocks own low floor end s a = entryFine blocks own low (fromAt floor s a) (nextAt end s a) s a
 
--- the first entry's range field is zero, the others' rise from floor on
+-- the first entry's range field is zero, the others' rise from floor on inside the limits
 unfoldable pub firstFine : ℕ → List ℕ → ℕ → Bool
-firstFine floor s c = eqb c 0 || (eqb (be 8 s 12) 0 && risingFrom floor (keysFrom s 28 (c - 1) 40))
+firstFine floor s c = eqb c 0 || (eqb (be 8 s 12) 0 && risesInside floor (keysFrom s 28 (c - 1) 40))
 
 unfoldable pub entriesFine : List ℕ → ℕ → ℕ → ℕ → ℕ → ℕ → Bool
 entriesFine s c blocks own low floor = all (records (entryShows blocks own low floor (8 + 28 * c) s) 28 c 8) and firstFine floor s c
@@ -161,12 +177,12 @@ highRank s h = maximum (map rankKey (keysP s h))
 
 unfoldable pub listsFine : List ℕ → Asked → Front → Bool
 listsFine s a h =
-    risingFrom (lowOf a) (keysP s h) and risesUnder (lowOf a) (lowRank s h) (keysI s h) and risesUnder (lowOf a) (lowRank s h) (keysD s h)
+    risesInside (startOf a) (keysP s h) and risesUnder (startOf a) (lowRank s h) (keysI s h) and risesUnder (startOf a) (lowRank s h) (keysD s h)
 
 unfoldable pub restFine : List ℕ → ℕ → Asked → Front → Bool
 restFine s blocks a h =
     apart (keysI s h) (keysD s h) and every isZero (drop (h .used) s)
-    and entriesFine s (h .c) blocks (standsIn a) (aboveTops (h .p) (lowRank s h)) (lowOf a)
+    and entriesFine s (h .c) blocks (standsIn a) (aboveTops (h .p) (lowRank s h)) (startOf a)
     and blocksFine s (h .c)
     and agreesFine a (h .p) (lowRank s h) (highRank s h)
 

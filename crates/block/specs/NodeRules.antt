@@ -7,13 +7,13 @@ use mathlib.Core.List.{List, [], _∷_, _++_, map}
 use lib.ListN.{length}
 use lib.Dec.{ltb, leb, eqb}
 use Rattle.octets.specs.Lists.{all, every, has, isEmpty, rest, rising, distinct}
-use Rattle.spot.specs.Keys.{rankKey}
+use Rattle.spot.specs.Keys.{rankKey, limited}
 use Rattle.spot.specs.Spots.{keys}
 use Rattle.block.specs.declared.Entry.{Entry}
 use Rattle.block.specs.declared.Asked.{Asked}
 use Rattle.block.specs.declared.Asked.the-variants.{Root, Child}
 use Rattle.block.specs.Table.{blockOk}
-use Rattle.block.specs.Node.{Node, storeOf}
+use Rattle.block.specs.Node.{Node, nodeOf, storeOf}
 
 -- the keys that a node names
 unfoldable pub names : Node → List ℕ
@@ -150,6 +150,20 @@ allCredible from (e ∷ es) = entryCredible from e es && allCredible from es
 unfoldable pub entriesCredible : Asked → Node → Bool
 entriesCredible a n = allCredible (lowOf a) (n .entries)
 
+-- the highest and the lowest of each child's P that isn't empty, as the entries show them
+abbrev pub extremes : List Entry → List ℕ
+extremes [] = []
+extremes (e ∷ es) = cond (eqb (e .size) 0) (extremes es) (e .top ∷ e .bottom ∷ extremes es)
+
+-- the keys that a node stores: those that it names, the lows from the second entry on and what the entries show of a P that isn't empty. The other fields are
+-- unused.
+abbrev pub storedKeys : Node → List ℕ
+storedKeys n = names n ++ rest (lows (n .entries)) ++ extremes (n .entries)
+
+-- request 2026-07: "A stored place outside counts as a broken rule under 3"
+unfoldable pub insideLimits : Node → Bool
+insideLimits n = every limited (storedKeys n)
+
 -- all that a node block, read at this level (rule 2), and the entry leading to it can show
 unfoldable pub nodeOk : ℕ → Asked → Node → Bool
 nodeOk level a n =
@@ -169,6 +183,7 @@ nodeOk level a n =
     lowsNotBelow a n ∷
     childrenApart a n ∷
     entriesCredible a n ∷
+    insideLimits n ∷
     [])
 
 -- a block of a table in which a node stands that keeps the rules of some level
@@ -177,3 +192,11 @@ pub record ValidBlock (t : List ℕ) (b : ℕ) : Type 0 where
   pub asked : Asked
   pub ok : nodeOk level asked (storeOf t b) ≡ true
   pub inside : b * 2048 + 2048 ≤ length t
+
+-- the bytes of such a block, in a table of `room` blocks
+pub record ValidBytes (s : List ℕ) : Type 0 where
+  pub room : ℕ
+  pub level : ℕ
+  pub asked : Asked
+  pub ok : nodeOk level asked (nodeOf room s) ≡ true
+  pub sized : length s ≡ 2048

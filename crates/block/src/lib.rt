@@ -1,20 +1,21 @@
 // The one place that knows the layout of a card's blocks.
 ghost use mathlib.Core.Path.{_≡_};
-ghost use mathlib.Core.Bool.{true, cond, not};
+ghost use mathlib.Core.Bool.{true, false, cond, not};
 ghost use Prim.Native.Nat.{_+_, _-_, _*_, _≤_, _<_, min, max};
 ghost use lib.ListN.{length, drop};
 ghost use Rattle.octets.specs.Lists.{every, risingFrom, rising, upTo};
 ghost use Rattle.octets.specs.Bitmap.{bit};
+ghost use Rattle.spot.specs.Keys.{limited};
 ghost use Rattle.spot.specs.Spots.{keyAt, keysFrom};
 ghost use Rattle.block.specs.Table.{version1, tableSized, capacity};
 ghost use Rattle.block.specs.Header.{headOf, headerOf};
 ghost use Rattle.block.specs.Node.{nodeOf, storeOf, pointsFrom, insertsFrom, deletesFrom};
-ghost use Rattle.block.specs.NodeRules.{nodeOk, fewest, lowOf, standsIn};
+ghost use Rattle.block.specs.NodeRules.{nodeOk, ValidBytes, fewest, standsIn};
 ghost use Rattle.block.specs.HeaderRules.{headerOk};
 ghost use Rattle.block.specs.Fresh.{formatted};
 ghost use Rattle.block.specs.Answers.{answer};
 ghost use Rattle.block.specs.Access.{frontOf, Small, usedOf, EntryIs};
-ghost use Rattle.block.specs.Checks.{isZero, risesUnder, PointsAre, Past, apart, inFine, credibleFine, entryFine, entriesFine, freshFine, blocksFine, aboveTops, countFine, sizesFine, leafFine, frontFine, entryKeyed, agreesFine, bodyFine, mapFine, numbersFine, freshMarks};
+ghost use Rattle.block.specs.Checks.{isZero, startOf, risesUnder, PointsAre, Past, apart, inFine, credibleFine, entryFine, entriesFine, freshFine, blocksFine, aboveTops, countFine, sizesFine, leafFine, frontFine, entryKeyed, agreesFine, bodyFine, mapFine, numbersFine, freshMarks};
 
 // A table: its blocks, and the spots that it has room for in each block after the first.
 pub const BLOCK_BYTES: usize = 2048;
@@ -178,7 +179,7 @@ pub fn deletes_from(h: Front) -> usize
 
 // The key at a place that is in use, else 0.
 fn key_unless(s: &[u8], at: usize, unused: bool) -> u64
-    requires { ⌜ at + 8 ≤ length (now s) ⌝ }
+    requires { ⌜ (at + 8 ≤ length (now s)) × (unused ≡ false → limited (keyAt (now s) at) ≡ true) ⌝ }
     ensures { λ r. ⌜ r ≡ cond unused 0 (keyAt (now (s .entry)) at) ⌝ }
 {
     if unused {
@@ -187,9 +188,9 @@ fn key_unless(s: &[u8], at: usize, unused: bool) -> u64
     spot::read_key(s, at)
 }
 
-// The entry with index i.
+// The entry with index i of a node that keeps the rules.
 pub fn entry_at(s: &[u8], i: usize) -> Entry
-    requires { ⌜ 36 + 28 * i ≤ length (now s) ⌝ }
+    requires { ⌜ ValidBytes (now s) × (i < frontOf (now s) .c) ⌝ }
     ensures { λ r. ⌜ EntryIs (now (s .entry)) i r ⌝ }
 {
     let at = FRONT_BYTES + ENTRY_BYTES * i;
@@ -231,11 +232,11 @@ pub fn rises(s: &[u8], at: usize, w: usize, n: usize, floor: u64) -> bool
     if n == 0 {
         return true;
     }
-    let mut prev = spot::read_key(s, at);
+    let mut prev = spot::raw_key(s, at);
     let mut ok = floor <= prev;
     let mut i = 1;
     while i < n {
-        let k = spot::read_key(s, at + w * i);
+        let k = spot::raw_key(s, at + w * i);
         ok = ok & (prev < k);
         prev = k;
         i += 1;
@@ -243,7 +244,7 @@ pub fn rises(s: &[u8], at: usize, w: usize, n: usize, floor: u64) -> bool
     ok
 }
 
-// The same, and all are below low in rank order.
+// The same, all are inside the limits above, and all are below low in rank order. As they rise, the last one decides about the limits.
 fn rises_under(s: &[u8], at: usize, w: usize, n: usize, floor: u64, low: u64) -> bool
     requires { ⌜ (8 ≤ w) × (at + w * n ≤ length (now s)) ⌝ }
     ensures { λ r. ⌜ r ≡ risesUnder floor low (keysFrom (now (s .entry)) w n at) ⌝ }
@@ -251,16 +252,16 @@ fn rises_under(s: &[u8], at: usize, w: usize, n: usize, floor: u64, low: u64) ->
     if n == 0 {
         return true;
     }
-    let mut prev = spot::read_key(s, at);
+    let mut prev = spot::raw_key(s, at);
     let mut ok = (floor <= prev) & (spot::rank_key(prev) < low);
     let mut i = 1;
     while i < n {
-        let k = spot::read_key(s, at + w * i);
+        let k = spot::raw_key(s, at + w * i);
         ok = ok & ((prev < k) & (spot::rank_key(k) < low));
         prev = k;
         i += 1;
     }
-    ok
+    ok & (prev < spot::END_KEY)
 }
 
 fn smaller(a: u64, b: u64) -> u64
@@ -275,7 +276,7 @@ fn greater(a: u64, b: u64) -> u64
     if a < b { b } else { a }
 }
 
-// One pass over P: whether it rises from floor on, and its lowest and highest in rank order.
+// One pass over P: whether it rises from floor on inside the limits, and its lowest and highest in rank order.
 fn points_of(s: &[u8], at: usize, n: usize, floor: u64) -> Points
     requires { ⌜ at + 12 * n ≤ length (now s) ⌝ }
     ensures { λ r. ⌜ PointsAre floor (keysFrom (now (s .entry)) 12 n at) r ⌝ }
@@ -287,13 +288,13 @@ fn points_of(s: &[u8], at: usize, n: usize, floor: u64) -> Points
             high: 0,
         };
     }
-    let mut prev = spot::read_key(s, at);
+    let mut prev = spot::raw_key(s, at);
     let mut ok = floor <= prev;
     let mut low = spot::rank_key(prev);
     let mut high = low;
     let mut i = 1;
     while i < n {
-        let k = spot::read_key(s, at + spot::SPOT_BYTES * i);
+        let k = spot::raw_key(s, at + spot::SPOT_BYTES * i);
         let r = spot::rank_key(k);
         ok = ok & (prev < k);
         low = smaller(low, r);
@@ -301,7 +302,11 @@ fn points_of(s: &[u8], at: usize, n: usize, floor: u64) -> Points
         prev = k;
         i += 1;
     }
-    Points { ok, low, high }
+    Points {
+        ok: ok & (prev < spot::END_KEY),
+        low,
+        high,
+    }
 }
 
 // The first of the n spots from at on, not before the one at from, whose key is at least k.
@@ -311,7 +316,7 @@ fn past(s: &[u8], at: usize, n: usize, from: usize, k: u64) -> usize
 {
     let mut i = from;
     while i < n {
-        if k <= spot::read_key(s, at + spot::SPOT_BYTES * i) {
+        if k <= spot::raw_key(s, at + spot::SPOT_BYTES * i) {
             return i;
         }
         i += 1;
@@ -327,12 +332,12 @@ fn apart_ok(s: &[u8], at: usize, n: usize, ad: usize, d: usize) -> bool
     let mut i = 0;
     let mut j = 0;
     while j < d {
-        let b = spot::read_key(s, ad + spot::KEY_BYTES * j);
+        let b = spot::raw_key(s, ad + spot::KEY_BYTES * j);
         i = past(s, at, n, i, b);
         if n <= i {
             return true;
         }
-        if spot::read_key(s, at + spot::SPOT_BYTES * i) == b {
+        if spot::raw_key(s, at + spot::SPOT_BYTES * i) == b {
             return false;
         }
         j += 1;
@@ -340,50 +345,41 @@ fn apart_ok(s: &[u8], at: usize, n: usize, ad: usize, d: usize) -> bool
     true
 }
 
-// A key lies in a child's range: from its low on, and before the next child's low unless it is the last.
-fn in_child(k: u64, from: u64, next: u64, last: bool) -> bool
-    ensures { λ r. ⌜ r ≡ inFine from last next k ⌝ }
+// A key lies in a child's range: from its low on, and before the next child's low.
+fn in_child(k: u64, from: u64, next: u64) -> bool
+    ensures { λ r. ⌜ r ≡ inFine from next k ⌝ }
 {
-    (from <= k) & (last | (k < next))
+    (from <= k) & (k < next)
 }
 
 // There are n points with this highest and this lowest in rank order, in a child's range.
-fn credible(n: usize, top: u64, bottom: u64, from: u64, next: u64, last: bool) -> bool
-    ensures { λ r. ⌜ r ≡ credibleFine n top bottom from last next ⌝ }
+fn credible(n: usize, top: u64, bottom: u64, from: u64, next: u64) -> bool
+    ensures { λ r. ⌜ r ≡ credibleFine n top bottom from next ⌝ }
 {
     (((n == 1) & (top == bottom)) | ((n != 1) & (spot::rank_key(bottom) < spot::rank_key(top))))
-        & in_child(top, from, next, last)
-        & in_child(bottom, from, next, last)
+        & in_child(top, from, next)
+        & in_child(bottom, from, next)
 }
 
-// The entry at a place, in the node of block own, of a child whose range begins at from. The size is read with the zero byte after it, which makes it no size
-// where it isn't zero.
-fn entry_ok(
-    s: &[u8],
-    a: usize,
-    blocks: usize,
-    own: usize,
-    low: u64,
-    from: u64,
-    next: u64,
-    last: bool,
-) -> bool
+// The entry at a place, in the node of block own, of a child whose range is from one key up to the next. The size is read with the zero byte after it, which
+// makes it no size where it isn't zero.
+fn entry_ok(s: &[u8], a: usize, blocks: usize, own: usize, low: u64, from: u64, next: u64) -> bool
     requires { ⌜ a + 28 ≤ length (now s) ⌝ }
-    ensures { λ r. ⌜ r ≡ entryFine blocks own low from last next (now (s .entry)) a ⌝ }
+    ensures { λ r. ⌜ r ≡ entryFine blocks own low from next (now (s .entry)) a ⌝ }
 {
     let b = octets::read16(s, a);
     let n = octets::count_at(s, a + 2) + 256 * octets::count_at(s, a + 3);
-    let top = spot::read_key(s, a + 12);
-    let bottom = spot::read_key(s, a + 20);
+    let top = spot::raw_key(s, a + 12);
+    let bottom = spot::raw_key(s, a + 20);
     ((1 <= b) & (b < blocks) & (own != b))
         & (((n == 0) & (octets::read64(s, a + 12) == 0) & (octets::read64(s, a + 20) == 0))
             | ((n != 0)
                 & (n <= POINTS_MOST)
-                & ((spot::rank_key(top) < low) & credible(n, top, bottom, from, next, last))))
+                & ((spot::rank_key(top) < low) & credible(n, top, bottom, from, next))))
 }
 
-// The entries, from the last to the first, in the node of block own whose range begins at floor: what each shows, and that their lows rise. The first one's
-// range field is zero, and it begins where the node does.
+// The entries, from the last to the first, in the node of block own whose keys begin at floor: what each shows, and that their lows rise. The first one's range
+// field is zero, and it begins where the node does; the last one ends where the limits do, and so no key of an entry is asked for them by itself.
 fn entries_ok(s: &[u8], c: usize, blocks: usize, own: usize, low: u64, floor: u64) -> bool
     requires { ⌜ 40 + 28 * c ≤ length (now s) ⌝ }
     ensures { λ r. ⌜ r ≡ entriesFine (now (s .entry)) c blocks own low floor ⌝ }
@@ -392,13 +388,12 @@ fn entries_ok(s: &[u8], c: usize, blocks: usize, own: usize, low: u64, floor: u6
         return true;
     }
     let mut ok = true;
-    let mut last = true;
-    let mut next = 0;
+    let mut next = spot::END_KEY;
     let mut i = c - 1;
     while 0 < i {
-        let from = spot::read_key(s, 12 + ENTRY_BYTES * i);
+        let from = spot::raw_key(s, 12 + ENTRY_BYTES * i);
         ok = ok
-            & (last | (from < next))
+            & (from < next)
             & entry_ok(
                 s,
                 FRONT_BYTES + ENTRY_BYTES * i,
@@ -407,16 +402,14 @@ fn entries_ok(s: &[u8], c: usize, blocks: usize, own: usize, low: u64, floor: u6
                 low,
                 from,
                 next,
-                last,
             );
         next = from;
-        last = false;
         i -= 1;
     }
     ok
         & (octets::read64(s, 12) == 0)
-        & (last | (floor <= next))
-        & entry_ok(s, FRONT_BYTES, blocks, own, low, floor, next, last)
+        & ((c == 1) | (floor <= next))
+        & entry_ok(s, FRONT_BYTES, blocks, own, low, floor, next)
 }
 
 // No entry before the one with index j names its block.
@@ -491,13 +484,13 @@ fn front_ok(h: Front, level: usize, few: usize) -> bool
         & leaf_ok(h.level, h.i, h.d)
 }
 
-// Where the range begins that leads to a node.
+// Where the keys of a node begin: where the range that leads to it does, inside the limits.
 fn floor_of(a: Asked) -> u64
-    ensures { λ r. ⌜ r ≡ lowOf a ⌝ }
+    ensures { λ r. ⌜ r ≡ startOf a ⌝ }
 {
     match a {
-        Asked::Root(_) => 0,
-        Asked::Child(e) => e.low,
+        Asked::Root(_) => spot::START_KEY,
+        Asked::Child(e) => greater(e.low, spot::START_KEY),
     }
 }
 

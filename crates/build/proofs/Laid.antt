@@ -11,7 +11,7 @@ use Rattle.octets.proofs.Records.{length-records}
 use Rattle.spot.specs.declared.Spot.{Spot}
 use Rattle.spot.specs.Keys.{allKeys}
 use Rattle.spot.specs.Spots.{spotAt, spotsFrom}
-use Rattle.spot.proofs.Buffers.{spots-within}
+use Rattle.spot.proofs.Limits.{limited-spots}
 use Rattle.block.specs.declared.Entry.{Entry}
 use Rattle.block.specs.Header.{headOf}
 use Rattle.block.specs.HeaderRules.{headerOk}
@@ -82,7 +82,7 @@ module _ (t list : List ℕ) (n : ℕ) (sized : tableSized (length t) ≡ true) 
       let kept : Built fs (blocksOf (length t)) (storeOf v) 1 ys allKeys = built-kept fs (blocksOf (length t)) (storeOf u) (storeOf v) allKeys 1 ys (λ i lo hi. store-same u v (w .sized) i (w .else i (λ (z : i ≡ 0). omega arith))) tree in (
         record {
           up = seg .rises;
-          keyed = spots-within list 12 n 0;
+          limits = sym (limited-spots list n 0) ∙ seg .limits;
           few = subst (λ (k : ℕ). length ys ≤ capacity k) (sym same) (omega arith);
           header = subst (λ (k : ℕ). headerOk k (headOf v) ≡ true) (sym (w .sized)) (w .ok);
           root = w .root;

@@ -3,7 +3,7 @@
 use mathlib.Core.Path.{_≡_, refl, ap, sym, subst, _∙_}
 use mathlib.Core.Bool.{true, _&&_}
 use mathlib.Core.List.{List, [], _∷_, _++_}
-use Prim.Native.Nat.{ℕ, zero, suc, _+_, _-_, _*_, _≤_, max}
+use Prim.Native.Nat.{ℕ, zero, suc, _+_, _-_, _*_, _≤_, _<_, max}
 use native.Mathlib.Nat.{mul-comm, mul-assoc, mul-le-mul}
 use native.Mathlib.Omega.{arith}
 use lib.ListN.{length}
@@ -12,11 +12,25 @@ use borrow.Author.Tests.{leb-true, le-leb}
 use Rattle.octets.specs.Lists.{rising}
 use Rattle.octets.proofs.Rising.{rising-left, rising-right}
 use Rattle.octets.proofs.Tests.{and-left, and-right, and-both}
-use Rattle.spot.specs.Spots.{keys, spotsFrom}
+use Rattle.spot.specs.Keys.{limited}
+use Rattle.spot.specs.Spots.{keys, keyAt, spotsFrom}
 use Rattle.spot.proofs.Buffers.{keys-append, spots-join}
+use Rattle.spot.proofs.Limits.{limited-each, limited-all}
 use Rattle.rebuild_theory.specs.Build.{leaves, nodes, fansOk, shapeOf}
 use Rattle.rebuild_theory.proofs.Shape.{leaves-some}
 use Rattle.build.specs.Building.{Segment}
+
+-- ---- a spot of a segment
+
+pub segment-limited : (list : List ℕ) (from n i : ℕ) → Segment list from n → i < n → limited (keyAt list (12 * (from + i))) ≡ true
+segment-limited list from n i s h =
+    let e : 12 * (from + i) ≡ 12 * from + 12 * i = omega arith in
+    ap (λ (k : ℕ). limited (keyAt list k)) e ∙ limited-each list 12 n (12 * from) (s .limits) i h
+
+pub first-limited : (list : List ℕ) (from n : ℕ) → Segment list from n → (n ≡ 0 → ⊥) → limited (keyAt list (12 * from)) ≡ true
+first-limited list from n s d =
+    let e : 12 * from ≡ 12 * (from + 0) = omega arith in
+    ap (λ (k : ℕ). limited (keyAt list k)) e ∙ segment-limited list from n 0 s (omega (arith, d))
 
 -- ---- a part of a segment
 
@@ -25,8 +39,18 @@ segment-part list from n k m s h =
     let i = s .inside in
     let f = s .few in
     let e : n ≡ k + (m + (n - (k + m))) = omega arith in
-    record { inside = omega arith; few = omega arith; rises = go (n - (k + m)) (subst (λ (x : ℕ). rising (keys (spotsFrom list from x)) ≡ true) e (s .rises)) }
+    record {
+      inside = omega arith;
+      few = omega arith;
+      rises = go (n - (k + m)) (subst (λ (x : ℕ). rising (keys (spotsFrom list from x)) ≡ true) e (s .rises));
+      limits = limited-all list 12 m (12 * (from + k)) kept;
+    }
   where
+    kept : (i : ℕ) → i < m → limited (keyAt list (12 * (from + k) + 12 * i)) ≡ true
+    kept i l =
+        let e : 12 * (from + k) + 12 * i ≡ 12 * (from + (k + i)) = omega arith in
+        ap (λ (j : ℕ). limited (keyAt list j)) e ∙ segment-limited list from n (k + i) s (omega arith)
+
     go : (r : ℕ) → rising (keys (spotsFrom list from (k + (m + r)))) ≡ true → rising (keys (spotsFrom list (from + k) m)) ≡ true
     go r u =
         let a = spotsFrom list from k in

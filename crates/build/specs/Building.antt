@@ -10,7 +10,7 @@ use lib.Dec.{leb}
 use Rattle.octets.specs.Lists.{rising}
 use Rattle.octets.specs.Bytes.{be}
 use Rattle.octets.specs.Bitmap.{bit}
-use Rattle.spot.specs.Spots.{keys, spotsFrom}
+use Rattle.spot.specs.Spots.{keys, spotsFrom, limitedFrom}
 use Rattle.spot.specs.declared.Spot.{Spot}
 use Rattle.block.specs.Table.{blocksOf, block, mapBlocks, capacity, tableSized}
 use Rattle.block.specs.Header.{Header, headOf}
@@ -34,6 +34,7 @@ pub record Segment (list : List ℕ) (from n : ℕ) : Type 0 where
   pub inside : 12 * (from + n) ≤ length list
   pub few : n ≤ 65520
   pub rises : rising (keys (spotsFrom list from n)) ≡ true
+  pub limits : limitedFrom list 12 n (12 * from) ≡ true
 
 -- a rank key from which on a node takes 32 to 64 of the spots under the limit, or all of them
 pub record Cut (list : List ℕ) (from n : ℕ) (limit : Limit) (c : ℕ) : Type 0 where

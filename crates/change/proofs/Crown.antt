@@ -12,7 +12,7 @@ use lib.Dec.{eqb, leb}
 use borrow.Author.Tests.{eq-eqb, ne-eqb, le-leb, lt-ltb}
 use Rattle.octets.specs.Lists.{every, rest, rising}
 use Rattle.octets.proofs.Tests.{all-cons, all-nil, and-both, every-make}
-use Rattle.spot.specs.Keys.{allKeys, within, rankKey}
+use Rattle.spot.specs.Keys.{startKey, endKey, within, rankKey}
 use Rattle.spot.proofs.Places.{within-yes}
 use Rattle.block.specs.declared.Entry.{Entry}
 use Rattle.block.specs.declared.Asked.the-variants.{Root}
@@ -22,6 +22,7 @@ use Rattle.block.specs.NodeRules.{lows, zeroFirst, lowsRise, childCountOk, fewe
 use Rattle.block.proofs.Views.{length-lows}
 use Rattle.tree.specs.Part.{parts}
 use Rattle.tree.proofs.Below.{sizes-filled, sizes-lowest}
+use Rattle.tree.proofs.Legal.{legal-whole}
 use Rattle.update_theory.specs.Held.{Held}
 use Rattle.update_theory.specs.Change.{part, reaches, Sound}
 use Rattle.update_theory.specs.Spare.{Taken}
@@ -81,31 +82,31 @@ module _ {level : ℕ} {first second : Entry} {n : NodeValue} (o : Over level fi
     above = suc (rankKey (first .top) + rankKey (second .top))
 
     -- over sound parts it stands open
-    crown-open : OverSound t first second level (λ f. Open level (storeOf t) 0 allKeys above (entriesOf (n .entries)) (heldIn n) f)
+    crown-open : OverSound t first second level (λ f. Open level (storeOf t) startKey endKey above (entriesOf (n .entries)) (heldIn n) f)
     crown-open f low high kids finds =
-        subst⁻¹ (λ (ds : List Entry). Open level (storeOf t) 0 allKeys above ds (heldIn n) f) (o .entries)
-        (subst⁻¹ (λ (h : Held). Open level (storeOf t) 0 allKeys above (first ∷ second ∷ []) h f) (o .holds)
-        (raise level (storeOf t) 0 allKeys above first (second ∷ []) f kids (omega arith, (omega arith, tt)) finds
+        subst⁻¹ (λ (ds : List Entry). Open level (storeOf t) startKey endKey above ds (heldIn n) f) (o .entries)
+        (subst⁻¹ (λ (h : Held). Open level (storeOf t) startKey endKey above (first ∷ second ∷ []) h f) (o .holds)
+        (raise level (storeOf t) startKey endKey above first (second ∷ []) f kids (omega arith, (omega arith, tt)) finds
         (λ d i.
         ⊎-elim (λ (q : d ≡ first). let z : rankKey (d .top) ≡ rankKey (first .top) = ap (λ (x : Entry). rankKey (x .top)) q in omega arith)
         (λ (q : d ≡ second). let z : rankKey (d .top) ≡ rankKey (second .top) = ap (λ (x : Entry). rankKey (x .top)) q in omega arith)
         (either d first second i))))
 
     pub crown-whole : OverSound t first second level (λ f. r .broken ≡ false)
-    crown-whole f low high kids finds = p .whole 0 allKeys above f (omega arith) first-zero (crown-open f low high kids finds)
+    crown-whole f low high kids finds = p .whole startKey endKey above f legal-whole first-zero (crown-open f low high kids finds)
 
-    module _ (ok : r .ok ≡ true) (inner : 1 ≤ level) (t₂ : List ℕ) (b : ℕ) (st : Stored t₁ t₂ b (r .node)) (f : ℕ → Option ℕ) (low : 0 < second .low) (high : second .low < allKeys)
-        (kids : Sound level (storeOf t) (parts 0 allKeys (first ∷ second ∷ [])))
-        (finds : (k : ℕ) → within 0 allKeys k ≡ true → under level (storeOf t) 0 allKeys (first ∷ second ∷ []) k ≡ f k)
-        (off : List·Memᴰ b (reaches level (storeOf t) (parts 0 allKeys (first ∷ second ∷ []))) → ⊥) where
+    module _ (ok : r .ok ≡ true) (inner : 1 ≤ level) (t₂ : List ℕ) (b : ℕ) (st : Stored t₁ t₂ b (r .node)) (f : ℕ → Option ℕ) (low : startKey < second .low) (high : second .low < endKey)
+        (kids : Sound level (storeOf t) (parts startKey endKey (first ∷ second ∷ [])))
+        (finds : (k : ℕ) → within startKey endKey k ≡ true → under level (storeOf t) startKey endKey (first ∷ second ∷ []) k ≡ f k)
+        (off : List·Memᴰ b (reaches level (storeOf t) (parts startKey endKey (first ∷ second ∷ []))) → ⊥) where
       abbrev m : Node
       m = nodeIn (blocksOf (length t₁)) (r .node)
 
       abbrev es : List Entry
       es = entriesOf (r .node .entries)
 
-      filled-is : FilledBy (storeOf t) (storeOf t₁) level n (r .node) 0 allKeys f
-      filled-is = p .done ok 0 allKeys above f (omega arith) first-zero (crown-open f low high kids finds)
+      filled-is : FilledBy (storeOf t) (storeOf t₁) level n (r .node) startKey endKey f
+      filled-is = p .done ok startKey endKey above f legal-whole first-zero (crown-open f low high kids finds)
 
       lows-then : lows es ≡ first .low ∷ second .low ∷ []
       lows-then = p .sameLows ∙ lows-are
@@ -124,7 +125,7 @@ module _ {level : ℕ} {first second : Entry} {n : NodeValue} (o : Over level fi
           sizes-filled m h (omega (arith, np, p .works .points)) (omega (arith, ni, p .inserts, o .inserts)) (omega (arith, nd, p .deletes, o .deletes))
       sizes (inr h) = sizes-lowest m (h .0) (h .1) (h .2) (h .3)
 
-      shape : Shape level b (Root b) 0 allKeys m
+      shape : Shape level b (Root b) startKey endKey m
       unfolding childCountOk fewest lowsRise leafBuffersEmpty agrees childBlocksOk blockOk standsIn
       shape =
           record {
@@ -132,29 +133,29 @@ module _ {level : ℕ} {first second : Entry} {n : NodeValue} (o : Over level fi
             level = eq-eqb (r .node .level) level (p .works .level);
             count = rw deep (all-cons _ _ (le-leb 2 (length es) (omega (arith, two))) (all-cons _ _ (le-leb (length es) 8 (omega (arith, two))) all-nil));
             lowsUp = all-cons _ _ (ap zeroFirst (p .sameLows) ∙ first-zero) (all-cons _ _ (ap (λ (l : List ℕ). rising (rest l)) lows-then ∙ and-both (leb 0 (second .low)) true (le-leb 0 (second .low) (omega arith)) refl) all-nil);
-            lowsIn = ap (λ (l : List ℕ). every (within 0 allKeys) (rest l)) lows-then ∙ and-both (within 0 allKeys (second .low)) true (within-yes 0 allKeys (second .low) (omega arith) high) refl;
+            lowsIn = ap (λ (l : List ℕ). every (within startKey endKey) (rest l)) lows-then ∙ and-both (within startKey endKey (second .low)) true (within-yes startKey endKey (second .low) (omega arith) high) refl;
             sizes = sizes (filled-is .full);
             leaf = rw deep;
             agree = refl;
             low = omega arith;
             blocks = every-make _ es (λ e i. let z = p .works .inside e i in all-cons _ _ (le-leb 1 (e .block) (z .0)) (all-cons _ _ (lt-ltb (e .block) (blocksOf (length t₁)) (z .1)) all-nil));
             own = refl;
-            full = omega arith;
+            legal = legal-whole;
           }
 
       -- the tree under it
-      pub crowned : Rooted level (storeOf t) (parts 0 allKeys (first ∷ second ∷ [])) (λ z. z ≡ b) (suc level) (storeOf t₂) b f
+      pub crowned : Rooted level (storeOf t) (parts startKey endKey (first ∷ second ∷ [])) (λ z. z ≡ b) (suc level) (storeOf t₂) b f
       crowned =
-          subst (λ (ds : List Entry). Rooted level (storeOf t) (parts 0 allKeys ds) (λ z. z ≡ b) (suc level) (storeOf t₂) b f) (o .entries)
+          subst (λ (ds : List Entry). Rooted level (storeOf t) (parts startKey endKey ds) (λ z. z ≡ b) (suc level) (storeOf t₂) b f) (o .entries)
           (record { sound = u .sound; found = u .found; reached = u .reached; still = u .still })
         where
-          off-n : List·Memᴰ b (reaches level (storeOf t) (parts 0 allKeys (entriesOf (n .entries)))) → ⊥
-          off-n = subst⁻¹ (λ (ds : List Entry). List·Memᴰ b (reaches level (storeOf t) (parts 0 allKeys ds)) → ⊥) (o .entries) off
+          off-n : List·Memᴰ b (reaches level (storeOf t) (parts startKey endKey (entriesOf (n .entries)))) → ⊥
+          off-n = subst⁻¹ (λ (ds : List Entry). List·Memᴰ b (reaches level (storeOf t) (parts startKey endKey ds)) → ⊥) (o .entries) off
 
-          u : Raised level (λ z. z ≡ b) (storeOf t) (parts 0 allKeys (entriesOf (n .entries))) (storeOf t₂) (part b (Root b) 0 allKeys) f
+          u : Raised level (λ z. z ≡ b) (storeOf t) (parts startKey endKey (entriesOf (n .entries))) (storeOf t₂) (part b (Root b) startKey endKey) f
           u =
-              raised level (λ z. z ≡ b) (storeOf t) (parts 0 allKeys (entriesOf (n .entries))) (storeOf t₁) (storeOf t₂) b (Root b) 0 allKeys (filled-is .rank) m f
-              (under level (storeOf t₁) 0 allKeys es) (Taken [] [])
-              (λ z (e : z ≡ b) i. off-n (subst (λ (k : ℕ). List·Memᴰ k (reaches level (storeOf t) (parts 0 allKeys (entriesOf (n .entries))))) e i))
+              raised level (λ z. z ≡ b) (storeOf t) (parts startKey endKey (entriesOf (n .entries))) (storeOf t₁) (storeOf t₂) b (Root b) startKey endKey (filled-is .rank) m f
+              (under level (storeOf t₁) startKey endKey es) (Taken [] [])
+              (λ z (e : z ≡ b) i. off-n (subst (λ (k : ℕ). List·Memᴰ k (reaches level (storeOf t) (parts startKey endKey (entriesOf (n .entries))))) e i))
               (λ z i. absurd (List·Memᴰ·not-nil (i .0))) (λ z e. inr e) refl (λ i. List·Memᴰ·not-nil (i .0))
               (filled-is .loop .going .changed) (filled-is .loop .going .node) shape (st .here) (stored-else t₁ t₂ b (r .node) st)

@@ -9,7 +9,7 @@ use native.Mathlib.Omega.{arith}
 use lib.ListN.{length, replicate, length-replicate}
 use Rattle.octets.specs.Bitmap.{bit}
 use Rattle.octets.proofs.Bits.{bit-zeros}
-use Rattle.spot.specs.Keys.{allKeys, within}
+use Rattle.spot.specs.Keys.{startKey, endKey, within}
 use Rattle.spot.specs.Spots.{keys}
 use Rattle.spot.specs.declared.Spot.{Spot}
 use Rattle.block.specs.Table.{block, blocksOf, capacity, tableSized, putBlock}
@@ -90,7 +90,7 @@ module _ {t w : List ℕ} {root level ni nd bound : ℕ} (a : HeavyAt t w root l
 
       -- not as it should be
       pub heavy-undone : {t₃ : List ℕ} {ss : List Spot} {ks : List ℕ} {g : Grown} {r : Outcome} → GrowPost t t₂ root level ss ks spare g → r ≡ refusal (g .broken) → Undone t₂ w₂ map₂ t₃
-          → ((k : ℕ) → List·Memᴰ k (keys ss) → within 0 allKeys k ≡ true) → ((k : ℕ) → List·Memᴰ k ks → within 0 allKeys k ≡ true) → ChangedBy t t₃ w w₂ ss ks bound r
+          → ((k : ℕ) → List·Memᴰ k (keys ss) → within startKey endKey k ≡ true) → ((k : ℕ) → List·Memᴰ k ks → within startKey endKey k ≡ true) → ChangedBy t t₃ w w₂ ss ks bound r
       heavy-undone {g = g} p said u fitI fitD =
           record {
             sized = u .sized ∙ both .table;
@@ -159,7 +159,7 @@ module _ {t w : List ℕ} {root level ni nd bound : ℕ} (a : HeavyAt t w root l
 
         -- and then all is well
         pub heavy-done : {t₃ : List ℕ} → Reheaded (putBlock t₂ 0 (block w₂ 0)) t₃ (takenOf spare (g .left)) (g .levels) (g .root) bound
-            → ((k : ℕ) → List·Memᴰ k (keys ss) → within 0 allKeys k ≡ true) → ((k : ℕ) → List·Memᴰ k ks → within 0 allKeys k ≡ true)
+            → ((k : ℕ) → List·Memᴰ k (keys ss) → within startKey endKey k ≡ true) → ((k : ℕ) → List·Memᴰ k ks → within startKey endKey k ≡ true)
             → ChangedBy t t₃ w w₂ ss ks bound Done
         heavy-done {t₃} r fitI fitD =
             record {

@@ -1,23 +1,19 @@
--- Whether a node in memory has room: its numbers say what its lists do. And keys in memory are of 64 bits.
+-- Whether a node in memory has room: its numbers say what its lists do. And where keys lie that are inside the limits.
 -- Assumes nothing.
 use mathlib.Core.Path.{_≡_, ap, sym, _∙_}
 use mathlib.Core.Bool.{Bool, true, not, _&&_, false≢true}
-use mathlib.Core.Logic.{⊎-elim}
-use mathlib.Core.List.{List, [], _∷_, List·Memᴰ, List·Memᴰ·not-nil, List·Memᴰ·cases-cons}
+use mathlib.Core.List.{List, List·Memᴰ}
 use Prim.Native.Nat.{ℕ}
-use lib.ListN.{length, take}
+use lib.ListN.{length}
 use lib.Dec.{eqb, ltb}
 use borrow.Author.Tests.{eq-eqb, ltb-true}
 use Rattle.octets.specs.Lists.{every}
 use Rattle.octets.proofs.Tests.{and-left, and-right, every-mem}
-use Rattle.spot.specs.Keys.{allKeys, within}
-use Rattle.spot.specs.Spots.{keys}
-use Rattle.spot.specs.declared.Spot.{Spot}
+use Rattle.spot.specs.Keys.{within, limited, startKey, endKey}
+use Rattle.spot.proofs.Limits.{limited-within}
 use Rattle.block.proofs.Shut.{all4}
 use Rattle.buffer.proofs.Laws.{held-length, named-length}
-use Rattle.node.specs.Bytes.{keyFits, spotFits}
 use Rattle.node.specs.declared.NodeValue.{NodeValue}
-use Rattle.node.proofs.Fits.{every-take}
 use Rattle.edit.specs.Edits.{Tidy}
 use Rattle.change.specs.Room.{roomy}
 use Rattle.change.specs.Growing.{HasRoom}
@@ -49,16 +45,6 @@ module _ (n : NodeValue) (longP : length (n .points .spots) ≡ 80) (longI : len
 
 -- ---- keys
 
-each-key : (ss : List Spot) → every spotFits ss ≡ true → (k : ℕ) → List·Memᴰ k (keys ss) → within 0 allKeys k ≡ true
-each-key [] h k i = absurd (List·Memᴰ·not-nil i)
-each-key (s ∷ ss) h k i =
-    ⊎-elim (λ (e : k ≡ s .key). ap (within 0 allKeys) e ∙ and-left (keyFits (s .key)) _ (and-left (spotFits s) (every spotFits ss) h))
-    (each-key ss (and-right (spotFits s) (every spotFits ss) h) k) (List·Memᴰ·cases-cons i)
-
--- the keys of some spots that fit
-pub spots-within : (n : ℕ) (ss : List Spot) → every spotFits ss ≡ true → (k : ℕ) → List·Memᴰ k (keys (take n ss)) → within 0 allKeys k ≡ true
-spots-within n ss h = each-key (take n ss) (every-take spotFits n ss h)
-
--- and keys that do
-pub keys-within : (n : ℕ) (ks : List ℕ) → every keyFits ks ≡ true → (k : ℕ) → List·Memᴰ k (take n ks) → within 0 allKeys k ≡ true
-keys-within n ks h k i = every-mem keyFits (take n ks) (every-take keyFits n ks h) i
+-- keys with a place inside the limits lie in the root's range, cut down to them
+pub limited-in : (ks : List ℕ) → every limited ks ≡ true → (k : ℕ) → List·Memᴰ k ks → within startKey endKey k ≡ true
+limited-in ks h k i = sym (limited-within k) ∙ every-mem limited ks h i

@@ -15,13 +15,15 @@ use Rattle.octets.specs.Lists.{distinct}
 use Rattle.octets.specs.Sets.{Apart}
 use Rattle.octets.proofs.Tests.{neither}
 use Rattle.octets.proofs.Sets.{in-or-not}
-use Rattle.spot.specs.Keys.{allKeys, within}
+use Rattle.spot.specs.Keys.{startKey, endKey, within}
 use Rattle.spot.specs.declared.Spot.{Spot}
+use Rattle.spot.proofs.Limits.{first-end}
 use Rattle.block.specs.declared.Asked.the-variants.{Root, Child}
 use Rattle.block.specs.Table.{blocksOf}
 use Rattle.block.specs.Node.{Store, storeOf}
 use Rattle.tree.specs.Part.{Part, parts}
 use Rattle.tree.specs.Lookup.{lookup}
+use Rattle.tree.proofs.Legal.{legal-whole}
 use Rattle.update_theory.specs.Change.{part, reaches, Sound, Changed}
 use Rattle.update_theory.specs.Spare.{Taken}
 use Rattle.update_theory.specs.Open.{under}
@@ -88,8 +90,8 @@ crown-done {level = level} t₂ spare left b o p ok zero inner deep some last st
 
 -- what holds of a part that is sound holds of the tree
 at-root : (t : List ℕ) (root level : ℕ) (ss : List Spot) (ks : List ℕ) (spare : Spare) (Then : ℕ → ℕ → Type 0) → WhereSound t level root (Root root) ss ks spare (spare .n) Then
-    → OnTree t root level ss ks spare (Then 0 allKeys)
-at-root t root level ss ks spare Then h hi hd sound apart = h 0 allKeys (omega arith) (omega arith) (omega arith) hi hd sound apart
+    → OnTree t root level ss ks spare (Then startKey endKey)
+at-root t root level ss ks spare Then h hi hd sound apart = h startKey endKey first-end legal-whole (omega arith) hi hd sound apart
 
 -- settling failed
 pub grow-fails : {t t′ : List ℕ} {root level : ℕ} {ss : List Spot} {ks : List ℕ} {spare : Spare} {s : Settled} {r : Grown} → SettlePost t t′ level root (Root root) ss ks spare (spare .n) s
@@ -112,15 +114,15 @@ module _ {t w map t₁ w₁ map₁ : List ℕ} {root level ni nd : ℕ} {ss : Li
   x = storeOf t
 
   abbrev whole-part : Part
-  whole-part = part root (Root root) 0 allKeys
+  whole-part = part root (Root root) startKey endKey
 
   abbrev says : ℕ → Option ℕ
   says k = batchSays ss ks k (lookup (suc level) x k whole-part)
 
-  all-of : (k : ℕ) → within 0 allKeys k ≡ true → within 0 allKeys k || false ≡ true
+  all-of : (k : ℕ) → within startKey endKey k ≡ true → within startKey endKey k || false ≡ true
   all-of k i = ap (λ (u : Bool). u || false) i
 
-  settled-to : OnTree t root level ss ks spare (SettledTo (storeOf t) (storeOf t₁) level root (Root root) 0 allKeys ss ks spare (spare .n) r)
+  settled-to : OnTree t root level ss ks spare (SettledTo (storeOf t) (storeOf t₁) level root (Root root) startKey endKey ss ks spare (spare .n) r)
   settled-to = at-root t root level ss ks spare (λ lo hi. SettledTo (storeOf t) (storeOf t₁) level root (Root root) lo hi ss ks spare (spare .n) r) (p .done ok)
 
   -- one part
@@ -133,7 +135,7 @@ module _ {t w map t₁ w₁ map₁ : List ℕ} {root level ni nd : ℕ} {ss : Li
         done = λ e hi hd sound apart.
             let q = settled-to hi hd sound apart in
             let c : Changed (suc level) (Taken (spareOf spare (spare .n)) (spareOf spare (r .left))) x (whole-part ∷ []) (storeOf t₁) (whole-part ∷ []) says =
-            subst (λ (two : Bool). Changed (suc level) (Taken (spareOf spare (spare .n)) (spareOf spare (r .left))) x (whole-part ∷ []) (storeOf t₁) (cond two (part root (Child (r .first)) 0 (r .second .low) ∷ part (r .second .block) (Child (r .second)) (r .second .low) allKeys ∷ []) (whole-part ∷ [])) says) one (q .changed)
+            subst (λ (two : Bool). Changed (suc level) (Taken (spareOf spare (spare .n)) (spareOf spare (r .left))) x (whole-part ∷ []) (storeOf t₁) (cond two (part root (Child (r .first)) startKey (r .second .low) ∷ part (r .second .block) (Child (r .second)) (r .second .low) endKey ∷ []) (whole-part ∷ [])) says) one (q .changed)
             in
             subst⁻¹ (λ (h : ℕ). Rooted (suc level) x (whole-part ∷ []) (Taken (spareOf spare (spare .n)) (spareOf spare (r .left))) h (storeOf t₁) root says) (add-one level)
             (rooted-one (suc level) (Taken (spareOf spare (spare .n)) (spareOf spare (r .left))) x root (storeOf t₁) says c);
@@ -155,17 +157,17 @@ module _ {t w map t₁ w₁ map₁ : List ℕ} {root level ni nd : ℕ} {ss : Li
           less = p .fewer;
         }
 
-    two-parts : SettledTo x (storeOf t₁) level root (Root root) 0 allKeys ss ks spare (spare .n) r
-        → Changed (suc level) (Taken (spareOf spare (spare .n)) (spareOf spare (r .left))) x (whole-part ∷ []) (storeOf t₁) (parts 0 allKeys (r .first ∷ r .second ∷ [])) says
+    two-parts : SettledTo x (storeOf t₁) level root (Root root) startKey endKey ss ks spare (spare .n) r
+        → Changed (suc level) (Taken (spareOf spare (spare .n)) (spareOf spare (r .left))) x (whole-part ∷ []) (storeOf t₁) (parts startKey endKey (r .first ∷ r .second ∷ [])) says
     two-parts q =
-        subst⁻¹ (λ (b : ℕ). Changed (suc level) (Taken (spareOf spare (spare .n)) (spareOf spare (r .left))) x (whole-part ∷ []) (storeOf t₁) (part b (Child (r .first)) 0 (r .second .low) ∷ part (r .second .block) (Child (r .second)) (r .second .low) allKeys ∷ []) says) (p .block ok)
-        (subst (λ (u : Bool). Changed (suc level) (Taken (spareOf spare (spare .n)) (spareOf spare (r .left))) x (whole-part ∷ []) (storeOf t₁) (cond u (part root (Child (r .first)) 0 (r .second .low) ∷ part (r .second .block) (Child (r .second)) (r .second .low) allKeys ∷ []) (whole-part ∷ [])) says) two (q .changed))
+        subst⁻¹ (λ (b : ℕ). Changed (suc level) (Taken (spareOf spare (spare .n)) (spareOf spare (r .left))) x (whole-part ∷ []) (storeOf t₁) (part b (Child (r .first)) startKey (r .second .low) ∷ part (r .second .block) (Child (r .second)) (r .second .low) endKey ∷ []) says) (p .block ok)
+        (subst (λ (u : Bool). Changed (suc level) (Taken (spareOf spare (spare .n)) (spareOf spare (r .left))) x (whole-part ∷ []) (storeOf t₁) (cond u (part root (Child (r .first)) startKey (r .second .low) ∷ part (r .second .block) (Child (r .second)) (r .second .low) endKey ∷ []) (whole-part ∷ [])) says) two (q .changed))
 
     -- they are sound, and what holds then of a new root over them holds
-    at-crown : (Then : (ℕ → Option ℕ) → Type 0) → OverSound t₁ (r .first) (r .second) (level + 1) Then → SettledTo x (storeOf t₁) level root (Root root) 0 allKeys ss ks spare (spare .n) r → Then says
+    at-crown : (Then : (ℕ → Option ℕ) → Type 0) → OverSound t₁ (r .first) (r .second) (level + 1) Then → SettledTo x (storeOf t₁) level root (Root root) startKey endKey ss ks spare (spare .n) r → Then says
     at-crown Then h q =
-        h says (q .apart two .0) (q .apart two .1) (subst⁻¹ (λ (h : ℕ). Sound h (storeOf t₁) (parts 0 allKeys (r .first ∷ r .second ∷ []))) (add-one level) (two-parts q .sound))
-        (subst⁻¹ (λ (h : ℕ). (k : ℕ) → within 0 allKeys k ≡ true → under h (storeOf t₁) 0 allKeys (r .first ∷ r .second ∷ []) k ≡ says k) (add-one level) (λ k i. two-parts q .found k (all-of k i)))
+        h says (q .apart two .0) (q .apart two .1) (subst⁻¹ (λ (h : ℕ). Sound h (storeOf t₁) (parts startKey endKey (r .first ∷ r .second ∷ []))) (add-one level) (two-parts q .sound))
+        (subst⁻¹ (λ (h : ℕ). (k : ℕ) → within startKey endKey k ≡ true → under h (storeOf t₁) startKey endKey (r .first ∷ r .second ∷ []) k ≡ says k) (add-one level) (λ k i. two-parts q .found k (all-of k i)))
 
     -- and with it the tree is whole
     pub grow-two : {t₂ : List ℕ} {g : Grown} → CrownPost t₁ t₂ (r .first) (r .second) (level + 1) spare (r .left) g → GrowPost t t₂ root level ss ks spare g
@@ -191,7 +193,7 @@ module _ {t w map t₁ w₁ map₁ : List ℕ} {root level ni nd : ℕ} {ss : Li
         all-spare : g .ok ≡ true → List·Memᴰ (g .root) (spareOf spare (r .left)) → List·Memᴰ (g .root) (spareOf spare (spare .n))
         all-spare e i = spare-less spare (r .left) (spare .n) (p .fewer) (g .root) i
 
-        grown : g .ok ≡ true → SettledTo x (storeOf t₁) level root (Root root) 0 allKeys ss ks spare (spare .n) r → Apart (spareOf spare (spare .n)) (reaches (suc level) x (whole-part ∷ []))
+        grown : g .ok ≡ true → SettledTo x (storeOf t₁) level root (Root root) startKey endKey ss ks spare (spare .n) r → Apart (spareOf spare (spare .n)) (reaches (suc level) x (whole-part ∷ []))
             → Rooted (suc level) x (whole-part ∷ []) (Taken (spareOf spare (spare .n)) (spareOf spare (g .left))) (g .levels) (storeOf t₂) (g .root) says
         grown e q apart =
             subst⁻¹ (λ (n : ℕ). Rooted (suc level) x (whole-part ∷ []) (Taken (spareOf spare (spare .n)) (spareOf spare n)) (g .levels) (storeOf t₂) (g .root) says) (c .fewer e)
@@ -205,18 +207,18 @@ module _ {t w map t₁ w₁ map₁ : List ℕ} {root level ni nd : ℕ} {ss : Li
             A = Taken (spareOf spare (spare .n)) (spareOf spare (r .left))
 
             qs : List Part
-            qs = parts 0 allKeys (r .first ∷ r .second ∷ [])
+            qs = parts startKey endKey (r .first ∷ r .second ∷ [])
 
             exact : (z : ℕ) → Taken (spareOf spare (spare .n)) (spareOf spare (r .left - 1)) z → Taken (spareOf spare (spare .n)) (spareOf spare (r .left)) z ⊎ (z ≡ g .root)
             exact z i =
                 ⊎-elim (λ j. ⊎-elim (λ k. absurd (i .1 k)) inr (spare-step spare (r .left) (g .root) (c .some e) (p .fewer) once (c .taken e) z j)) (λ n. inl (i .0, n)) (in-or-not z (spareOf spare (r .left)))
 
-            over : Rooted (suc level) (storeOf t₁) (parts 0 allKeys (r .first ∷ r .second ∷ [])) (λ z. z ≡ g .root) (suc (suc level)) (storeOf t₂) (g .root) says
+            over : Rooted (suc level) (storeOf t₁) (parts startKey endKey (r .first ∷ r .second ∷ [])) (λ z. z ≡ g .root) (suc (suc level)) (storeOf t₂) (g .root) says
             over =
-                subst (λ (h : ℕ). Rooted h (storeOf t₁) (parts 0 allKeys (r .first ∷ r .second ∷ [])) (λ z. z ≡ g .root) (suc h) (storeOf t₂) (g .root) says) (add-one level)
+                subst (λ (h : ℕ). Rooted h (storeOf t₁) (parts startKey endKey (r .first ∷ r .second ∷ [])) (λ z. z ≡ g .root) (suc h) (storeOf t₂) (g .root) says) (add-one level)
                 (at-crown
-                (λ f. (List·Memᴰ (g .root) (reaches (level + 1) (storeOf t₁) (parts 0 allKeys (r .first ∷ r .second ∷ []))) → ⊥)
-                → Rooted (level + 1) (storeOf t₁) (parts 0 allKeys (r .first ∷ r .second ∷ [])) (λ z. z ≡ g .root) (suc (level + 1)) (storeOf t₂) (g .root) f)
+                (λ f. (List·Memᴰ (g .root) (reaches (level + 1) (storeOf t₁) (parts startKey endKey (r .first ∷ r .second ∷ []))) → ⊥)
+                → Rooted (level + 1) (storeOf t₁) (parts startKey endKey (r .first ∷ r .second ∷ [])) (λ z. z ≡ g .root) (suc (level + 1)) (storeOf t₂) (g .root) f)
                 (c .done e) q
-                (subst⁻¹ (λ (h : ℕ). List·Memᴰ (g .root) (reaches h (storeOf t₁) (parts 0 allKeys (r .first ∷ r .second ∷ []))) → ⊥) (add-one level)
+                (subst⁻¹ (λ (h : ℕ). List·Memᴰ (g .root) (reaches h (storeOf t₁) (parts startKey endKey (r .first ∷ r .second ∷ []))) → ⊥) (add-one level)
                 (λ i. ⊎-elim (λ j. apart (g .root) (all-spare e (new e .0)) j) (λ n. n .1 (new e .0)) (two-parts q .reached (g .root) i))))

@@ -14,9 +14,10 @@ use borrow.Author.Tests.{eq-eqb, ne-eqb, le-leb, lt-ltb}
 use Rattle.octets.specs.Lists.{every, rest, rising}
 use Rattle.octets.specs.Bitmap.{bit}
 use Rattle.octets.proofs.Tests.{all-at, all-cons, all-nil, every-make}
-use Rattle.spot.specs.Keys.{allKeys, within}
+use Rattle.spot.specs.Keys.{startKey, endKey, within}
 use Rattle.spot.specs.Spots.{keys}
 use Rattle.spot.specs.declared.Spot.{Spot}
+use Rattle.spot.proofs.Limits.{first-end, end-small}
 use Rattle.block.specs.declared.Entry.{Entry}
 use Rattle.block.specs.declared.Asked.the-variants.{Root}
 use Rattle.block.specs.Table.{block, blocksOf, blockOk, capacity}
@@ -29,6 +30,7 @@ use Rattle.tree.specs.Part.{Part}
 use Rattle.tree.specs.Lookup.{lookup}
 use Rattle.tree.specs.Sound.{inRange}
 use Rattle.tree.proofs.Below.{sizes-filled}
+use Rattle.tree.proofs.Legal.{legal-whole}
 use Rattle.tree.proofs.Tables.{shaped}
 use Rattle.update_theory.specs.Change.{part, Sound}
 use Rattle.update_theory.specs.Spare.{Taken}
@@ -115,9 +117,9 @@ module _ {t : List ℕ} {root level : ℕ} {n : NodeValue} {ni nd bound : ℕ} (
 
       -- the table as it is then, where it was sound
       module _ {t₂ : List ℕ} (r : Reheaded t₁ t₂ [] (level + 1) root bound) (long : length (held (m .points)) ≡ m .points .n)
-          (fitI : (k : ℕ) → List·Memᴰ k (keys ss) → within 0 allKeys k ≡ true) (fitD : (k : ℕ) → List·Memᴰ k ks → within 0 allKeys k ≡ true) where
+          (fitI : (k : ℕ) → List·Memᴰ k (keys ss) → within startKey endKey k ≡ true) (fitD : (k : ℕ) → List·Memᴰ k ks → within startKey endKey k ≡ true) where
         abbrev here : Part
-        here = part root (Root root) 0 allKeys
+        here = part root (Root root) startKey endKey
 
         abbrev node : Node
         node = nodeIn (blocksOf (length t)) m
@@ -134,7 +136,7 @@ module _ {t : List ℕ} {root level : ℕ} {n : NodeValue} {ni nd bound : ℕ} (
         tall : (storeOf t root .level ≡ 0) → ⊥
         tall e = a .room .inner refl (ap (λ (x : Node). x .level) (a .loaded .is) ∙ e)
 
-        shape : inRange here (storeOf t root) ≡ true → Shape level root (Root root) 0 allKeys node
+        shape : inRange here (storeOf t root) ≡ true → Shape level root (Root root) startKey endKey node
         unfolding inRange childCountOk fewest lowsRise leafBuffersEmpty agrees childBlocksOk blockOk standsIn
         shape inside =
             let size : length (entriesOf (m .entries)) ≡ length (storeOf t root .entries) = ap length same-entries in
@@ -145,22 +147,22 @@ module _ {t : List ℕ} {root level : ℕ} {n : NodeValue} {ni nd bound : ℕ} (
               level = eq-eqb (m .level) level (k .level ∙ ap (λ (x : Node). x .level) (a .loaded .is) ∙ facts .same-level);
               count = rw deep (all-cons _ _ (le-leb 2 (length (entriesOf (m .entries))) (omega (arith, size, facts .inner-least tall))) (all-cons _ _ (le-leb (length (entriesOf (m .entries))) 8 (omega (arith, size, facts .entries-most))) all-nil));
               lowsUp = all-cons _ _ (ap (λ (es : List Entry). zeroFirst (lows es)) same-entries ∙ facts .first-open) (all-cons _ _ (ap (λ (es : List Entry). rising (rest (lows es))) same-entries ∙ facts .lows-rise) all-nil);
-              lowsIn = ap (λ (es : List Entry). every (within 0 allKeys) (rest (lows es))) same-entries ∙ all-at _ inside 1;
+              lowsIn = ap (λ (es : List Entry). every (within startKey endKey) (rest (lows es))) same-entries ∙ all-at _ inside 1;
               sizes = sizes-filled node (let z = k .leastP in let y = a .room .points refl in omega (arith, long, a .one)) (omega (arith, long, light-stores .points)) (omega (arith, i, light-stores .inserts)) (omega (arith, d, light-stores .deletes));
               leaf = rw deep;
               agree = refl;
               low = omega arith;
               blocks = every-make _ (entriesOf (m .entries)) (λ e i. let z = facts .child-blocks e (subst (λ (es : List Entry). List·Memᴰ e es) same-entries i) in all-cons _ _ (le-leb 1 (e .block) (z .0)) (all-cons _ _ (lt-ltb (e .block) (blocksOf (length t)) (omega (arith, z .1, ap (λ (x : Node). x .room) (a .loaded .is)))) all-nil));
               own = refl;
-              full = omega arith;
+              legal = legal-whole;
             }
 
         rooted : Sound (suc level) (storeOf t) (here ∷ []) → Rooted (suc level) (storeOf t) (here ∷ []) (Taken [] []) (level + 1) (storeOf t₁) root says
         rooted s =
-            let o = taken-open level (storeOf t) root (Root root) 0 allKeys (omega arith) (omega arith) s (blocksOf (length t)) n (a .loaded .is) ss ks ni nd m fitI fitD k in
-            let g = going-start level 0 allKeys (storeOf t) [] (o .0) (entriesOf (m .entries)) (heldIn m) says (o .1) (λ z i. absurd (List·Memᴰ·not-nil i)) in
-            let g′ : Going level 0 allKeys (storeOf t) [] (storeOf t root .entries) (storeOf t) [] (o .0) (entriesOf (m .entries)) (heldIn m) says =
-            subst (λ (es : List Entry). Going level 0 allKeys (storeOf t) [] es (storeOf t) [] (o .0) (entriesOf (m .entries)) (heldIn m) says) same-entries g
+            let o = taken-open level (storeOf t) root (Root root) startKey endKey first-end end-small s (blocksOf (length t)) n (a .loaded .is) ss ks ni nd m fitI fitD k in
+            let g = going-start level startKey endKey (storeOf t) [] (o .0) (entriesOf (m .entries)) (heldIn m) says (o .1) (λ z i. absurd (List·Memᴰ·not-nil i)) in
+            let g′ : Going level startKey endKey (storeOf t) [] (storeOf t root .entries) (storeOf t) [] (o .0) (entriesOf (m .entries)) (heldIn m) says =
+            subst (λ (es : List Entry). Going level startKey endKey (storeOf t) [] es (storeOf t) [] (o .0) (entriesOf (m .entries)) (heldIn m) says) same-entries g
             in
             subst⁻¹ (λ (h : ℕ). Rooted (suc level) (storeOf t) (here ∷ []) (Taken [] []) h (storeOf t₁) root says) (add-one level)
             (rooted-one (suc level) (Taken [] []) (storeOf t) root (storeOf t₁) says

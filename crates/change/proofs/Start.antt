@@ -6,7 +6,7 @@ use mathlib.Core.List.{List}
 use Prim.Native.Nat.{ℕ, suc, _+_, _*_, _≤_}
 use native.Mathlib.Omega.{arith}
 use lib.ListN.{length}
-use Rattle.spot.specs.Keys.{allKeys}
+use Rattle.spot.specs.Keys.{startKey, endKey}
 use Rattle.spot.specs.declared.Spot.{Spot}
 use Rattle.block.specs.declared.Asked.the-variants.{Root}
 use Rattle.block.specs.Table.{blocksOf}
@@ -44,7 +44,7 @@ module _ {t w : List ℕ} {bound ni nd : ℕ} (a : Changeable t w bound ni nd) w
     -- the root breaks a rule: then the table was not sound
     pub start-refused : (ss : List Spot) (ks : List ℕ) → nodeOk level (Root root) (storeOf t root) ≡ false → ChangedBy t t w w ss ks bound Broken
     start-refused ss ks broken =
-        let off : sound t ≡ true → ⊥ = λ s. true≢false (sym (opened level (storeOf t) (part root (Root root) 0 allKeys) (root-sound t root level at-root at-level (shaped t s)) .ok) ∙ broken) in
+        let off : sound t ≡ true → ⊥ = λ s. true≢false (sym (opened level (storeOf t) (part root (Root root) startKey endKey) (root-sound t root level at-root at-level (shaped t s)) .ok) ∙ broken) in
         record {
           sized = refl;
           lentLength = refl;

@@ -8,7 +8,7 @@ use mathlib.Core.Option.{Option, none}
 use Prim.Native.Nat.{ℕ}
 use Rattle.octets.specs.Lists.{distinct}
 use Rattle.octets.proofs.Tests.{and-left, and-both}
-use Rattle.spot.specs.Keys.{allKeys}
+use Rattle.spot.specs.Keys.{startKey, endKey}
 use Rattle.block.specs.declared.Asked.the-variants.{Root}
 use Rattle.block.specs.Node.{Store}
 use Rattle.block.specs.NodeRules.{standsIn}
@@ -32,7 +32,7 @@ of-sound l m p s =
 
 -- the root changed and stayed the root
 pub rooted-one : (l : ℕ) (New : ℕ → Type 0) (x : Store) (b : ℕ) (y : Store) (f : ℕ → Option ℕ)
-    → Changed l New x (part b (Root b) 0 allKeys ∷ []) y (part b (Root b) 0 allKeys ∷ []) f → Rooted l x (part b (Root b) 0 allKeys ∷ []) New l y b f
+    → Changed l New x (part b (Root b) startKey endKey ∷ []) y (part b (Root b) startKey endKey ∷ []) f → Rooted l x (part b (Root b) startKey endKey ∷ []) New l y b f
 rooted-one l New x b y f c =
     record {
       sound = c .sound;
@@ -42,7 +42,7 @@ rooted-one l New x b y f c =
     }
   where
     p : Part
-    p = part b (Root b) 0 allKeys
+    p = part b (Root b) startKey endKey
 
 -- block 0, which it does not reach, changed
 pub rooted-frame : (l : ℕ) (x : Store) (ps : List Part) (New : ℕ → Type 0) (h : ℕ) (y : Store) (b : ℕ) (f : ℕ → Option ℕ) (w : Store)
@@ -58,7 +58,7 @@ rooted-frame l x ps New h y b f w old new else g =
     }
   where
     p : Part
-    p = part b (Root b) 0 allKeys
+    p = part b (Root b) startKey endKey
 
     s : (soundAt h y p ≡ true) × (distinct (reach h y p) ≡ true)
     s = of-sound h y p (g .sound)

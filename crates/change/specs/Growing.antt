@@ -1,4 +1,5 @@
--- The tree of a table while its root is changed, before block 0 says so; and block 0 then.
+-- The tree of a table while its root is changed, before block 0 says so; and block 0 then. The root's range is cut down to the limits here, since settling is said
+-- of ranges inside them.
 -- Assumes nothing.
 use mathlib.Core.Path.{_≡_}
 use mathlib.Core.Logic.{_⊎_}
@@ -8,7 +9,7 @@ use mathlib.Core.List.{List, [], _∷_, _++_, List·Memᴰ}
 use mathlib.Core.Option.{Option}
 use lib.ListN.{length}
 use Rattle.octets.specs.Sets.{Apart}
-use Rattle.spot.specs.Keys.{allKeys, within}
+use Rattle.spot.specs.Keys.{startKey, endKey, within}
 use Rattle.spot.specs.Spots.{keys}
 use Rattle.spot.specs.declared.Spot.{Spot}
 use Rattle.block.specs.declared.Entry.{Entry}
@@ -39,10 +40,10 @@ use Rattle.change.specs.Changing.{Changeable}
 -- The parts ps of the store x, of l levels, became the whole tree of h levels under the root b in the store y. f says what is found in it, and New are the
 -- blocks that came in.
 pub record Rooted (l : ℕ) (x : Store) (ps : List Part) (New : ℕ → Type 0) (h : ℕ) (y : Store) (b : ℕ) (f : ℕ → Option ℕ) : Type 0 where
-  pub sound : Sound h y (part b (Root b) 0 allKeys ∷ [])
-  pub found : (k : ℕ) → within 0 allKeys k ≡ true → lookup h y k (part b (Root b) 0 allKeys) ≡ f k
-  pub reached : (z : ℕ) → List·Memᴰ z (reach h y (part b (Root b) 0 allKeys)) → List·Memᴰ z (reaches l x ps) ⊎ New z
-  pub still : (z : ℕ) → List·Memᴰ z (reaches l x ps) ⊎ New z → List·Memᴰ z (reach h y (part b (Root b) 0 allKeys))
+  pub sound : Sound h y (part b (Root b) startKey endKey ∷ [])
+  pub found : (k : ℕ) → within startKey endKey k ≡ true → lookup h y k (part b (Root b) startKey endKey) ≡ f k
+  pub reached : (z : ℕ) → List·Memᴰ z (reach h y (part b (Root b) startKey endKey)) → List·Memᴰ z (reaches l x ps) ⊎ New z
+  pub still : (z : ℕ) → List·Memᴰ z (reaches l x ps) ⊎ New z → List·Memᴰ z (reach h y (part b (Root b) startKey endKey))
 
 -- a node over two entries with nothing in its buffers
 pub record Over (depth : ℕ) (first second : Entry) (r : NodeValue) : Type 0 where
@@ -69,9 +70,9 @@ pub record Crownable (t w map : List ℕ) (first second : Entry) (level : ℕ) (
 -- what holds where the two entries lead to sound parts, in which f is found
 abbrev pub OverSound : List ℕ → Entry → Entry → ℕ → ((ℕ → Option ℕ) → Type 0) → Type 0
 OverSound t first second level Then =
-    (f : ℕ → Option ℕ) → 0 < second .low → second .low < allKeys
-    → Sound level (storeOf t) (parts 0 allKeys (first ∷ second ∷ []))
-    → ((k : ℕ) → within 0 allKeys k ≡ true → under level (storeOf t) 0 allKeys (first ∷ second ∷ []) k ≡ f k)
+    (f : ℕ → Option ℕ) → startKey < second .low → second .low < endKey
+    → Sound level (storeOf t) (parts startKey endKey (first ∷ second ∷ []))
+    → ((k : ℕ) → within startKey endKey k ≡ true → under level (storeOf t) startKey endKey (first ∷ second ∷ []) k ≡ f k)
     → Then f
 
 -- it stands in the last of the spare blocks
@@ -81,16 +82,16 @@ pub record CrownPost (t t′ : List ℕ) (first second : Entry) (level : ℕ) (s
   pub levels : r .ok ≡ true → (r .levels ≡ suc level) × (level ≤ 6)
   pub taken : r .ok ≡ true → spareOf spare left ≡ spareOf spare (left - 1) ++ (r .root ∷ [])
   pub done : r .ok ≡ true → OverSound t first second level (λ f.
-      (List·Memᴰ (r .root) (reaches level (storeOf t) (parts 0 allKeys (first ∷ second ∷ []))) → ⊥)
-      → Rooted level (storeOf t) (parts 0 allKeys (first ∷ second ∷ [])) (λ z. z ≡ r .root) (suc level) (storeOf t′) (r .root) f)
+      (List·Memᴰ (r .root) (reaches level (storeOf t) (parts startKey endKey (first ∷ second ∷ []))) → ⊥)
+      → Rooted level (storeOf t) (parts startKey endKey (first ∷ second ∷ [])) (λ z. z ≡ r .root) (suc level) (storeOf t′) (r .root) f)
   pub whole : OverSound t first second level (λ f. r .broken ≡ false)
 
 -- what holds where the tree is sound, the batch lies in its range, and it reaches no spare block
 abbrev pub OnTree : List ℕ → ℕ → ℕ → List Spot → List ℕ → Spare → Type 0 → Type 0
 OnTree t root level ss ks spare Then =
-    ((k : ℕ) → List·Memᴰ k (keys ss) → within 0 allKeys k ≡ true) → ((k : ℕ) → List·Memᴰ k ks → within 0 allKeys k ≡ true)
-    → Sound (suc level) (storeOf t) (part root (Root root) 0 allKeys ∷ [])
-    → Apart (spareOf spare (spare .n)) (reaches (suc level) (storeOf t) (part root (Root root) 0 allKeys ∷ []))
+    ((k : ℕ) → List·Memᴰ k (keys ss) → within startKey endKey k ≡ true) → ((k : ℕ) → List·Memᴰ k ks → within startKey endKey k ≡ true)
+    → Sound (suc level) (storeOf t) (part root (Root root) startKey endKey ∷ [])
+    → Apart (spareOf spare (spare .n)) (reaches (suc level) (storeOf t) (part root (Root root) startKey endKey ∷ []))
     → Then
 
 -- the tree after the inserts ss and the deletes ks were settled at its root
@@ -99,8 +100,8 @@ pub record GrowPost (t t′ : List ℕ) (root level : ℕ) (ss : List Spot) (ks 
   pub levels : r .ok ≡ true → (1 ≤ r .levels) × (r .levels ≤ 7)
   pub top : r .ok ≡ true → (r .root ≡ root) ⊎ List·Memᴰ (r .root) (takenOf spare (r .left))
   pub done : r .ok ≡ true → OnTree t root level ss ks spare
-      (Rooted (suc level) (storeOf t) (part root (Root root) 0 allKeys ∷ []) (Taken (spareOf spare (spare .n)) (spareOf spare (r .left))) (r .levels) (storeOf t′) (r .root)
-      (λ k. batchSays ss ks k (lookup (suc level) (storeOf t) k (part root (Root root) 0 allKeys))))
+      (Rooted (suc level) (storeOf t) (part root (Root root) startKey endKey ∷ []) (Taken (spareOf spare (spare .n)) (spareOf spare (r .left))) (r .levels) (storeOf t′) (r .root)
+      (λ k. batchSays ss ks k (lookup (suc level) (storeOf t) k (part root (Root root) startKey endKey))))
   pub whole : OnTree t root level ss ks spare (r .broken ≡ false)
 
 -- block 0 is taken back from the scratch, and then brought up to date

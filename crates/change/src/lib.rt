@@ -1,7 +1,10 @@
 // One change to the tree of a table, from the root down.
 ghost use mathlib.Core.Path.{_≡_};
-ghost use mathlib.Core.Bool.{false};
+ghost use mathlib.Core.Bool.{true, false};
 ghost use Prim.Native.Nat.{_≤_};
+ghost use Rattle.octets.specs.Lists.{every};
+ghost use Rattle.spot.specs.Keys.{limited};
+ghost use Rattle.spot.specs.Spots.{keys};
 ghost use Rattle.block.specs.Table.{block, putBlock};
 ghost use Rattle.buffer.specs.Buffer.{held, named};
 ghost use Rattle.journal.specs.Journal.{Kept};
@@ -67,7 +70,7 @@ fn light(
     deletes: buffer::KeyBuffer,
     bound: u64,
 )
-    requires { ⌜ LightAt (now t) root level n (inserts .n) (deletes .n) bound ⌝ }
+    requires { ⌜ LightAt (now t) root level n (inserts .n) (deletes .n) bound × (every limited (keys (held inserts)) ≡ true) × (every limited (named deletes) ≡ true) ⌝ }
     ensures { λ _. ⌜ LightPost (now (t .entry)) (now (t .exit)) (held inserts) (named deletes) bound ⌝ }
 {
     let next = batch::take_in(n, inserts, deletes);
@@ -194,7 +197,7 @@ fn heavy(
     deletes: buffer::KeyBuffer,
     bound: u64,
 ) -> Outcome
-    requires { ⌜ HeavyAt (now t) (now w) root level (inserts .n) (deletes .n) bound ⌝ }
+    requires { ⌜ HeavyAt (now t) (now w) root level (inserts .n) (deletes .n) bound × (every limited (keys (held inserts)) ≡ true) × (every limited (named deletes) ≡ true) ⌝ }
     ensures { λ r. ⌜ ChangedBy (now (t .entry)) (now (t .exit)) (now (w .entry)) (now (w .exit)) (held inserts) (named deletes) bound r ⌝ }
 {
     let mut map = [0u8; 512];
@@ -217,7 +220,7 @@ pub fn change(
     deletes: buffer::KeyBuffer,
     bound: u64,
 ) -> Outcome
-    requires { ⌜ Changeable (now t) (now w) bound (inserts .n) (deletes .n) ⌝ }
+    requires { ⌜ Changeable (now t) (now w) bound (inserts .n) (deletes .n) × (every limited (keys (held inserts)) ≡ true) × (every limited (named deletes) ≡ true) ⌝ }
     ensures { λ r. ⌜ ChangedBy (now (t .entry)) (now (t .exit)) (now (w .entry)) (now (w .exit)) (held inserts) (named deletes) bound r ⌝ }
 {
     let root = block::root_of(t);

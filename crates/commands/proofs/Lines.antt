@@ -6,16 +6,16 @@ use Prim.Native.Nat.{ℕ, _+_, _*_, _≤_}
 use native.Mathlib.Omega.{arith}
 use native.Mathlib.Numerals.{add-one}
 use native.Mathlib.Nat.{add-zero}
-use mir.Syntax.{w32}
-use mir.Val.{toZ}
 use lib.IntN.{ℤ}
 use lib.ListN.{length, take, drop, take-append-drop}
-use Rattle.octets.specs.Bytes.{be}
+use Rattle.spot.specs.Keys.{placeOf, rankIn}
+use Rattle.spot.specs.Spots.{spotAt}
+use Rattle.spot.specs.declared.Spot.{Spot}
 use Rattle.text.specs.Text.{spotLine, countLine}
 use Rattle.octets.specs.Bytes.{putBytes}
 use Rattle.text.specs.Written.{Wrote}
 use Rattle.text.proofs.Written.{wrote-then, wrote-within}
-use Rattle.commands.specs.Printed.{lineAt, linesOf, printed}
+use Rattle.commands.specs.Printed.{lineOf, linesOf, printed}
 
 -- nothing was written yet
 pub start : (s o : List ℕ) (at : ℕ) → at ≤ length s → Wrote s s at (35 * 0) (linesOf o 0) at
@@ -33,26 +33,25 @@ start s o at h =
       sized = refl;
     }
 
-more : (o : List ℕ) (i : ℕ) → linesOf o i ++ lineAt o (12 * i) ≡ linesOf o (i + 1)
+more : (o : List ℕ) (i : ℕ) → linesOf o i ++ lineOf (spotAt o (12 * i)) ≡ linesOf o (i + 1)
 unfolding linesOf
 more o i = sym (ap (linesOf o) (add-one i))
 
-line-is : {x y : ℤ} {z : ℕ} (o : List ℕ) (i : ℕ) → x ≡ toZ w32 (be 4 o i) → y ≡ toZ w32 (be 4 o (i + 4)) → z ≡ be 4 o (i + 8)
-    → spotLine x y z ≡ lineAt o i
-unfolding lineAt
-line-is {x} {y} {z} o i ex ey ez =
-    ap (λ (n : ℕ). spotLine x y n) ez ∙ ap₂ (λ (a b : ℤ). spotLine a b (be 4 o (i + 8))) ex ey
+line-is : {x y : ℤ} (z : Spot) (o : List ℕ) (i : ℕ) → x ≡ placeOf (z .key) → y ≡ rankIn (z .key) → z ≡ spotAt o i
+    → spotLine x y (z .track) ≡ lineOf (spotAt o i)
+unfolding lineOf
+line-is z o i ex ey ez = ap₂ (λ (a b : ℤ). spotLine a b (z .track)) ex ey ∙ ap lineOf ez
 
 -- and one line more
-pub next : {s t u : List ℕ} {at p q : ℕ} {x y : ℤ} {z : ℕ} (o : List ℕ) (i : ℕ)
+pub next : {s t u : List ℕ} {at p q : ℕ} {x y : ℤ} (z : Spot) (o : List ℕ) (i : ℕ)
     → Wrote s t at (35 * i) (linesOf o i) p
-    → Wrote t u p 35 (spotLine x y z) q
-    → x ≡ toZ w32 (be 4 o (12 * i)) → y ≡ toZ w32 (be 4 o (12 * i + 4)) → z ≡ be 4 o (12 * i + 8)
+    → Wrote t u p 35 (spotLine x y (z .track)) q
+    → x ≡ placeOf (z .key) → y ≡ rankIn (z .key) → z ≡ spotAt o (12 * i)
     → Wrote s u at (35 * (i + 1)) (linesOf o (i + 1)) q
-next o i w v ex ey ez =
+next z o i w v ex ey ez =
     let room : 35 * i + 35 ≤ 35 * (i + 1) = omega arith in
     wrote-within (35 * (i + 1)) (linesOf o (i + 1)) room
-    (ap (λ (l : List ℕ). linesOf o i ++ l) (line-is o (12 * i) ex ey ez) ∙ more o i)
+    (ap (λ (l : List ℕ). linesOf o i ++ l) (line-is z o (12 * i) ex ey ez) ∙ more o i)
     (wrote-then w v)
 
 -- the number and the lines

@@ -3,26 +3,21 @@
 use mathlib.Core.Path.{_≡_, refl, sym, ap, subst, _∙_}
 use mathlib.Core.Bool.{Bool, cond}
 use mathlib.Core.List.{List, [], _++_}
-use Prim.Native.Nat.{ℕ, zero, suc, _-_, _*_, _/_, _≤_, _<_, min}
+use Prim.Native.Nat.{ℕ, _-_, _*_, _/_, _≤_, _<_, min}
 use native.Mathlib.Nat.{min-le-left, min-le-right}
 use native.Mathlib.Omega.{arith}
 use lib.IntN.{ℤ}
-use lib.ListN.{length, take, drop, length-append}
+use lib.ListN.{length, take, drop}
 use lib.Seq.{length-take-le, take-at, drop-at}
 use borrow.Author.Tests.{eq-eqb, ne-eqb}
-use Rattle.spot.specs.declared.Spot.{Spot}
-use Rattle.spot.specs.Spots.{spotsBytes}
-use Rattle.spot.proofs.Stored.{length-spotsBytes}
 use Rattle.block.specs.declared.Answer.{Answer}
-use Rattle.tree.specs.Walk.{Walk, broken, walked, spots}
 use Rattle.text.specs.declared.Command.{Command}
 use Rattle.text.specs.declared.Command.the-variants.{Add, Withdraw, Report, Top, Bad}
 use Rattle.text.specs.Text.{refusalLine}
 use Rattle.text.specs.Commands.{Parsed}
 use Rattle.text.specs.Written.{Wrote}
 use Rattle.text.proofs.Written.{wrote-within}
-use Rattle.table.specs.Answers.{unlessRefused, spotsAnswer, outputLeft}
-use Rattle.table.specs.Queries.{walkAnswer, WalkPost, ReportPost, TopPost}
+use Rattle.table.specs.Queries.{ReportPost, TopPost, GivenInside}
 use Rattle.table.specs.Updates.{AddPost, WithdrawPost}
 use Rattle.commands.specs.Printed.{printed}
 use Rattle.commands.specs.Obeyed.{changeText, spotsText, roomFor, Shown, Printable, Told, Obeyed}
@@ -46,34 +41,11 @@ module _ (a : Answer) where
   unfolding spotsText
   lists-none o n = ap (λ (b : Bool). cond b (printed o (a .detail)) (refusalLine (a .number))) (sym (ne-eqb (a .number) 0 n))
 
--- ---- the spots of an accepted query are in the output
+-- ---- the spots of an accepted query have room
 
-given-inside : (given : List Spot) (out out′ : List ℕ) (n : ℕ) → out′ ≡ outputLeft 0 given out → n ≡ length given → 12 * n ≤ length out′
-unfolding outputLeft
-given-inside given out out′ n e d =
-    omega (arith, ap length e, length-append (spotsBytes given) (drop (12 * length given) out), length-spotsBytes given)
-
-walk-detail : (n bytes : ℕ) (w : Walk) → unlessRefused n (walkAnswer bytes w) .number ≡ 0 → unlessRefused n (walkAnswer bytes w) .detail ≡ length (spots w)
-unfolding unlessRefused walkAnswer spotsAnswer
-walk-detail zero bytes broken e = omega arith
-walk-detail zero bytes (walked found blocks) e = refl
-walk-detail (suc n) bytes w e = omega arith
-
-module _ (out out′ : List ℕ) (text : ℕ) (r : Answer) (p : Printable (length out) text) (same : length out′ ≡ length out) where
-  inside-shown : (r .number ≡ 0 → 12 * r .detail ≤ length out′) → Shown r (length out′) text
-  inside-shown h =
-      record { refusal = p .refusal; held = h; room = λ e. p .room (r .detail) (subst (λ (n : ℕ). 12 * r .detail ≤ n) same (h e)) }
-
-  pub walk-shown : (early : ℕ) (w : Walk) (map map′ : List ℕ) → WalkPost early w out map r out′ map′ → Shown r (length out′) text
-  walk-shown early w map map′ q =
-      inside-shown
-      (λ e. given-inside (spots w) out out′ (r .detail) (q .output ∙ ap (λ (n : ℕ). outputLeft n (spots w) out) e)
-      (ap (λ (x : Answer). x .detail) (q .answered)
-      ∙ walk-detail early (length out) w (sym (ap (λ (x : Answer). x .number) (q .answered)) ∙ e)))
-
-  pub top-shown : (x1 x2 : ℤ) (k : ℕ) (t map map′ : List ℕ) → TopPost x1 x2 k t out map r out′ map′ → Shown r (length out′) text
-  top-shown x1 x2 k t map map′ q =
-      inside-shown (λ e. given-inside (q .handsOut e .given) out out′ (r .detail) (q .handsOut e .output) (q .handsOut e .detail))
+pub inside-shown : (output text : ℕ) (out′ : List ℕ) (r : Answer) → Printable output text → length out′ ≡ output → GivenInside r out′ → Shown r text
+inside-shown output text out′ r p same g =
+    record { refusal = p .refusal; room = λ e. p .room (r .detail) (subst (λ (n : ℕ). 12 * r .detail ≤ n) same (g e .0)) }
 
 -- ---- each command
 

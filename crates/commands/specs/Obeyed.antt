@@ -41,10 +41,9 @@ CarriedOut (Top x1 x2 k) t w o m t′ w′ o′ m′ text =
     (r : Answer) × TopPost x1 x2 k t o m r o′ m′ × (t′ ≡ t) × (w′ ≡ w) × (text ≡ spotsText r o′)
 CarriedOut Bad t w o m t′ w′ o′ m′ text = (t′ ≡ t) × (w′ ≡ w) × (o′ ≡ o) × (m′ ≡ m) × (text ≡ refusalLine 0)
 
--- an answer whose spots, where it has any, are in the output and have room in the text
-pub record Shown (a : Answer) (output text : ℕ) : Type 0 where
+-- an answer whose spots, where it has any, have room in the text
+pub record Shown (a : Answer) (text : ℕ) : Type 0 where
   pub refusal : 13 ≤ text
-  pub held : a .number ≡ 0 → 12 * a .detail ≤ output
   pub room : a .number ≡ 0 → 11 + 35 * a .detail ≤ text
 
 -- every output of so many bytes has room in a text of so many

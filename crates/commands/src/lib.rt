@@ -2,22 +2,25 @@
 ghost use mathlib.Core.Path.{_≡_};
 ghost use Prim.Native.Nat.{_+_, _*_, _≤_, _<_, min};
 ghost use lib.ListN.{length};
+ghost use mathlib.Core.Bool.{true};
+ghost use Rattle.spot.specs.Spots.{limitedFrom};
+ghost use Rattle.table.specs.Queries.{GivenInside};
 ghost use Rattle.text.specs.Written.{Wrote};
 ghost use Rattle.commands.specs.Printed.{linesOf, printed};
 ghost use Rattle.commands.specs.Obeyed.{roomFor, spotsText, changeText, Shown, Printable, Told, Obeyed};
 
 // A line for each of the first n spots.
 fn write_lines(out: &mut [u8], at: usize, output: &[u8], n: usize) -> usize
-    requires { ⌜ (12 * n ≤ length (now output)) × (at + 35 * n ≤ length (now out)) ⌝ }
+    requires { ⌜ (12 * n ≤ length (now output)) × (limitedFrom (now output) 12 n 0 ≡ true) × (at + 35 * n ≤ length (now out)) ⌝ }
     ensures { λ r. ⌜ Wrote (now (out .entry)) (now (out .exit)) at (35 * n) (linesOf (now (output .entry)) n) r ⌝ }
 {
     let mut end = at;
     let mut i = 0;
     while i < n {
-        let place = spot::read_i32(output, 12 * i);
-        let rank = spot::read_i32(output, 12 * i + 4);
-        let track = octets::read32(output, 12 * i + 8) as u32;
-        end = text::write_spot_line(out, end, place, rank, track);
+        let s = spot::read_spot(output, 12 * i);
+        let place = spot::place_of(s.key);
+        let rank = spot::rank_in(s.key);
+        end = text::write_spot_line(out, end, place, rank, s.track);
         i += 1;
     }
     end
@@ -25,7 +28,7 @@ fn write_lines(out: &mut [u8], at: usize, output: &[u8], n: usize) -> usize
 
 // The number of spots, and a line each.
 fn write_spots(out: &mut [u8], output: &[u8], n: usize) -> usize
-    requires { ⌜ (n < 4294967296) × (12 * n ≤ length (now output)) × (11 + 35 * n ≤ length (now out)) ⌝ }
+    requires { ⌜ (n < 4294967296) × (12 * n ≤ length (now output)) × (limitedFrom (now output) 12 n 0 ≡ true) × (11 + 35 * n ≤ length (now out)) ⌝ }
     ensures { λ r. ⌜ Wrote (now (out .entry)) (now (out .exit)) 0 (11 + 35 * n) (printed (now (output .entry)) n) r ⌝ }
 {
     let at = text::write_count_line(out, 0, n as u32);
@@ -62,7 +65,7 @@ fn tell(a: block::Answer, out: &mut [u8]) -> usize
 
 // The answer to `?` or `^`.
 fn show(a: block::Answer, output: &[u8], out: &mut [u8]) -> usize
-    requires { ⌜ Shown a (length (now output)) (length (now out)) ⌝ }
+    requires { ⌜ Shown a (length (now out)) × GivenInside a (now output) ⌝ }
     ensures { λ r. ⌜ Wrote (now (out .entry)) (now (out .exit)) 0 (length (now (out .entry))) (spotsText a (now (output .entry))) r ⌝ }
 {
     if a.number == 0 {

@@ -28,7 +28,7 @@ use Rattle.within_theory.proofs.Certain.{within-once}
 use Rattle.ranges.specs.declared.Range.{Range}
 use Rattle.report.specs.Joined.{reportOf}
 use Rattle.table.specs.Calls.{Call, format, add, withdraw, report, top, count, check, rebuild, reportMany, topWithin, queries, Lengths, rangeFits, argumentsFit}
-use Rattle.demands.specs.Model.{Plain, PlainSpot, Reply, begunEmpty, outputAfter, countsAfter, refuse, accept, badTable, badLent, tooMany, handOut, ownReply, reply, toldCall, highest}
+use Rattle.demands.specs.Model.{Plain, PlainSpot, Reply, begunEmpty, outputAfter, countsAfter, refuse, accept, badTable, badLent, tooMany, changesOutside, handOut, ownReply, reply, toldCall, highest}
 use Rattle.demands.specs.TopMarks.{MarksFew}
 use Rattle.demands.specs.History.{Event, MetBy, History, Agreed, FullExactly, MarksExactly, UnionMarked, TopMarksFew, SaidWithin, WithinSaid, TopReached, AllAgreed, Demand3, lengthsIn, certainIn, replyIn, modelAfter}
 use Rattle.tree.proofs.Fresh.{fresh-sized, fresh-sound, fresh-empty}
@@ -81,7 +81,7 @@ record Step (t : List ℕ) (ps : Plain) (e : Event) : Type 0 where
 full-exactly : (c : Call) (t : List ℕ) (ps : Plain) (e : Event) → tableSized (length t) ≡ true → length (ps .spots) ≤ 16 * (length t / 2048 - 1)
     → e .answer ≡ replyIn c t ps e .answer
     → FullExactly c t ps e
-full-exactly c t ps e z h a place rank track q w = rw (a, q) (says-full (lengthsIn t e) place rank track ps (bad-table (length t) ∙ ap not z) w h)
+full-exactly c t ps e z h a place rank track q w i = rw (a, q) (says-full (lengthsIn t e) place rank track ps (bad-table (length t) ∙ ap not z) w i h)
 
 -- what a single report marks, in the paper's words
 single-marks : (t : List ℕ) → sound t ≡ true → (x1 x2 y : ℤ) → signed32 x1 && signed32 x2 && signed32 y ≡ true → (b : ℕ) → b < 4096
@@ -117,7 +117,7 @@ union-marked c t e s a p rs q z b l =
 -- an accepted Top of the model gives the highest
 gives-highest : (l : Lengths) (x1 x2 : ℤ) (k : ℕ) (ps : Plain) → reply l (top x1 x2 k) ps .answer .number ≡ 0
     → reply l (top x1 x2 k) ps .given ≡ highest x1 x2 k (ps .spots)
-unfolding reply tooMany ownReply handOut refuse accept
+unfolding reply tooMany changesOutside ownReply handOut refuse accept
 gives-highest l x1 x2 k ps = go (badTable (l .table)) (badLent l queries) (ltb (l .output / 12) (length (highest x1 x2 k (ps .spots))))
   where
     found : List PlainSpot
@@ -182,7 +182,7 @@ told-fits (topWithin x1 x2 k a) t h =
 
 -- equal spots make equal replies to a Top
 same-reply : (l : Lengths) (x1 x2 : ℤ) (n k : ℕ) (ps : Plain) → highest x1 x2 n (ps .spots) ≡ highest x1 x2 k (ps .spots) → reply l (top x1 x2 n) ps ≡ reply l (top x1 x2 k) ps
-unfolding reply ownReply
+unfolding reply changesOutside ownReply
 same-reply l x1 x2 n k ps e =
     ap (λ (found : List PlainSpot). cond (badTable (l .table)) (refuse 1 0 ps)
     (cond (badLent l queries) (refuse 2 0 ps) (cond (tooMany queries) (refuse 6 0 ps) (handOut (l .output) found [] ps))))

@@ -33,9 +33,10 @@ use Rattle.tree.proofs.Sources.{walk-sources, read-in-table, read-marked}
 use Rattle.ranges.specs.declared.Range.{Range}
 use Rattle.report.specs.Joined.{reportOf, joined, countsOf}
 use Rattle.table.specs.Calls.{Call, format, add, withdraw, report, top, count, check, rebuild, reportMany, topWithin, kind, isQuery, isCounting, hasCeiling, Lengths}
-use Rattle.table.specs.Answers.{ofTable, withScratch, withOutput, withCounts, lent, fewEnough, earlyNumber, unlessRefused, spotsAnswer, outputLeft, countsLeft, outcomes}
+use Rattle.table.specs.Answers.{ofTable, withScratch, withOutput, withCounts, lent, fewEnough, placeInside, earlyNumber, unlessRefused, spotsAnswer, outputLeft, countsLeft, outcomes}
 use Rattle.table.specs.Queries.{walkAnswer, countAnswer, WalkPost, ReportPost, ManyPost, SearchPost, HandsOut, HandsOutEach}
 use Rattle.table.specs.Updates.{UpdatePost}
+use Rattle.table.proofs.Given.{report-limited}
 use Rattle.demands.specs.History.{Event, MetBy}
 use Rattle.demands.specs.Demands.{refusals, TurnedDown, OnlyMarked, Demand1}
 use Rattle.demands.proofs.Histories.{map-accepted, walk-accepted, output-refused, map-refused, counts-refused, no-counts, no-ceiling}
@@ -49,19 +50,20 @@ use Rattle.demands.proofs.Onward.{from-on-mem}
 of-refusals : (n : ℕ) (xs : List ℕ) → every (λ m. eqb m 0 || has m refusals) xs ≡ true → has n xs ≡ true → (n ≡ 0 → ⊥) → has n refusals ≡ true
 of-refusals n xs h i z = or-left (eqb n 0) (has n refusals) (every-mem (λ m. eqb m 0 || has m refusals) xs h (has-mem n xs i)) (ne-eqb n 0 z)
 
--- 1, 2 and 6, by lengths and arguments
+-- 1, 2, 6 and 9, by lengths and arguments
 abbrev early : List ℕ
-early = 0 ∷ 1 ∷ 2 ∷ 6 ∷ []
+early = 0 ∷ 1 ∷ 2 ∷ 6 ∷ 9 ∷ []
 
 by-lengths : (l : Lengths) (c : Call) → has (earlyNumber l c) early ≡ true
 unfolding earlyNumber
-by-lengths l c = go (tableSized (l .table)) (lent l (kind c)) (fewEnough (kind c))
+by-lengths l c = go (tableSized (l .table)) (lent l (kind c)) (fewEnough (kind c)) (placeInside c)
   where
-    go : (a b d : Bool) → has (cond a (cond b (cond d 0 6) 2) 1) early ≡ true
-    go true true true = refl
-    go true true false = refl
-    go true false d = refl
-    go false b d = refl
+    go : (a b d f : Bool) → has (cond a (cond b (cond d (cond f 0 9) 6) 2) 1) early ≡ true
+    go true true true true = refl
+    go true true true false = refl
+    go true true false f = refl
+    go true false d f = refl
+    go false b d f = refl
 
 -- an answer that is 0, or a refusal with detail 0, but for 5
 record Refusal (r : Answer) : Type 0 where
@@ -185,6 +187,7 @@ report-out x1 x2 y t e p z =
           let r = from-read t x1 x2 y s i in
           (r .0, ap (λ (m : List ℕ). bit m (r .0)) marks ∙ read-marked t q (r .0) (mem-same (report-blocks t x1 x2 y) (r .1)), r .2, r .3);
       header = ap (λ (m : List ℕ). bit m 0) marks ∙ zero-marked (blocksRead (walkTable t q));
+      limits = report-limited t x1 x2 y;
     }
 
 -- ---- many ranges
@@ -206,6 +209,7 @@ many-out rs t e p z =
           let r = from-read t (x .x1) (x .x2) (x .y) s j in
           (r .0, ap (λ (m : List ℕ). bit m (r .0)) marks ∙ read-joined t rs (a .0) (r .0) (blocks-joined t rs (a .0) (r .0) .1 (x, i, r .1)), r .2, r .3);
       header = ap (λ (m : List ℕ). bit m 0) marks ∙ zero-marked (blocksRead (joined t rs));
+      limits = λ x i. report-limited t (x .x1) (x .x2) (x .y);
     }
 
 -- ---- Top, and Top within an allowance

@@ -12,3 +12,4 @@ pub mod Worked
 pub mod Demand2
 pub mod Demand1
 pub mod LittleReading
+pub mod RefusedOutside

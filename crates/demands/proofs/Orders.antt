@@ -1,8 +1,8 @@
 -- The model's orders, equality and bytes, which are written over whole numbers, are those of keys.
 -- Assumes nothing.
-use mathlib.Core.Path.{_≡_, sym, ap, ap₂, _∙_}
+use mathlib.Core.Path.{_≡_, refl, sym, ap, ap₂, _∙_}
 use mathlib.Core.Logic.{⊎-elim}
-use mathlib.Core.Bool.{true, _&&_, _||_}
+use mathlib.Core.Bool.{Bool, true, false, not, _&&_, _||_}
 use mathlib.Core.List.{List, _++_}
 use Prim.Native.Nat.{ℕ, suc, _+_, _-_, _/_, _%_, _≤_, _<_}
 use native.Mathlib.Omega.{arith}
@@ -11,14 +11,14 @@ use borrow.Author.Tests.{le-leb, lt-leb, ne-eqb}
 use lib.IntN.{ℤ, pos, negsuc}
 use lib.Signed.{leZ, ltZ}
 use Rattle.octets.specs.Bytes.{bytesOf}
-use Rattle.octets.proofs.Order.{less-or-not, eqb-same}
-use Rattle.spot.specs.Keys.{half, biased, unbiased, key, topKey, turned}
+use Rattle.octets.proofs.Order.{less-or-not, eqb-same, not-leb}
+use Rattle.spot.specs.Keys.{half, biased, unbiased, key, topKey, turned, inLimits}
 use Rattle.spot.specs.Spots.{keyBytes}
 use Rattle.spot.specs.Query.{query, fromOf}
 use Rattle.spot.proofs.Signed.{Fits}
 use Rattle.spot.proofs.Orders.{key-place, key-rank, place-order, same-identity, from-words, under-words}
 use Rattle.spot.proofs.TopKeys.{top-order}
-use Rattle.demands.specs.Model.{eqZ, fourBytes, complement}
+use Rattle.demands.specs.Model.{eqZ, outside, fourBytes, complement}
 
 -- the model's equality of whole numbers
 pub eqZ-biased : (x y : ℤ) → Fits x → Fits y → eqZ x y ≡ eqb (biased x) (biased y)
@@ -28,6 +28,23 @@ eqZ-biased (pos a) (negsuc b) f g = sym (ne-eqb (2147483648 + a) (2147483648 - s
 eqZ-biased (negsuc a) (pos b) f g = sym (ne-eqb (2147483648 - suc a) (2147483648 + b) (λ h. omega arith))
 eqZ-biased (negsuc a) (negsuc b) f g =
     eqb-same a b (2147483648 - suc a) (2147483648 - suc b) (λ h. omega arith) (λ h. omega (arith, f .sfits, g .sfits))
+
+-- below is not from there up
+ltZ-not : (x y : ℤ) → ltZ x y ≡ not (leZ y x)
+ltZ-not (pos a) (pos b) = sym (not-leb b a)
+ltZ-not (pos a) (negsuc b) = refl
+ltZ-not (negsuc a) (pos b) = refl
+ltZ-not (negsuc a) (negsuc b) = sym (not-leb a b)
+
+pub not-both : (a b : Bool) → not a || not b ≡ not (a && b)
+not-both true b = refl
+not-both false b = refl
+
+-- outside the limits is not inside them
+pub outside-limits : (place : ℤ) → outside place ≡ not (inLimits place)
+unfolding outside inLimits
+outside-limits place =
+    ap₂ (λ (a b : Bool). a || b) (ltZ-not place (negsuc 999999)) (ltZ-not (pos 1000000) place) ∙ not-both (leZ (negsuc 999999) place) (leZ place (pos 1000000))
 
 -- what is moved down keeps its order, whatever its size
 pub unbiased-rises : (u v : ℕ) → u ≤ v → leZ (unbiased u) (unbiased v) ≡ true

@@ -27,10 +27,10 @@ use Rattle.ranges.specs.declared.Range.{Range}
 use Rattle.report.proofs.Joined.{for-each-same, for-each-map, count-each-same}
 use Rattle.table.specs.Calls.{Call, format, add, withdraw, report, top, count, check, rebuild, reportMany, topWithin, Kind, makes, updates, queries, queriesEach, tells, kind, Lengths, rangeFits, argumentsFit}
 use Rattle.revise.specs.Numbers.{addNumber}
-use Rattle.table.specs.Answers.{lent, fewEnough, earlyNumber, spotsAnswer, outputLeft, countsLeft}
-use Rattle.demands.specs.Model.{PlainSpot, hasIdentity, placeBefore, topBefore, ofPlaces, ofReport, chosen, fromOnward, reported, reportedIn, insertBy, sortBy, listed, takenOut, broughtIn, highest, fourBytes, complement, asBytes, Plain, begunEmpty, Reply, outputAfter, refuse, accept, badTable, badLent, tooMany, full, handOut, ownReply, reply}
+use Rattle.table.specs.Answers.{lent, fewEnough, placeInside, earlyNumber, spotsAnswer, outputLeft, countsLeft}
+use Rattle.demands.specs.Model.{PlainSpot, hasIdentity, placeBefore, topBefore, ofPlaces, ofReport, chosen, fromOnward, reported, reportedIn, insertBy, sortBy, listed, takenOut, broughtIn, highest, fourBytes, complement, asBytes, Plain, begunEmpty, Reply, outputAfter, refuse, accept, badTable, badLent, tooMany, changesOutside, full, handOut, ownReply, reply}
 use Rattle.demands.proofs.Keyed.{KeyReply, keyReply, replyTo, refusedOr, accepted, changed, nextBy, gives, singly, singlyIn, highestBy}
-use Rattle.demands.proofs.Orders.{model-places, model-tops, model-identity, model-from, model-under, four-bytes, key-bytes}
+use Rattle.demands.proofs.Orders.{not-both, outside-limits, model-places, model-tops, model-identity, model-from, model-under, four-bytes, key-bytes}
 
 -- a spot of the model as the table's definitions have it
 abbrev pub toKeySpot : PlainSpot → Spot
@@ -283,15 +283,16 @@ unfolding accept accepted outputAfter outputLeft
 like-accept d next f = record { answer = refl; output = λ out. refl; counts = refl; next = refl; fit = f }
 
 module _ (ps : Plain) (fit : AllFit (ps .spots)) where
-  -- 1, 2 and 6, by lengths and arguments
-  like-early : (sized lent few : Bool) (x : Reply) (y : KeyReply) → Like x y
-      → Like (cond (not sized) (refuse 1 0 ps) (cond (not lent) (refuse 2 0 ps) (cond (not few) (refuse 6 0 ps) x)))
-      (refusedOr (cond sized (cond lent (cond few 0 6) 2) 1) (keyed (ps .spots)) y)
+  -- 1, 2, 6 and 9, by lengths and arguments
+  like-early : (sized lent few inside : Bool) (x : Reply) (y : KeyReply) → Like x y
+      → Like (cond (not sized) (refuse 1 0 ps) (cond (not lent) (refuse 2 0 ps) (cond (not few) (refuse 6 0 ps) (cond (not inside) (refuse 9 0 ps) x))))
+      (refusedOr (cond sized (cond lent (cond few (cond inside 0 9) 6) 2) 1) (keyed (ps .spots)) y)
   unfolding refuse refusedOr outputAfter outputLeft
-  like-early true true true x y h = h
-  like-early true true false x y h = record { answer = refl; output = λ out. refl; counts = refl; next = refl; fit = fit }
-  like-early true false few x y h = record { answer = refl; output = λ out. refl; counts = refl; next = refl; fit = fit }
-  like-early false lent few x y h = record { answer = refl; output = λ out. refl; counts = refl; next = refl; fit = fit }
+  like-early true true true true x y h = h
+  like-early true true true false x y h = record { answer = refl; output = λ out. refl; counts = refl; next = refl; fit = fit }
+  like-early true true false inside x y h = record { answer = refl; output = λ out. refl; counts = refl; next = refl; fit = fit }
+  like-early true false few inside x y h = record { answer = refl; output = λ out. refl; counts = refl; next = refl; fit = fit }
+  like-early false lent few inside x y h = record { answer = refl; output = λ out. refl; counts = refl; next = refl; fit = fit }
 
   -- 4, or the list is another
   like-full : (b : Bool) (next : Plain) (keys : List Spot) → AllFit (next .spots) → keyed (next .spots) ≡ keys
@@ -342,10 +343,6 @@ bad-lent l makes = refl
 bad-lent l updates = sym (not-leb (l .table) (l .scratch))
 bad-lent l queries = refl
 bad-lent l (queriesEach n) = not-both (eqb (l .readMap) 512) (eqb (l .counts) n)
-  where
-    not-both : (a b : Bool) → not a || not b ≡ not (a && b)
-    not-both true b = refl
-    not-both false b = refl
 bad-lent l tells = refl
 
 -- 6
@@ -356,6 +353,20 @@ too-many updates = refl
 too-many queries = refl
 too-many (queriesEach n) = sym (not-leb n 64)
 too-many tells = refl
+
+-- 9
+pub changes-outside : (c : Call) → changesOutside c ≡ not (placeInside c)
+unfolding changesOutside
+changes-outside format = refl
+changes-outside (add place rank track) = outside-limits place
+changes-outside (withdraw place rank) = outside-limits place
+changes-outside (report x1 x2 y) = refl
+changes-outside (top x1 x2 k) = refl
+changes-outside count = refl
+changes-outside check = refl
+changes-outside rebuild = refl
+changes-outside (reportMany rs) = refl
+changes-outside (topWithin x1 x2 k a) = refl
 
 -- 4
 full-number : (bytes : ℕ) (place rank : ℤ) (ss : List PlainSpot) → Fits place → Fits rank → AllFit ss
@@ -401,5 +412,5 @@ like-own l (topWithin x1 x2 k a) ps b h =
 pub like : (l : Lengths) (c : Call) (ps : Plain) → argumentsFit c ≡ true → AllFit (ps .spots) → Like (reply l c ps) (keyReply l c (keyed (ps .spots)))
 unfolding reply keyReply earlyNumber
 like l c ps a h =
-    rw (bad-table (l .table), bad-lent l (kind c), too-many (kind c))
-    (like-early ps h (tableSized (l .table)) (lent l (kind c)) (fewEnough (kind c)) _ _ (like-own l c ps a h))
+    rw (bad-table (l .table), bad-lent l (kind c), too-many (kind c), changes-outside c)
+    (like-early ps h (tableSized (l .table)) (lent l (kind c)) (fewEnough (kind c)) (placeInside c) _ _ (like-own l c ps a h))

@@ -16,7 +16,7 @@ use Rattle.octets.proofs.Order.{less-or-not}
 use Rattle.spot.specs.Keys.{key, signed32, unsigned32}
 use Rattle.ranges.specs.Ranges.{forEach}
 use Rattle.table.specs.Calls.{Call, format, add, withdraw, report, top, count, check, rebuild, reportMany, topWithin, kind, Lengths, argumentsFit}
-use Rattle.demands.specs.Model.{PlainSpot, hasIdentity, placeBefore, chosen, reported, reportedIn, insertBy, listed, takenOut, broughtIn, highest, Plain, Reply, refuse, accept, badTable, badLent, tooMany, full, handOut, ownReply, reply}
+use Rattle.demands.specs.Model.{PlainSpot, hasIdentity, placeBefore, chosen, reported, reportedIn, insertBy, listed, takenOut, broughtIn, highest, Plain, Reply, refuse, accept, badTable, badLent, tooMany, outside, changesOutside, full, handOut, ownReply, reply}
 use Rattle.demands.specs.Demands.{InOrder}
 use Rattle.demands.proofs.Plain.{toKeySpot, SpotFits, AllFit, before-is, identity-key, out-fit, two-fit}
 
@@ -160,7 +160,9 @@ module _ (P : List PlainSpot → Type 0) (l : Lengths) (ps : Plain) (kept : P (p
 
     stays : (c : Call) → argumentsFit c ≡ true → P (reply l c ps .next .spots)
     unfolding reply
-    stays c a = refused-or (badTable (l .table)) 1 0 _ (λ z. refused-or (badLent l (kind c)) 2 0 _ (λ y. refused-or (tooMany (kind c)) 6 0 _ (λ x. after-call c a)))
+    stays c a =
+        refused-or (badTable (l .table)) 1 0 _
+        (λ z. refused-or (badLent l (kind c)) 2 0 _ (λ y. refused-or (tooMany (kind c)) 6 0 _ (λ x. refused-or (changesOutside c) 9 0 _ (λ w. after-call c a))))
 
 -- "It holds spots, no identity twice": every call keeps the list in place order
 pub stays-in-order : (l : Lengths) (c : Call) (ps : Plain) → argumentsFit c ≡ true → AllFit (ps .spots) → InOrder placeBefore (ps .spots) → InOrder placeBefore (reply l c ps .next .spots)
@@ -234,12 +236,12 @@ stays-held l c ps a h =
     a
 
 -- "full" comes exactly when the list holds 16 spots for each block after the first and the new spot's place and rank are not among them
-pub says-full : (l : Lengths) (place rank : ℤ) (track : ℕ) (ps : Plain) → badTable (l .table) ≡ false → l .table ≤ l .scratch
+pub says-full : (l : Lengths) (place rank : ℤ) (track : ℕ) (ps : Plain) → badTable (l .table) ≡ false → l .table ≤ l .scratch → outside place ≡ false
     → length (ps .spots) ≤ 16 * (l .table / 2048 - 1)
     → (reply l (add place rank track) ps .answer .number ≡ 4) ↔ ((length (ps .spots) ≡ 16 * (l .table / 2048 - 1)) × (listed place rank (ps .spots) ≡ false))
-unfolding reply badLent tooMany ownReply full refuse accept
-says-full l place rank track ps z w h =
-    rw (z, le-ltb (l .scratch) (l .table) w) (four (leb (16 * (l .table / 2048 - 1)) (length (ps .spots))) refl (listed place rank (ps .spots)) refl)
+unfolding reply badLent tooMany changesOutside ownReply full refuse accept
+says-full l place rank track ps z w i h =
+    rw (z, le-ltb (l .scratch) (l .table) w, i) (four (leb (16 * (l .table / 2048 - 1)) (length (ps .spots))) refl (listed place rank (ps .spots)) refl)
   where
     four : (b : Bool) → leb (16 * (l .table / 2048 - 1)) (length (ps .spots)) ≡ b → (there : Bool) → listed place rank (ps .spots) ≡ there
         → (cond (b && not there) (refuse 4 0 ps) (accept 0 [] [] (record { spots = broughtIn (record { place = place; rank = rank; track = track }) (ps .spots) })) .answer .number ≡ 4)

@@ -28,7 +28,7 @@ use Rattle.ranges.specs.declared.Range.{Range}
 use Rattle.table.specs.Calls.{Call, format, add, withdraw, report, top, count, check, rebuild, reportMany, topWithin, Lengths, rangeFits, argumentsFit}
 use Rattle.table.specs.Answers.{withOutput, spotsAnswer, outputLeft}
 use Rattle.table.specs.Queries.{walkAnswer, ReportPost}
-use Rattle.demands.specs.Model.{Plain, begunEmpty, eqZ, hasIdentity, placeBefore, topBefore, ofPlaces, ofReport, fromOnward, reported, takenOut, broughtIn, highest, fourBytes, complement, Reply, outputAfter, countsAfter, refuse, accept, badTable, badLent, tooMany, full, handOut, ownReply, reply, toldCall}
+use Rattle.demands.specs.Model.{Plain, begunEmpty, eqZ, hasIdentity, placeBefore, topBefore, ofPlaces, ofReport, fromOnward, reported, takenOut, broughtIn, highest, fourBytes, complement, Reply, outputAfter, countsAfter, refuse, accept, badTable, badLent, tooMany, outside, changesOutside, full, handOut, ownReply, reply, toldCall}
 use Rattle.table.proofs.Answering.{long-enough}
 
 -- a table of this many blocks, a read map and a work area as they should be, an output of this many bytes, and this many counts
@@ -93,6 +93,13 @@ least = negsuc 2147483647
 abbrev most : ℤ
 most = pos 2147483647
 
+-- the two ends of the places
+abbrev firstPlace : ℤ
+firstPlace = negsuc 999999
+
+abbrev lastPlace : ℤ
+lastPlace = pos 1000000
+
 abbrev two : List Call
 two = add (pos 0) (pos 7) 1 ∷ add (pos 240) (pos 7) 2 ∷ []
 
@@ -108,7 +115,7 @@ filling (suc n) = add (pos n) (pos n) 1 ∷ filling n
 -- a spot at each corner, and one at (-1, 0) and (0, -1)
 abbrev corners : List Call
 corners =
-    add most most 1 ∷ add least least 2 ∷ add least most 3 ∷ add most least 4 ∷ add (pos 0) (negsuc 0) 5 ∷ add (negsuc 0) (pos 0) 4294967295 ∷ []
+    add lastPlace most 1 ∷ add firstPlace least 2 ∷ add firstPlace most 3 ∷ add lastPlace least 4 ∷ add (pos 0) (negsuc 0) 5 ∷ add (negsuc 0) (pos 0) 4294967295 ∷ []
 
 abbrev range : ℤ → ℤ → ℤ → Range
 range x1 x2 y = record { x1 = x1; x2 = x2; y = y }
@@ -240,7 +247,17 @@ rows =
     asks (record { before = filling 128 ++ (add (pos 5) (pos 5) 9 ∷ []); call = count; lent = room 0; number = 0; detail = 128; front = [] }) ∷
     asks (record { before = filling 128 ++ (withdraw (pos 5) (pos 5) ∷ []); call = add (pos 5) (pos 6) 9; lent = room 0; number = 0; detail = 0; front = [] }) ∷
     asks (record { before = filling 128 ++ (withdraw (pos 5) (pos 5) ∷ add (pos 5) (pos 6) 9 ∷ []); call = report (pos 5) (pos 5) least; lent = room 12; number = 0; detail = 1; front = 0 ∷ 0 ∷ 0 ∷ 5 ∷ 0 ∷ 0 ∷ 0 ∷ 6 ∷ 0 ∷ 0 ∷ 0 ∷ 9 ∷ [] }) ∷
-    -- the ends of 32 bits, in place order, in Top's order, and with no spot left out
+    -- past the ends of the places: 9, before 4, and the list is as it was; 2 and 1 before it
+    asks (record { before = two; call = add (pos 1000001) (pos 7) 3; lent = room 0; number = 9; detail = 0; front = [] }) ∷
+    asks (record { before = two; call = add (negsuc 1000000) (pos 7) 3; lent = room 0; number = 9; detail = 0; front = [] }) ∷
+    asks (record { before = two; call = withdraw (pos 1000001) (pos 7); lent = room 0; number = 9; detail = 0; front = [] }) ∷
+    asks (record { before = two; call = withdraw least (pos 7); lent = room 0; number = 9; detail = 0; front = [] }) ∷
+    asks (record { before = filling 128; call = add most (pos 6) 9; lent = room 0; number = 9; detail = 0; front = [] }) ∷
+    asks (record { before = two ++ (add (pos 1000001) (pos 7) 3 ∷ withdraw (negsuc 1000000) (pos 7) ∷ []); call = count; lent = room 0; number = 0; detail = 2; front = [] }) ∷
+    asks (record { before = two; call = add most (pos 7) 3; lent = record { table = 18432; output = 0; readMap = 0; scratch = 18431; counts = 0 }; number = 2; detail = 0; front = [] }) ∷
+    asks (record { before = two; call = withdraw most (pos 7); lent = record { table = 18431; output = 0; readMap = 0; scratch = 0; counts = 0 }; number = 1; detail = 0; front = [] }) ∷
+    asks (record { before = corners ++ (withdraw firstPlace least ∷ withdraw lastPlace most ∷ []); call = count; lent = room 0; number = 0; detail = 4; front = [] }) ∷
+    -- the ends of the places and of 32 bits, in place order, in Top's order, and with no spot left out; a range's ends may be any number
     asks (record {
       before = corners;
       call = report least most least;
@@ -248,12 +265,12 @@ rows =
       number = 0;
       detail = 6;
       front =
-          128 ∷ 0 ∷ 0 ∷ 0 ∷ 128 ∷ 0 ∷ 0 ∷ 0 ∷ 0 ∷ 0 ∷ 0 ∷ 2 ∷
-          128 ∷ 0 ∷ 0 ∷ 0 ∷ 127 ∷ 255 ∷ 255 ∷ 255 ∷ 0 ∷ 0 ∷ 0 ∷ 3 ∷
+          255 ∷ 240 ∷ 189 ∷ 192 ∷ 128 ∷ 0 ∷ 0 ∷ 0 ∷ 0 ∷ 0 ∷ 0 ∷ 2 ∷
+          255 ∷ 240 ∷ 189 ∷ 192 ∷ 127 ∷ 255 ∷ 255 ∷ 255 ∷ 0 ∷ 0 ∷ 0 ∷ 3 ∷
           255 ∷ 255 ∷ 255 ∷ 255 ∷ 0 ∷ 0 ∷ 0 ∷ 0 ∷ 255 ∷ 255 ∷ 255 ∷ 255 ∷
           0 ∷ 0 ∷ 0 ∷ 0 ∷ 255 ∷ 255 ∷ 255 ∷ 255 ∷ 0 ∷ 0 ∷ 0 ∷ 5 ∷
-          127 ∷ 255 ∷ 255 ∷ 255 ∷ 128 ∷ 0 ∷ 0 ∷ 0 ∷ 0 ∷ 0 ∷ 0 ∷ 4 ∷
-          127 ∷ 255 ∷ 255 ∷ 255 ∷ 127 ∷ 255 ∷ 255 ∷ 255 ∷ 0 ∷ 0 ∷ 0 ∷ 1 ∷ [];
+          0 ∷ 15 ∷ 66 ∷ 64 ∷ 128 ∷ 0 ∷ 0 ∷ 0 ∷ 0 ∷ 0 ∷ 0 ∷ 4 ∷
+          0 ∷ 15 ∷ 66 ∷ 64 ∷ 127 ∷ 255 ∷ 255 ∷ 255 ∷ 0 ∷ 0 ∷ 0 ∷ 1 ∷ [];
     }) ∷
     asks (record {
       before = corners;
@@ -262,25 +279,25 @@ rows =
       number = 0;
       detail = 6;
       front =
-          128 ∷ 0 ∷ 0 ∷ 0 ∷ 127 ∷ 255 ∷ 255 ∷ 255 ∷ 0 ∷ 0 ∷ 0 ∷ 3 ∷
-          127 ∷ 255 ∷ 255 ∷ 255 ∷ 127 ∷ 255 ∷ 255 ∷ 255 ∷ 0 ∷ 0 ∷ 0 ∷ 1 ∷
+          255 ∷ 240 ∷ 189 ∷ 192 ∷ 127 ∷ 255 ∷ 255 ∷ 255 ∷ 0 ∷ 0 ∷ 0 ∷ 3 ∷
+          0 ∷ 15 ∷ 66 ∷ 64 ∷ 127 ∷ 255 ∷ 255 ∷ 255 ∷ 0 ∷ 0 ∷ 0 ∷ 1 ∷
           255 ∷ 255 ∷ 255 ∷ 255 ∷ 0 ∷ 0 ∷ 0 ∷ 0 ∷ 255 ∷ 255 ∷ 255 ∷ 255 ∷
           0 ∷ 0 ∷ 0 ∷ 0 ∷ 255 ∷ 255 ∷ 255 ∷ 255 ∷ 0 ∷ 0 ∷ 0 ∷ 5 ∷
-          128 ∷ 0 ∷ 0 ∷ 0 ∷ 128 ∷ 0 ∷ 0 ∷ 0 ∷ 0 ∷ 0 ∷ 0 ∷ 2 ∷
-          127 ∷ 255 ∷ 255 ∷ 255 ∷ 128 ∷ 0 ∷ 0 ∷ 0 ∷ 0 ∷ 0 ∷ 0 ∷ 4 ∷ [];
+          255 ∷ 240 ∷ 189 ∷ 192 ∷ 128 ∷ 0 ∷ 0 ∷ 0 ∷ 0 ∷ 0 ∷ 0 ∷ 2 ∷
+          0 ∷ 15 ∷ 66 ∷ 64 ∷ 128 ∷ 0 ∷ 0 ∷ 0 ∷ 0 ∷ 0 ∷ 0 ∷ 4 ∷ [];
     }) ∷
-    asks (record { before = corners; call = report least least most; lent = room 12; number = 0; detail = 1; front = 128 ∷ 0 ∷ 0 ∷ 0 ∷ 127 ∷ 255 ∷ 255 ∷ 255 ∷ 0 ∷ 0 ∷ 0 ∷ 3 ∷ [] }) ∷
+    asks (record { before = corners; call = report firstPlace firstPlace most; lent = room 12; number = 0; detail = 1; front = 255 ∷ 240 ∷ 189 ∷ 192 ∷ 127 ∷ 255 ∷ 255 ∷ 255 ∷ 0 ∷ 0 ∷ 0 ∷ 3 ∷ [] }) ∷
     asks (record {
       before = corners;
-      call = report most least least;
+      call = report lastPlace firstPlace least;
       lent = room 48;
       number = 0;
       detail = 4;
       front =
-          127 ∷ 255 ∷ 255 ∷ 255 ∷ 128 ∷ 0 ∷ 0 ∷ 0 ∷ 0 ∷ 0 ∷ 0 ∷ 4 ∷
-          127 ∷ 255 ∷ 255 ∷ 255 ∷ 127 ∷ 255 ∷ 255 ∷ 255 ∷ 0 ∷ 0 ∷ 0 ∷ 1 ∷
-          128 ∷ 0 ∷ 0 ∷ 0 ∷ 128 ∷ 0 ∷ 0 ∷ 0 ∷ 0 ∷ 0 ∷ 0 ∷ 2 ∷
-          128 ∷ 0 ∷ 0 ∷ 0 ∷ 127 ∷ 255 ∷ 255 ∷ 255 ∷ 0 ∷ 0 ∷ 0 ∷ 3 ∷ [];
+          0 ∷ 15 ∷ 66 ∷ 64 ∷ 128 ∷ 0 ∷ 0 ∷ 0 ∷ 0 ∷ 0 ∷ 0 ∷ 4 ∷
+          0 ∷ 15 ∷ 66 ∷ 64 ∷ 127 ∷ 255 ∷ 255 ∷ 255 ∷ 0 ∷ 0 ∷ 0 ∷ 1 ∷
+          255 ∷ 240 ∷ 189 ∷ 192 ∷ 128 ∷ 0 ∷ 0 ∷ 0 ∷ 0 ∷ 0 ∷ 0 ∷ 2 ∷
+          255 ∷ 240 ∷ 189 ∷ 192 ∷ 127 ∷ 255 ∷ 255 ∷ 255 ∷ 0 ∷ 0 ∷ 0 ∷ 3 ∷ [];
     }) ∷
     []
 
@@ -321,7 +338,7 @@ unfolding outputLeft walkAnswer spotsAnswer
 report-none n z x1 x2 y out map r out′ map′ m p =
     let e : r ≡ answer 0 0 =
     p .answered ∙
-    long-enough (withOutput (formatted n) out map) (report x1 x2 y) _ (ap tableSized (fresh-sized n z) ∙ z) (eq-eqb (length map) 512 m) refl ∙
+    long-enough (withOutput (formatted n) out map) (report x1 x2 y) _ (ap tableSized (fresh-sized n z) ∙ z) (eq-eqb (length map) 512 m) refl refl ∙
     ap (walkAnswer (length out)) (fresh-report n z x1 x2 y) ∙
     ap (λ (b : Bool). answer (cond b 5 0) 0) (le-ltb (length out / 12) 0 (omega arith)) in
     (e, p .output ∙ ap₂ (λ (a : Answer) (w : Walk). outputLeft (a .number) (spots w) out) e (fresh-report n z x1 x2 y))
@@ -351,7 +368,7 @@ pub some-row : Row
 some-row = asks (record { before = []; call = count; lent = room 0; number = 0; detail = 0; front = [] })
 
 all-right : every right rows ≡ true
-unfolding all asked right rows found after filling sizedFor signed32 unsigned32 rangeFits argumentsFit eqZ hasIdentity placeBefore topBefore ofPlaces ofReport fromOnward reported takenOut broughtIn highest fourBytes complement outputAfter countsAfter refuse accept badTable badLent tooMany full handOut ownReply reply
+unfolding all asked right rows found after filling sizedFor signed32 unsigned32 rangeFits argumentsFit eqZ hasIdentity placeBefore topBefore ofPlaces ofReport fromOnward reported takenOut broughtIn highest fourBytes complement outputAfter countsAfter refuse accept badTable badLent tooMany outside changesOutside full handOut ownReply reply
 all-right = refl
 
 -- every row of the table says what the definitions give

@@ -8,13 +8,15 @@ use mathlib.Core.Bool.{Bool, true, false, cond, _&&_, _||_}
 use mathlib.Core.List.{List, [], _∷_, _++_, List·Memᴰ}
 use mathlib.Core.Option.{some}
 use lib.ListN.{length, drop}
-use lib.IntN.{ℤ, pos}
+use lib.IntN.{ℤ, pos, _-ℤ_}
 use lib.Signed.{leZ, ltZ}
 use Rattle.octets.specs.Lists.{every, has}
-use Rattle.spot.specs.Keys.{key, signed32}
+use Rattle.spot.specs.Keys.{key, signed32, inLimits}
 use Rattle.spot.specs.Range.{ofRange}
 use Rattle.spot.specs.Query.{query, topQuery}
 use Rattle.block.specs.declared.Answer.{Answer}
+use Rattle.block.specs.Answers.{answer}
+use Rattle.block.specs.Table.{tableSized}
 use Rattle.tree.specs.Lookup.{live}
 use Rattle.tree.specs.Sound.{sound}
 use Rattle.ranges.specs.Ranges.{forEach, countEach}
@@ -23,7 +25,7 @@ use Rattle.table.specs.Calls.{Call, add, withdraw, report, top, reportMany, top
 use Rattle.table.specs.Answers.{lengths, earlyNumber, spotsAnswer}
 use Rattle.table.specs.Queries.{HandsOut, HandsOutEach, ReportPost, ManyPost, TopPost, TopWithinPost}
 use Rattle.table.specs.Updates.{AddPost, WithdrawPost}
-use Rattle.demands.specs.Model.{PlainSpot, hasIdentity, placeBefore, topBefore, asBytes}
+use Rattle.demands.specs.Model.{PlainSpot, hasIdentity, placeBefore, topBefore, asBytes, outside, changesOutside}
 use Rattle.demands.specs.History.{Event, MetBy, SecondTable, SameOnSecond}
 use Rattle.demands.specs.TopMarks.{MarksFew}
 
@@ -31,7 +33,7 @@ use Rattle.demands.specs.TopMarks.{MarksFew}
 
 -- the numbers of a refusal: "6 and every later number join demand 1's five"
 abbrev pub refusals : List ℕ
-refusals = 1 ∷ 2 ∷ 3 ∷ 4 ∷ 5 ∷ 6 ∷ []
+refusals = 1 ∷ 2 ∷ 3 ∷ 4 ∷ 5 ∷ 6 ∷ 9 ∷ []
 
 -- a call c, turned down at the table t
 pub record TurnedDown (c : Call) (t : List ℕ) (e : Event) : Type 0 where
@@ -199,3 +201,26 @@ pub record LittleReading : Type 0 where
   pub second : (x1 x2 : ℤ) (k : ℕ) (t u : List ℕ) (e f : Event) → sound t ≡ true → MetBy (top x1 x2 k) t e → e .answer .number ≡ 0
       → SecondTable (top x1 x2 k) t e u f
       → SameOnSecond (top x1 x2 k) e f
+
+-- ---- request 2026-07
+
+-- "It refuses with 9 an addition, withdrawal .. outside the limits, before 3 and after all others that come before 3": on every table whose lengths are right, sound
+-- or not, with all that is lent as it was; and nothing else: "Range ends may be any number"
+pub record RefusedOutside : Type 0 where
+  pub adds : (place rank : ℤ) (track : ℕ) (t w : List ℕ) (r : Answer) (t′ w′ : List ℕ) → AddPost place rank track t w r t′ w′
+      → tableSized (length t) ≡ true
+      → length t ≤ length w
+      → outside place ≡ true
+      → (r ≡ answer 9 0) × (t′ ≡ t) × (w′ ≡ w)
+  pub withdraws : (place rank : ℤ) (t w : List ℕ) (r : Answer) (t′ w′ : List ℕ) → WithdrawPost place rank t w r t′ w′
+      → tableSized (length t) ≡ true
+      → length t ≤ length w
+      → outside place ≡ true
+      → (r ≡ answer 9 0) × (t′ ≡ t) × (w′ ≡ w)
+  pub else : (t : List ℕ) (e : Event) → MetBy (e .call) t e → changesOutside (e .call) ≡ false → e .answer .number ≡ 9 → ⊥
+
+-- "A place read from a card .. must lie in −1,000,000 to 1,000,000 centimetres", "The difference of any two such then fits in 32 bits"
+pub record PlacesEnd : Type 0 where
+  -- every live spot of a sound table
+  pub live : (t : List ℕ) → sound t ≡ true → (s : PlainSpot) → LiveSpot t s → inLimits (s .place) ≡ true
+  pub difference : (a b : ℤ) → inLimits a ≡ true → inLimits b ≡ true → signed32 (a -ℤ b) ≡ true

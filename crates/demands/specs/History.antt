@@ -23,7 +23,7 @@ use Rattle.table.specs.Calls.{Call, format, add, withdraw, report, top, count, 
 use Rattle.table.specs.Answers.{lengths}
 use Rattle.table.specs.Queries.{ReportPost, ManyPost, TopPost, TopWithinPost, CountPost, CheckPost}
 use Rattle.table.specs.Updates.{FormatPost, AddPost, WithdrawPost, RebuildPost}
-use Rattle.demands.specs.Model.{Plain, PlainSpot, begunEmpty, Reply, reply, toldCall, outputAfter, countsAfter, listed, ofPlaces, highest}
+use Rattle.demands.specs.Model.{Plain, PlainSpot, begunEmpty, Reply, reply, toldCall, outputAfter, countsAfter, outside, listed, ofPlaces, highest}
 use Rattle.demands.specs.TopMarks.{MarksFew}
 
 -- a call as it happened: what it was lent beside the table, what it answered, and all that it left. "Outputs, maps and work areas may be of any length
@@ -122,10 +122,10 @@ pub record Agreed (c : Call) (t : List ℕ) (due : Answer) (left counted : List 
   pub second : isQuery c ≡ true → e .answer .number ≡ 0 → (u : List ℕ) (f : Event) → SecondTable c t e u f → SameOnSecond c e f
 
 -- "With scratch enough, "full" comes exactly when the plain list holds 16 spots for each block after the first and the new spot's place and rank are not
--- among them"
+-- among them"; request 2026-07: "What demand 3 says of "full" is said of spots inside the limits"
 abbrev pub FullExactly : Call → List ℕ → Plain → Event → Type 0
 FullExactly c t ps e =
-    (place rank : ℤ) (track : ℕ) → c ≡ add place rank track → length t ≤ length (e .scratch)
+    (place rank : ℤ) (track : ℕ) → c ≡ add place rank track → length t ≤ length (e .scratch) → outside place ≡ false
     → (e .answer .number ≡ 4) ↔ ((length (ps .spots) ≡ 16 * (length t / 2048 - 1)) × (listed place rank (ps .spots) ≡ false))
 
 -- "Each accepted report marks exactly the blocks that the scope paper has it read"
@@ -188,7 +188,7 @@ AllAgreed t ps (e ∷ es) =
 --   "every call leaves the table sound"                                             `Agreed .staysSound`
 --   "gives the same number, detail and spots, in the same order, as the scope       `Agreed .answer`, `Agreed .output`: against `reply` of the model, begun
 --    paper's plain list, begun empty and fed the same calls and lent lengths"       with `begunEmpty`, and fed the call and `lengthsIn` alone (`replyIn`)
---   "With scratch enough, "full" comes exactly when .."                             `FullExactly`
+--   "With scratch enough, "full" comes exactly when .."                             `FullExactly`, of spots inside the limits (request 2026-07)
 --   "Each accepted report marks exactly the blocks that the scope paper has it read" `MarksExactly`: block 0 and `ReadBlock`
 --   "at most 1, plus 36 for each level of the tree, plus 9 for each whole 16 spots" `Agreed .bounded`
 --   "On a second table of that length, equal in the marked blocks, whatever the     `Agreed .second`: any table u of that length with the same bytes in the
@@ -212,6 +212,8 @@ AllAgreed t ps (e ∷ es) =
 --   "With allowance or k 0 it reads only block 0 .."                                `SaidWithin .none`
 --   "If the allowance reaches what Top reads under this rule, the answer is Top's"  `TopReached`
 --   "(0 if refused)"; "Spots, ceiling and marks follow the second-table rule"       `Agreed .ceiling`; `SameOnSecond .ceiling`
+-- and of request 2026-07:
+--   "It refuses with 9 an addition, withdrawal .. outside the limits, before 3 ..": `Agreed .answer`: against `reply` of the model, which gives it by itself
 -- "Demand 3 is a single claim about a whole history. The table starts as an accepted Format leaves it, whatever its bytes were"
 abbrev pub Demand3 : Type 0
 Demand3 = (bytes : ℕ) → tableSized bytes ≡ true → (es : List Event) → History (formatted bytes) es → AllAgreed (formatted bytes) begunEmpty es

@@ -152,6 +152,23 @@ tooMany queries = false
 tooMany (queriesEach n) = ltb 64 n
 tooMany tells = false
 
+-- 9, request 2026-07: a place that is not "in −1,000,000 to 1,000,000 centimetres"
+unfoldable pub outside : ℤ → Bool
+outside place = ltZ place (negsuc 999999) || ltZ (pos 1000000) place
+
+-- "It refuses with 9 an addition, withdrawal .. outside the limits"; "Range ends may be any number"
+unfoldable pub changesOutside : Call → Bool
+changesOutside format = false
+changesOutside (add place rank track) = outside place
+changesOutside (withdraw place rank) = outside place
+changesOutside (report x1 x2 y) = false
+changesOutside (top x1 x2 k) = false
+changesOutside count = false
+changesOutside check = false
+changesOutside rebuild = false
+changesOutside (reportMany rs) = false
+changesOutside (topWithin x1 x2 k a) = false
+
 -- 4: "the list has 16 spots for each block after block 0 and none of this identity"
 unfoldable pub full : ℕ → ℤ → ℤ → List PlainSpot → Bool
 full bytes place rank ss = leb (16 * (bytes / 2048 - 1)) (length ss) && not (listed place rank ss)
@@ -175,10 +192,12 @@ ownReply l rebuild ps = accept 0 [] [] ps
 ownReply l (reportMany rs) ps = handOut (l .output) (forEach (reportedIn (ps .spots)) rs) (countEach (reportedIn (ps .spots)) rs) ps
 ownReply l (topWithin x1 x2 k a) ps = handOut (l .output) (highest x1 x2 k (ps .spots)) [] ps
 
--- "Every call: 1 and 2 as the lengths give them; 3 never"; "The order is that of the table"; "It refuses with 6, after 2 and before 3"
+-- "Every call: 1 and 2 as the lengths give them; 3 never"; "The order is that of the table"; "It refuses with 6, after 2 and before 3"; 9 "before 3 and after all
+-- others that come before 3"
 unfoldable pub reply : Lengths → Call → Plain → Reply
 reply l c ps =
-    cond (badTable (l .table)) (refuse 1 0 ps) (cond (badLent l (kind c)) (refuse 2 0 ps) (cond (tooMany (kind c)) (refuse 6 0 ps) (ownReply l c ps)))
+    cond (badTable (l .table)) (refuse 1 0 ps)
+    (cond (badLent l (kind c)) (refuse 2 0 ps) (cond (tooMany (kind c)) (refuse 6 0 ps) (cond (changesOutside c) (refuse 9 0 ps) (ownReply l c ps))))
 
 -- request 2026-10: how many spots a Top within an allowance can give hangs on the arrangement, of which the list knows nothing. Told that number, the list answers
 -- as to a Top for so many; untold, as to a Top with no allowance. Every other call is as it is.

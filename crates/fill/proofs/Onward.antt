@@ -11,7 +11,7 @@ use lib.ListN.{length, take, drop, length-take}
 use lib.Dec.{eqb}
 use Rattle.octets.specs.Lists.{has, keep, rest}
 use Rattle.spot.specs.declared.Spot.{Spot}
-use Rattle.spot.specs.Keys.{rankKey, allKeys}
+use Rattle.spot.specs.Keys.{rankKey}
 use Rattle.spot.specs.Spots.{keys, find, put}
 use Rattle.spot.specs.Sorted.{only, but, lower}
 use Rattle.spot.proofs.Buffers.{find-mem}
@@ -20,8 +20,9 @@ use Rattle.block.specs.declared.Asked.the-variants.{Child}
 use Rattle.block.specs.Node.{Store}
 use Rattle.block.specs.NodeRules.{zeroFirst, lows}
 use Rattle.buffer.specs.Buffer.{held, named, Highest}
-use Rattle.tree.specs.Part.{Part}
+use Rattle.tree.specs.Part.{Part, Legal}
 use Rattle.tree.specs.Lookup.{lookup}
+use Rattle.tree.proofs.Legal.{legal-full, legal-part}
 use Rattle.update_theory.specs.Held.{Held}
 use Rattle.update_theory.specs.Change.{part, Sound, Changed}
 use Rattle.update_theory.specs.Spare.{Taken}
@@ -78,19 +79,19 @@ loop-as {ni} {nd} {l} {lo} {hi} {x} {es₀} {y} {r} {es} {es′} {b} {b′} {f} 
 pub on-insert : (y : Store) (level : ℕ) (n : NodeValue) (r : Turned) (s : Spot) → n .points .n < 32 → InsertUp n s r → Highest (held (n .inserts)) s
     → ((d : Entry) → List·Memᴰ d (entriesOf (n .entries)) → (d .size ≡ 0 → ⊥) → rankKey (d .top) < rankKey (s .key))
     → r .ok ≡ true → GoesOn y y level n (r .node) (r .over)
-on-insert y level n r s less u h tops ok ni nd lo hi rank x es₀ f full z p = (
+on-insert y level n r s less u h tops ok ni nd lo hi rank x es₀ f legal z p = (
   rankKey (s .key),
   loop-as (ap entriesOf (u .lifted .entries)) (u .raised ok)
-      (round-insert ni nd level lo hi full x es₀ f y rank (entriesOf (n .entries)) (heldIn n) p (let q = length-take (n .points .n) (n .points .spots) in omega arith) s (find-mem (s .key) (held (n .inserts)) (h .there)) (h .there) (h .most) tops),
+      (round-insert ni nd level lo hi (legal-full lo hi legal) x es₀ f y rank (entriesOf (n .entries)) (heldIn n) p (let q = length-take (n .points .n) (n .points .spots) in omega arith) s (find-mem (s .key) (held (n .inserts)) (h .there)) (h .there) (h .most) tops),
   λ o. absurd (true≢false (sym o ∙ u .lifted .over)),
 )
 
 -- nothing in I, and no child has points
 pub on-end : (y : Store) (level : ℕ) (n r : NodeValue) (over : Bool) {p i d : ℕ} → n .points .n < 32 → Edited n r (record { points = held (n .points); inserts = held (n .inserts); deletes = [] }) p i d
     → n .inserts .n ≡ 0 → ((d : Entry) → List·Memᴰ d (entriesOf (n .entries)) → d .size ≡ 0) → GoesOn y y level n r over
-on-end y level n r over less u bare sizes ni nd lo hi rank x es₀ f full z p = (
+on-end y level n r over less u bare sizes ni nd lo hi rank x es₀ f legal z p = (
   rank,
-  loop-as (ap entriesOf (u .entries)) (u .holds) (round-end ni nd level lo hi full x es₀ f y rank (entriesOf (n .entries)) (heldIn n) p sizes),
+  loop-as (ap entriesOf (u .entries)) (u .holds) (round-end ni nd level lo hi (legal-full lo hi legal) x es₀ f y rank (entriesOf (n .entries)) (heldIn n) p sizes),
   λ o. inr (
     subst⁻¹ (λ (b : Held). length (b .points) < 32) (u .holds) (let q = length-take (n .points .n) (n .points .spots) in omega arith),
     ap (λ (b : Held). b .inserts) (u .holds) ∙ ap (λ (k : ℕ). take k (n .inserts .spots)) bare,
@@ -112,7 +113,7 @@ dropped k b = record { points = b .points; inserts = b .inserts; deletes = keep 
 -- a child whose top may be taken
 pub record ChildReady (l : ℕ) (y : Store) (e : Entry) (lo hi : ℕ) : Type 0 where
   pub order : lo ≤ hi
-  pub full : hi ≤ allKeys
+  pub legal : Legal lo hi
   pub low : e .low ≤ lo
   pub sound : Sound (suc l) y (part (e .block) (Child e) lo hi ∷ [])
 
@@ -131,24 +132,24 @@ module _ (y : Store) (l : ℕ) (n : NodeValue) (c : ℕ) (e : Entry) (at-c : Ent
   most d i = best-at (entriesOf (n .entries)) c e at-c best .1 d (subst⁻¹ (λ (q : List Entry). List·Memᴰ d q) (at-c .split) i)
 
   -- where the loop stands
-  module _ (ni nd lo hi rank : ℕ) (x : Store) (es₀ : List Entry) (f : ℕ → Option ℕ) (full : hi ≤ allKeys) (zero₀ : zeroFirst (lows es₀) ≡ true)
+  module _ (ni nd lo hi rank : ℕ) (x : Store) (es₀ : List Entry) (f : ℕ → Option ℕ) (legal : Legal lo hi) (zero₀ : zeroFirst (lows es₀) ≡ true)
       (p : Loop ni nd (suc l) lo hi x es₀ y rank (entriesOf (n .entries)) (heldIn n) f) where
     split-at : Loop ni nd (suc l) lo hi x es₀ y rank (take c (entriesOf (n .entries)) ++ (e ∷ drop (suc c) (entriesOf (n .entries)))) (heldIn n) f
     split-at = subst (λ (q : List Entry). Loop ni nd (suc l) lo hi x es₀ y rank q (heldIn n) f) (at-c .split) p
 
     pub child-ready : ChildReady l y e (childAt lo hi us vs e .lo) (childAt lo hi us vs e .hi)
     child-ready =
-        let b = child-bounds ni nd (suc l) lo hi full x es₀ f zero₀ y rank us vs e (heldIn n) split-at pts most in
+        let b = child-bounds ni nd (suc l) lo hi (legal-full lo hi legal) x es₀ f zero₀ y rank us vs e (heldIn n) split-at pts most in
         record {
           order = b .2;
-          full = let v = b .1 in omega arith;
-          low = child-low ni nd (suc l) lo hi full x es₀ f zero₀ y rank us vs e (heldIn n) split-at pts most;
-          sound = child-sound ni nd (suc l) lo hi full x es₀ f zero₀ y rank us vs e (heldIn n) split-at pts most;
+          legal = legal-part lo hi (childAt lo hi us vs e .lo) (childAt lo hi us vs e .hi) legal (b .0) (b .1);
+          low = child-low ni nd (suc l) lo hi (legal-full lo hi legal) x es₀ f zero₀ y rank us vs e (heldIn n) split-at pts most;
+          sound = child-sound ni nd (suc l) lo hi (legal-full lo hi legal) x es₀ f zero₀ y rank us vs e (heldIn n) split-at pts most;
         }
 
   -- its top was taken
   module _ (z : Store) (m : NodeValue) (took : Took) (r : Turned) (less : n .points .n < 32) (block : took .entry .block ≡ e .block) (low : took .entry .low ≡ e .low)
-      (done : (lo hi : ℕ) → lo ≤ hi → hi ≤ allKeys → e .low ≤ lo → Sound (suc l) y (part (e .block) (Child e) lo hi ∷ []) → TookOut y z l e lo hi took)
+      (done : (lo hi : ℕ) → lo ≤ hi → Legal lo hi → e .low ≤ lo → Sound (suc l) y (part (e .block) (Child e) lo hi ∷ []) → TookOut y z l e lo hi took)
       (put-in : Replaced n c (took .entry) m) (same : r .node .entries ≡ m .entries) where
     entries-as : entriesOf (r .node .entries) ≡ take c (entriesOf (n .entries)) ++ ((took .entry ∷ []) ++ drop (suc c) (entriesOf (n .entries)))
     entries-as = ap entriesOf same ∙ put-in .entries
@@ -157,18 +158,18 @@ module _ (y : Store) (l : ℕ) (n : NodeValue) (c : ℕ) (e : Entry) (at-c : Ent
     held-as = λ i. record { points = held (put-in .points i); inserts = held (put-in .inserts i); deletes = named (put-in .deletes i) }
 
     -- what all kinds use, where the loop stands
-    module _ (ni nd lo hi rank : ℕ) (x : Store) (es₀ : List Entry) (f : ℕ → Option ℕ) (full : hi ≤ allKeys) (zero₀ : zeroFirst (lows es₀) ≡ true)
+    module _ (ni nd lo hi rank : ℕ) (x : Store) (es₀ : List Entry) (f : ℕ → Option ℕ) (legal : Legal lo hi) (zero₀ : zeroFirst (lows es₀) ≡ true)
         (p : Loop ni nd (suc l) lo hi x es₀ y rank (entriesOf (n .entries)) (heldIn n) f) where
       p′ : Loop ni nd (suc l) lo hi x es₀ y rank (take c (entriesOf (n .entries)) ++ (e ∷ drop (suc c) (entriesOf (n .entries)))) (heldIn n) f
-      p′ = split-at ni nd lo hi rank x es₀ f full zero₀ p
+      p′ = split-at ni nd lo hi rank x es₀ f legal zero₀ p
 
       abbrev child : Part
       child = childAt lo hi (take c (entriesOf (n .entries))) (drop (suc c) (entriesOf (n .entries))) e
 
       out : TookOut y z l e (child .lo) (child .hi) took
       out =
-          let b = child-ready ni nd lo hi rank x es₀ f full zero₀ p in
-          done (child .lo) (child .hi) (b .order) (b .full) (b .low) (b .sound)
+          let b = child-ready ni nd lo hi rank x es₀ f legal zero₀ p in
+          done (child .lo) (child .hi) (b .order) (b .legal) (b .low) (b .sound)
 
       changed : Changed (suc l) (Taken [] []) y (child ∷ []) z (part (took .entry .block) (Child (took .entry)) (child .lo) (child .hi) ∷ []) (λ k. cond (eqb k (e .top)) none (lookup (suc l) y k child))
       changed = subst⁻¹ (λ (b : ℕ). Changed (suc l) (Taken [] []) y (child ∷ []) z (part b (Child (took .entry)) (child .lo) (child .hi) ∷ []) (λ k. cond (eqb k (e .top)) none (lookup (suc l) y k child))) block (out .changed)
@@ -187,12 +188,12 @@ module _ (y : Store) (l : ℕ) (n : NodeValue) (c : ℕ) (e : Entry) (at-c : Ent
           go true h = (
             rankKey (e .top),
             loop-as entries-as (u .dropped ok (names h) ∙ ap (λ (k : ℕ). dropped k (heldIn m)) (out .key) ∙ ap (dropped (e .top)) held-as)
-                (round-dead ni nd (suc l) lo hi full x es₀ f zero₀ y rank us vs e (heldIn n) p′ pts most z (took .entry) low block changed above h),
+                (round-dead ni nd (suc l) lo hi (legal-full lo hi legal) x es₀ f zero₀ y rank us vs e (heldIn n) p′ pts most z (took .entry) low block changed above h),
           )
           go false h = (
             rankKey (e .top),
             loop-as entries-as (u .raised ok (names h) ∙ ap (λ (k : ℕ). raised (took .spot) k (heldIn m)) (out .key) ∙ ap (raised (took .spot) (e .top)) held-as)
-                (round-child ni nd (suc l) lo hi full x es₀ f zero₀ y rank us vs e (heldIn n) p′ pts most z (took .entry) low block changed room (took .spot) (out .key) (out .live) above h),
+                (round-child ni nd (suc l) lo hi (legal-full lo hi legal) x es₀ f zero₀ y rank us vs e (heldIn n) p′ pts most z (took .entry) low block changed room (took .spot) (out .key) (out .live) above h),
           )
 
       both-on : (s : Spot) → InsertUp m s r → Highest (held (n .inserts)) s → s .key ≡ e .top → r .ok ≡ true
@@ -200,18 +201,18 @@ module _ (y : Store) (l : ℕ) (n : NodeValue) (c : ℕ) (e : Entry) (at-c : Ent
       both-on s u high at-t ok = (
         rankKey (e .top),
         loop-as entries-as (u .raised ok ∙ ap (λ (k : ℕ). inserted s k (heldIn m)) at-t ∙ ap (inserted s (e .top)) held-as)
-            (round-both ni nd (suc l) lo hi full x es₀ f zero₀ y rank us vs e (heldIn n) p′ pts most z (took .entry) low block changed room s at-t
+            (round-both ni nd (suc l) lo hi (legal-full lo hi legal) x es₀ f zero₀ y rank us vs e (heldIn n) p′ pts most z (took .entry) low block changed room s at-t
             (ap (λ (k : ℕ). find k (held (n .inserts))) (sym at-t) ∙ high .there) (λ k i. let q : rankKey (s .key) ≡ rankKey (e .top) = ap rankKey at-t in let v = high .most k i in omega arith)),
       )
 
     -- from the child
     pub on-child : ChildUp m (took .spot) r → ((k : ℕ) → List·Memᴰ k (keys (held (n .inserts))) → rankKey k < rankKey (e .top)) → r .ok ≡ true → GoesOn y z (suc l) n (r .node) (r .over)
-    on-child u above ok ni nd lo hi rank x es₀ f full zero₀ p =
-        let q = child-on ni nd lo hi rank x es₀ f full zero₀ p u above ok in
+    on-child u above ok ni nd lo hi rank x es₀ f legal zero₀ p =
+        let q = child-on ni nd lo hi rank x es₀ f legal zero₀ p u above ok in
         (q .0, q .1, λ o. absurd (true≢false (sym o ∙ u .lifted .over)))
 
     -- from I, and the child's goes
     pub on-both : (s : Spot) → InsertUp m s r → Highest (held (n .inserts)) s → s .key ≡ e .top → r .ok ≡ true → GoesOn y z (suc l) n (r .node) (r .over)
-    on-both s u high at-t ok ni nd lo hi rank x es₀ f full zero₀ p =
-        let q = both-on ni nd lo hi rank x es₀ f full zero₀ p s u high at-t ok in
+    on-both s u high at-t ok ni nd lo hi rank x es₀ f legal zero₀ p =
+        let q = both-on ni nd lo hi rank x es₀ f legal zero₀ p s u high at-t ok in
         (q .0, q .1, λ o. absurd (true≢false (sym o ∙ u .lifted .over)))

@@ -105,9 +105,9 @@ pub post-failed : {t s map t′ s′ map′ : List ℕ} {level : ℕ} {n : NodeV
 post-failed {t} {level = level} {n = n} {c = c} {e = e} {took = took} {r = r} w inner k a b p h same said =
     round-failed w k h same (
     subst⁻¹ (λ (v : ℕ). OnLoop (storeOf t) v n (λ ni nd lo hi x es₀ f. r .broken ≡ false)) (deeper level inner) (
-    λ ni nd lo hi rank x es₀ f full zero₀ q.
-    let s = child-ready (storeOf t) (level - 1) n c e a b ni nd lo hi rank x es₀ f full zero₀ q in
-    said ∙ p .whole _ _ (s .order) (s .full) (s .low) (s .sound)
+    λ ni nd lo hi rank x es₀ f legal zero₀ q.
+    let s = child-ready (storeOf t) (level - 1) n c e a b ni nd lo hi rank x es₀ f legal zero₀ q in
+    said ∙ p .whole _ _ (s .order) (s .legal) (s .low) (s .sound)
     )
     )
 
@@ -197,7 +197,7 @@ round-done {t} {s} {map} {t′} {s′} {map′} {level} {n} {p} {took} {r} w h p
     go false false z o b e = clash (f .none b .3) o
     go false true z o b e =
         let d = c .failed o in
-        ⊎-elim (λ (q : level ≡ 0). round-failed w k (d .0) (d .1) (λ ni nd lo hi rank x es₀ g full zero₀ v. d .2 ∙ f .leaf b q .1))
+        ⊎-elim (λ (q : level ≡ 0). round-failed w k (d .0) (d .1) (λ ni nd lo hi rank x es₀ g legal zero₀ v. d .2 ∙ f .leaf b q .1))
         (λ (q : level ≡ 0 → ⊥). post-failed w q k (pl .at b) (best z b e) (f .taken b q) (d .0) (d .1) (d .2)) (same-or-not level 0)
     go true true false o b e =
         let u = c .child o b e in

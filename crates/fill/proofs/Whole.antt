@@ -11,7 +11,7 @@ use lib.Dec.{eqb, ltb}
 use borrow.Author.Tests.{eqb-true, leb-true, ltb-true}
 use Rattle.octets.proofs.Tests.{all-at, every-mem, and-left, and-right}
 use Rattle.spot.specs.declared.Spot.{Spot}
-use Rattle.spot.specs.Keys.{rankKey, allKeys}
+use Rattle.spot.specs.Keys.{rankKey}
 use Rattle.spot.specs.Spots.{keys, find}
 use Rattle.spot.specs.Sorted.{only, but}
 use Rattle.spot.proofs.Buffers.{find-mem}
@@ -21,7 +21,9 @@ use Rattle.block.specs.Table.{blocksOf, blockOk}
 use Rattle.block.specs.Node.{Node, storeOf}
 use Rattle.block.specs.NodeRules.{nodeOk, childBlocksOk, zeroFirst, lows, agrees}
 use Rattle.buffer.specs.Buffer.{held, named, Highest}
+use Rattle.tree.specs.Part.{Legal}
 use Rattle.tree.specs.Lookup.{lookup}
+use Rattle.tree.proofs.Legal.{legal-full}
 use Rattle.update_theory.specs.Held.{Held}
 use Rattle.update_theory.specs.Change.{part, Sound, Changed}
 use Rattle.update_theory.specs.Spare.{Taken}
@@ -69,7 +71,7 @@ fill-start {t} {s} {map} {level} {n} w =
       fewD = omega arith;
       count = refl;
       sameLows = refl;
-      goes = λ lo hi rank f full z o. (
+      goes = λ lo hi rank f legal z o. (
         rank,
         record {
           going = going-start level lo hi (storeOf t) [] rank (entriesOf (n .entries)) (heldIn n) f o (λ k i. absurd (List·Memᴰ·not-nil i));
@@ -92,8 +94,8 @@ module _ {t₀ s₀ map₀ : List ℕ} {level : ℕ} {n₀ : NodeValue} {t s map
         deletes = p .fewD;
         count = p .count;
         sameLows = p .sameLows;
-        done = λ e lo hi rank f full z o. let q = p .goes lo hi rank f full z o in record { rank = q .0; loop = q .1; full = h e lo hi rank f full z o };
-        whole = λ lo hi rank f full z o. refl;
+        done = λ e lo hi rank f legal z o. let q = p .goes lo hi rank f legal z o in record { rank = q .0; loop = q .1; full = h e lo hi rank f legal z o };
+        whole = λ lo hi rank f legal z o. refl;
       }
 
 module _ {t₀ s₀ map₀ : List ℕ} {level : ℕ} {n₀ : NodeValue} {t s map : List ℕ} {n : NodeValue} (p : Filling t₀ s₀ map₀ level n₀ t s map n) {t′ s′ map′ : List ℕ} {r : Turned}
@@ -108,9 +110,9 @@ module _ {t₀ s₀ map₀ : List ℕ} {level : ℕ} {n₀ : NodeValue} {t s map
         fewD = omega (arith, p .fewD, q .deletes);
         count = q .count ∙ p .count;
         sameLows = q .sameLows ∙ p .sameLows;
-        goes = λ lo hi rank f full z o.
-            let a = p .goes lo hi rank f full z o in
-            let b = q .goesOn ok (n₀ .inserts .n) (n₀ .deletes .n) lo hi (a .0) (storeOf t₀) (entriesOf (n₀ .entries)) f full z (a .1) in
+        goes = λ lo hi rank f legal z o.
+            let a = p .goes lo hi rank f legal z o in
+            let b = q .goesOn ok (n₀ .inserts .n) (n₀ .deletes .n) lo hi (a .0) (storeOf t₀) (entriesOf (n₀ .entries)) f legal z (a .1) in
             (b .0, b .1);
       }
 
@@ -124,15 +126,15 @@ module _ {t₀ s₀ map₀ : List ℕ} {level : ℕ} {n₀ : NodeValue} {t s map
         count = q .count ∙ p .count;
         sameLows = q .sameLows ∙ p .sameLows;
         done = λ e. absurd (false≢true e);
-        whole = λ lo hi rank f full z o. let a = p .goes lo hi rank f full z o in q .whole (n₀ .inserts .n) (n₀ .deletes .n) lo hi (a .0) (storeOf t₀) (entriesOf (n₀ .entries)) f full z (a .1);
+        whole = λ lo hi rank f legal z o. let a = p .goes lo hi rank f legal z o in q .whole (n₀ .inserts .n) (n₀ .deletes .n) lo hi (a .0) (storeOf t₀) (entriesOf (n₀ .entries)) f legal z (a .1);
       }
 
   -- one that is the last
   pub fill-over : r .ok ≡ true → r .over ≡ true → FillPost t₀ t′ s′ map′ level n₀ (record { ok = true; broken = false; node = r .node })
   fill-over ok over =
       fill-ends (fill-turn ok) true
-      (λ e lo hi rank f full z o. let a = p .goes lo hi rank f full z o in
-      q .goesOn ok (n₀ .inserts .n) (n₀ .deletes .n) lo hi (a .0) (storeOf t₀) (entriesOf (n₀ .entries)) f full z (a .1) .2 over)
+      (λ e lo hi rank f legal z o. let a = p .goes lo hi rank f legal z o in
+      q .goesOn ok (n₀ .inserts .n) (n₀ .deletes .n) lo hi (a .0) (storeOf t₀) (entriesOf (n₀ .entries)) f legal z (a .1) .2 over)
 
 -- ---- take_top
 
@@ -150,12 +152,12 @@ take-fails u k q w =
       low = ap (λ (x : Entry). x .low) (q .2);
       fits = subst⁻¹ EntryFits (q .2);
       done = λ h. absurd (true≢false (sym h ∙ q .0));
-      whole = λ lo hi order full low sound. q .1 ∙ w lo hi order full low sound;
+      whole = λ lo hi order legal low sound. q .1 ∙ w lo hi order legal low sound;
     }
 
 -- a block that breaks a rule is not that of a sound part
 pub part-valid : (t : List ℕ) {level : ℕ} {e : Entry} → nodeOk level (Child e) (storeOf t (e .block)) ≡ false → OnChild t level e (λ lo hi. true ≡ false)
-part-valid t {level} {e} refused lo hi order full low sound = absurd (true≢false (sym (opened level (storeOf t) (part (e .block) (Child e) lo hi) sound .ok) ∙ refused))
+part-valid t {level} {e} refused lo hi order legal low sound = absurd (true≢false (sym (opened level (storeOf t) (part (e .block) (Child e) lo hi) sound .ok) ∙ refused))
 
 -- the node of a block that was tested may be worked on
 pub loaded-works : {t s map : List ℕ} {level : ℕ} (e : Entry) {n m : NodeValue} {b : Held} → Undoable t s map → level ≤ 6 → nodeOk level (Child e) (storeOf t (e .block)) ≡ true
@@ -190,20 +192,20 @@ filled-stores l d p =
 -- the top is left out of the loaded node, which becomes m
 module _ {t : List ℕ} {level : ℕ} {e : Entry} {spot : Spot} {n m : NodeValue} (l : Loaded t (e .block) n) (high : Highest (held (n .points)) spot)
     (d : Edited n m (record { points = only (but (spot .key)) (held (n .points)); inserts = held (n .inserts); deletes = named (n .deletes) }) (n .points .n) (n .inserts .n) (n .deletes .n)) where
-  module _ (lo hi : ℕ) (order : lo ≤ hi) (full : hi ≤ allKeys) (low : e .low ≤ lo) (sound : Sound (suc level) (storeOf t) (part (e .block) (Child e) lo hi ∷ [])) where
+  module _ (lo hi : ℕ) (order : lo ≤ hi) (legal : Legal lo hi) (low : e .low ≤ lo) (sound : Sound (suc level) (storeOf t) (part (e .block) (Child e) lo hi ∷ [])) where
     top : (e .size ≡ 0 → ⊥) × (spot .key ≡ e .top)
     top =
-        top-is level (storeOf t) (part (e .block) (Child e) lo hi) e refl full sound (spot .key)
+        top-is level (storeOf t) (part (e .block) (Child e) lo hi) e refl (legal-full lo hi legal) sound (spot .key)
         (subst (λ (v : Node). List·Memᴰ (spot .key) (keys (v .points)) × ((k : ℕ) → List·Memᴰ k (keys (v .points)) → rankKey k ≤ rankKey (spot .key))) (l .is) (find-mem (spot .key) (held (n .points)) (high .there), high .most))
 
     live : lookup (suc level) (storeOf t) (e .top) (part (e .block) (Child e) lo hi) ≡ some (spot .track)
     live =
-        top-found level (storeOf t) (part (e .block) (Child e) lo hi) e refl full sound (spot .track)
+        top-found level (storeOf t) (part (e .block) (Child e) lo hi) e refl (legal-full lo hi legal) sound (spot .track)
         (subst (λ (v : Node). find (e .top) (v .points) ≡ some (spot .track)) (l .is) (ap (λ (j : ℕ). find j (held (n .points))) (sym (top .1)) ∙ high .there))
 
     open-part : (rank : ℕ) × Open level (storeOf t) lo hi rank (entriesOf (m .entries)) (heldIn m) (λ j. cond (eqb j (e .top)) none (lookup (suc level) (storeOf t) j (part (e .block) (Child e) lo hi)))
     open-part =
-        let o = take-open level (storeOf t) (part (e .block) (Child e) lo hi) e refl full sound order (top .0) in
+        let o = take-open level (storeOf t) (part (e .block) (Child e) lo hi) e refl (legal-full lo hi legal) sound order (top .0) in
         let o₁ = subst⁻¹ (λ (v : Node). Open level (storeOf t) lo hi (o .0) (v .entries) (record { points = only (but (e .top)) (v .points); inserts = v .inserts; deletes = v .deletes }) (λ j. cond (eqb j (e .top)) none (lookup (suc level) (storeOf t) j (part (e .block) (Child e) lo hi)))) (l .is) (o .1) in
         let same : heldIn m ≡ record { points = only (but (e .top)) (held (n .points)); inserts = held (n .inserts); deletes = named (n .deletes) } =
         d .holds ∙ ap (λ (j : ℕ). record { points = only (but j) (held (n .points)); inserts = held (n .inserts); deletes = named (n .deletes) }) (top .1)
@@ -215,16 +217,16 @@ module _ {t : List ℕ} {level : ℕ} {e : Entry} {spot : Spot} {n m : NodeValue
 
   -- fill finds no block that breaks a rule
   pub fill-whole : {t′ s′ map′ : List ℕ} {r : Filled} → FillPost t t′ s′ map′ level m r → OnChild t level e (λ lo hi. r .broken ≡ false)
-  fill-whole p lo hi order full low sound = let o = open-part lo hi order full low sound in p .whole lo hi (o .0) _ full (edited-zero l d) (o .1)
+  fill-whole p lo hi order legal low sound = let o = open-part lo hi order legal low sound in p .whole lo hi (o .0) _ legal (edited-zero l d) (o .1)
 
   -- and what it fills to r over the table t′ is stored to t″
   module _ {s map t′ s′ map′ t″ s″ map″ : List ℕ} {e′ : Entry} {r : Filled} (u : Undoable t s map) (inside : e .block < blocksOf (length t))
       (ok : nodeOk level (Child e) (storeOf t (e .block)) ≡ true) (p : FillPost t t′ s′ map′ level m r) (done : r .ok ≡ true) (k : Kept t s map t′ s′ map′) (k′ : Kept t′ s′ map′ t″ s″ map″)
       (st : Stored t′ t″ (e .block) (r .node)) (made : EntryFor (e .block) (e .low) (r .node) e′) (longI : n .inserts .n ≤ length (held (n .inserts)))
       (longD : n .deletes .n ≤ length (named (n .deletes))) where
-    module _ (lo hi : ℕ) (order : lo ≤ hi) (full : hi ≤ allKeys) (low : e .low ≤ lo) (sound : Sound (suc level) (storeOf t) (part (e .block) (Child e) lo hi ∷ [])) where
+    module _ (lo hi : ℕ) (order : lo ≤ hi) (legal : Legal lo hi) (low : e .low ≤ lo) (sound : Sound (suc level) (storeOf t) (part (e .block) (Child e) lo hi ∷ [])) where
       filled : FilledBy (storeOf t) (storeOf t′) level m (r .node) lo hi (λ j. cond (eqb j (e .top)) none (lookup (suc level) (storeOf t) j (part (e .block) (Child e) lo hi)))
-      filled = let o = open-part lo hi order full low sound in p .done done lo hi (o .0) _ full (edited-zero l d) (o .1)
+      filled = let o = open-part lo hi order legal low sound in p .done done lo hi (o .0) _ legal (edited-zero l d) (o .1)
 
       -- the node that is stored
       is-node : nodeIn (blocksOf (length t)) (r .node) ≡ after (storeOf t (e .block)) (entriesOf (r .node .entries)) (heldIn (r .node))
@@ -237,7 +239,7 @@ module _ {t : List ℕ} {level : ℕ} {e : Entry} {spot : Spot} {n m : NodeValue
 
       changed : Changed (suc level) (Taken [] []) (storeOf t) (part (e .block) (Child e) lo hi ∷ []) (storeOf t″) (part (e .block) (Child e′) lo hi ∷ []) (λ j. cond (eqb j (e .top)) none (lookup (suc level) (storeOf t) j (part (e .block) (Child e) lo hi)))
       changed =
-          take-finish (m .inserts .n) (m .deletes .n) level (storeOf t) (storeOf t′) (storeOf t″) (part (e .block) (Child e) lo hi) e e′ refl (made .block) (made .low) low full sound
+          take-finish (m .inserts .n) (m .deletes .n) level (storeOf t) (storeOf t′) (storeOf t″) (part (e .block) (Child e) lo hi) e e′ refl (made .block) (made .low) low legal sound
           (subst (λ (v : Node). m .inserts .n ≤ length (v .inserts)) (l .is) (omega (arith, d .inserts, longI)))
           (subst (λ (v : Node). m .deletes .n ≤ length (v .deletes)) (l .is) (omega (arith, d .deletes, longD)))
           (subst (λ (v : Node). length (v .inserts) ≤ 64) (l .is) (let z = length-take (n .inserts .n) (n .inserts .spots) in omega (arith, l .storable .inserts)))
@@ -258,6 +260,6 @@ module _ {t : List ℕ} {level : ℕ} {e : Entry} {spot : Spot} {n m : NodeValue
           block = made .block;
           low = made .low;
           fits = λ q. made .fits (omega (arith, u .most));
-          done = λ q lo hi order full low sound. record { changed = changed lo hi order full low sound; key = top lo hi order full low sound .1; live = live lo hi order full low sound };
-          whole = λ lo hi order full low sound. refl;
+          done = λ q lo hi order legal low sound. record { changed = changed lo hi order legal low sound; key = top lo hi order legal low sound .1; live = live lo hi order legal low sound };
+          whole = λ lo hi order legal low sound. refl;
         }

@@ -135,7 +135,7 @@ round-lifted w h l g =
       count = ap (λ (es : Entries). es .n) (l .entries);
       sameLows = ap (λ (es : Entries). lows (entriesOf es)) (l .entries);
       goesOn = g;
-      whole = λ ni nd lo hi rank x es₀ f full z p. l .whole;
+      whole = λ ni nd lo hi rank x es₀ f legal z p. l .whole;
     }
 
 -- it was the last
@@ -150,7 +150,7 @@ round-ended {m = m} w h l g =
       count = ap (λ (es : Entries). es .n) (l .entries);
       sameLows = ap (λ (es : Entries). lows (entriesOf es)) (l .entries);
       goesOn = λ e. g;
-      whole = λ ni nd lo hi rank x es₀ f full z p. refl;
+      whole = λ ni nd lo hi rank x es₀ f legal z p. refl;
     }
 
 -- a child's top was taken
@@ -166,5 +166,5 @@ round-taken {n = n} {m = m} w h k a b l f p u g =
       count = ap (λ (es : Entries). es .n) (u .entries) ∙ p .count;
       sameLows = ap (λ (es : Entries). lows (entriesOf es)) (u .entries) ∙ replaced-lows a l p;
       goesOn = g;
-      whole = λ ni nd lo hi rank x es₀ f full z p. u .whole;
+      whole = λ ni nd lo hi rank x es₀ f legal z p. u .whole;
     }

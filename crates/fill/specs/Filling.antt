@@ -9,7 +9,7 @@ use mathlib.Core.Option.{Option, none, some}
 use lib.ListN.{length, take, drop}
 use lib.Dec.{eqb}
 use Rattle.octets.specs.Lists.{has, keep}
-use Rattle.spot.specs.Keys.{rankKey, allKeys}
+use Rattle.spot.specs.Keys.{rankKey}
 use Rattle.spot.specs.Spots.{keys, put}
 use Rattle.spot.specs.Sorted.{only, but, lower}
 use Rattle.spot.specs.declared.Spot.{Spot}
@@ -19,6 +19,7 @@ use Rattle.block.specs.Table.{blocksOf}
 use Rattle.block.specs.Node.{Store, storeOf}
 use Rattle.block.specs.NodeRules.{zeroFirst, lows}
 use Rattle.buffer.specs.Buffer.{held, named, Highest}
+use Rattle.tree.specs.Part.{Legal}
 use Rattle.tree.specs.Lookup.{lookup}
 use Rattle.update_theory.specs.Change.{part, Sound, Changed}
 use Rattle.update_theory.specs.Spare.{Taken}
@@ -55,10 +56,10 @@ pub record FilledBy (x y : Store) (level : ℕ) (n : NodeValue) (r : NodeValue) 
   pub loop : Loop (n .inserts .n) (n .deletes .n) level lo hi x (entriesOf (n .entries)) y rank (entriesOf (r .entries)) (heldIn r) f
   pub full : FilledUp (entriesOf (r .entries)) (heldIn r)
 
--- what holds where the node stands open over the table's store
+-- what holds where the node stands open over the table's store, in a legal range
 abbrev pub OnNode : List ℕ → ℕ → NodeValue → (ℕ → ℕ → (ℕ → Option ℕ) → Type 0) → Type 0
 OnNode t level n Then =
-    (lo hi rank : ℕ) (f : ℕ → Option ℕ) → hi ≤ allKeys → zeroFirst (lows (entriesOf (n .entries))) ≡ true
+    (lo hi rank : ℕ) (f : ℕ → Option ℕ) → Legal lo hi → zeroFirst (lows (entriesOf (n .entries))) ≡ true
     → Open level (storeOf t) lo hi rank (entriesOf (n .entries)) (heldIn n) f → Then lo hi f
 
 pub record FillPost (t t′ s′ map′ : List ℕ) (level : ℕ) (n : NodeValue) (r : Filled) : Type 0 where
@@ -77,9 +78,9 @@ pub record TookOut (x y : Store) (level : ℕ) (e : Entry) (lo hi : ℕ) (r : To
   pub key : r .spot .key ≡ e .top
   pub live : lookup (suc level) x (e .top) (part (e .block) (Child e) lo hi) ≡ some (r .spot .track)
 
--- what holds where the part that an entry leads to is sound
+-- what holds where the part that an entry leads to is sound and its range is legal
 abbrev pub OnChild : List ℕ → ℕ → Entry → (ℕ → ℕ → Type 0) → Type 0
-OnChild t level e Then = (lo hi : ℕ) → lo ≤ hi → hi ≤ allKeys → e .low ≤ lo → Sound (suc level) (storeOf t) (part (e .block) (Child e) lo hi ∷ []) → Then lo hi
+OnChild t level e Then = (lo hi : ℕ) → lo ≤ hi → Legal lo hi → e .low ≤ lo → Sound (suc level) (storeOf t) (part (e .block) (Child e) lo hi ∷ []) → Then lo hi
 
 pub record TakePost (t t′ s′ map′ : List ℕ) (level : ℕ) (e : Entry) (r : Took) : Type 0 where
   pub undoable : Undoable t′ s′ map′
@@ -90,10 +91,10 @@ pub record TakePost (t t′ s′ map′ : List ℕ) (level : ℕ) (e : Entry) (r
   pub done : r .ok ≡ true → OnChild t level e (λ lo hi. TookOut (storeOf t) (storeOf t′) level e lo hi r)
   pub whole : OnChild t level e (λ lo hi. r .broken ≡ false)
 
--- what holds where the loop of fill stands with n over the store y
+-- what holds where the loop of fill stands with n over the store y, in a legal range
 abbrev pub OnLoop : Store → ℕ → NodeValue → (ℕ → ℕ → ℕ → ℕ → Store → List Entry → (ℕ → Option ℕ) → Type 0) → Type 0
 OnLoop y level n Then =
-    (ni nd lo hi rank : ℕ) (x : Store) (es₀ : List Entry) (f : ℕ → Option ℕ) → hi ≤ allKeys → zeroFirst (lows es₀) ≡ true
+    (ni nd lo hi rank : ℕ) (x : Store) (es₀ : List Entry) (f : ℕ → Option ℕ) → Legal lo hi → zeroFirst (lows es₀) ≡ true
     → Loop ni nd level lo hi x es₀ y rank (entriesOf (n .entries)) (heldIn n) f → Then ni nd lo hi x es₀ f
 
 -- it goes on: with r over the store z, and at the end where `over`

@@ -360,22 +360,19 @@ module _ {t : List ℕ} {at i : ℕ} {q : Query} {most len : ℕ} {few : List (L
 pub apart-first : {t : List ℕ} {at n : ℕ} (m : ℕ) → m ≤ n → KeysApart t at n → KeysApart t at m
 apart-first m l h = record { differ = λ i j x y. h .differ i j x (omega arith) }
 
-pub one-first : {t : List ℕ} {at n k : ℕ} → k ≡ keyAt t at → OneOf t at n k
-one-first {t} {at} e = let f : at ≡ at + 12 * 0 = omega arith in record { index = 0; inside = λ y. y; is = e ∙ ap (keyAt t) f }
+pub one-first : {t : List ℕ} {at n k : ℕ} → 0 < n → k ≡ keyAt t at → OneOf t at n k
+one-first {t} {at} y e = let f : at ≡ at + 12 * 0 = omega arith in record { index = 0; inside = y; is = e ∙ ap (keyAt t) f }
 
 -- where all rows are taken by points of a rank above some point's, no insert can come in
-pub inserts-past : (t : List ℕ) (b : ℕ) (h : Front) → Sizes t b h → ValidBlock t b → (q : Query) (most : ℕ) {few : List (List ℕ)} {n k : ℕ} → 0 < length few → Few t (spotsAt t b) (h .p) q most few n
+pub inserts-past : (t : List ℕ) (b : ℕ) (h : Front) → Sizes t b h → ValidBlock t b → (q : Query) (most : ℕ) {few : List (List ℕ)} {n k : ℕ} → Few t (spotsAt t b) (h .p) q most few n
     → OneOf t (spotsAt t b) (h .p) k → rankOf k < fewFloor few n / word → Few t (spotsAt t b) (h .p + h .i) q most few n
-inserts-past t b h z v q most {few} {n} some best one up = few-past t at q most best (h .p + h .i) (omega arith) (λ j x y a. under j x y)
+inserts-past t b h z v q most {few} {n} best one up = few-past t at q most best (h .p + h .i) (omega arith) (λ j x y a. under j x y)
   where
     at : ℕ
     at = spotsAt t b
 
-    point : 0 < h .p
-    point = let f = floor-full few n 0 (best .room) (omega (arith, up)) in let i = best .index 0 (omega (arith, f .0, some)) in omega arith
-
     under : (j : ℕ) → h .p ≤ j → j < h .p + h .i → keyBy t at j < fewFloor few n
     under j x y =
-        let g = points-above t b h z v (one .index) (j - h .p) (one .inside point) (omega arith) in
+        let g = points-above t b h z v (one .index) (j - h .p) (one .inside) (omega arith) in
         let e : at + 12 * h .p + 12 * (j - h .p) ≡ at + 12 * j = omega arith in
         omega (arith, g, up, top-rank (keyAt t (at + 12 * j)), ap (λ (k : ℕ). rankKey (keyAt t k)) e, ap rankKey (one .is))

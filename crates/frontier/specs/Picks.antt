@@ -121,10 +121,10 @@ keyBy t at j = topKey (keyAt t (at + 12 * j))
 pub record KeysApart (t : List ℕ) (at n : ℕ) : Type 0 where
   pub differ : (i j : ℕ) → i < j → j < n → keyBy t at i ≡ keyBy t at j → ⊥
 
--- k is the key of one of the first n spots, where there are any
+-- k is the key of one of the first n spots
 pub record OneOf (t : List ℕ) (at n k : ℕ) : Type 0 where
   pub index : ℕ
-  pub inside : 0 < n → index < n
+  pub inside : index < n
   pub is : k ≡ keyAt t (at + 12 * index)
 
 -- spot j is wanted and not over the limit

@@ -6,6 +6,7 @@ ghost use Prim.Native.Nat.{_+_, _*_, _≤_, _<_};
 ghost use lib.ListN.{length};
 ghost use Rattle.octets.specs.Lists.{has};
 ghost use Rattle.spot.specs.Keys.{allKeys};
+ghost use Rattle.spot.specs.Spots.{limitedFrom};
 ghost use Rattle.block.specs.Header.{headOf};
 ghost use Rattle.block.specs.HeaderRules.{headerOk};
 ghost use Rattle.block.specs.Table.{tableSized};
@@ -251,7 +252,7 @@ fn run_few(
     few: &mut [[u64; 2]],
     m: usize,
 ) -> usize
-    requires { ⌜ (0 < length (now few)) × (from ≤ to) × (to ≤ 128) × (at + 12 * to ≤ length (now t)) × KeysApart (now t) at to × Few (now t) at from q most (now few) m ⌝ }
+    requires { ⌜ (0 < length (now few)) × (from ≤ to) × (to ≤ 128) × (at + 12 * to ≤ length (now t)) × (limitedFrom (now t) 12 to at ≡ true) × KeysApart (now t) at to × Few (now t) at from q most (now few) m ⌝ }
     ensures { λ r. ⌜ Few (now (t .entry)) at to q most (now (few .exit)) r ⌝ }
 {
     let mut n = m;
@@ -270,13 +271,10 @@ fn run_few(
 
 // The key of the first or the last of n spots from `at` on, of the two the lower in rank.
 fn low_end(t: &[u8], at: usize, n: usize) -> u64
-    requires { ⌜ (at + 8 ≤ length (now t)) × (at + 12 * n ≤ length (now t)) ⌝ }
+    requires { ⌜ (0 < n) × (at + 12 * n ≤ length (now t)) × (limitedFrom (now t) 12 n at ≡ true) ⌝ }
     ensures { λ k. ⌜ OneOf (now (t .entry)) at n k ⌝ }
 {
     let first = spot::read_key(t, at);
-    if n == 0 {
-        return first;
-    }
     let last = spot::read_key(t, at + 12 * (n - 1));
     if spot::top_key(last) < spot::top_key(first) {
         return last;
@@ -295,6 +293,10 @@ fn node_few(t: &[u8], b: usize, q: spot::Query, most: u64, few: &mut [[u64; 2]])
     let h = block::front_of(&t[from..to]);
     let at = from + block::points_from(h);
     let n = run_few(t, at, 0, h.p, q, most, few, 0);
+    // Where there is no point, there is no insert either.
+    if h.p == 0 {
+        return n;
+    }
     let low = low_end(t, at, h.p);
     if spot::top_key(low) / 4294967296 < floor_few(few, n) / 4294967296 {
         return n;

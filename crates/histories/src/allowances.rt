@@ -1,4 +1,8 @@
 // Top with an allowance of node blocks, compared with Top, with the list and with one block more.
+ghost use mathlib.Core.Path.{_≡_};
+ghost use mathlib.Core.Bool.{true};
+ghost use Rattle.spot.specs.Spots.{limitedFrom};
+ghost use Rattle.table.specs.Queries.{GivenInside};
 ghost use Prim.Native.Nat.{_≤_};
 use crate::Run;
 use crate::asks;
@@ -111,7 +115,9 @@ fn call(
     output: &mut [u8],
     room: usize,
     map: &mut [u8; 512],
-) -> within::Said {
+) -> within::Said
+    ensures { λ r. ⌜ GivenInside (r .answer) (now (output .exit)) ⌝ }
+{
     let mut ceiling = 165;
     let o = smaller(room, output.len());
     let answer = within::top_within(
@@ -188,12 +194,12 @@ fn above(list: &[u64; 9568], x1: i32, x2: i32, rank: i32) -> u64 {
 
 // Whether the last of n spots is not under a rank.
 fn reach(output: &[u8; 57408], n: usize, rank: i32) -> bool
-    requires { ⌜ n ≤ 4784 ⌝ }
+    requires { ⌜ (n ≤ 4784) × (limitedFrom (now output) 12 n 0 ≡ true) ⌝ }
 {
     if n == 0 {
         return true;
     }
-    rank <= list::rank_of(spot::read_key(output, 12 * n - 12))
+    rank <= spot::rank_in(spot::read_key(output, 12 * n - 12))
 }
 
 // Whether the list has no spot above the ceiling but among the n given, which are not under it. Where nothing may be read or given, it is the last rank.
@@ -204,7 +210,7 @@ fn ceiling_holds(
     output: &[u8; 57408],
     n: usize,
 ) -> bool
-    requires { ⌜ n ≤ 4784 ⌝ }
+    requires { ⌜ (n ≤ 4784) × (limitedFrom (now output) 12 n 0 ≡ true) ⌝ }
 {
     if (q.k == 0) | (q.allowance == 0) {
         return (ceiling == LAST) & (n == 0);
@@ -219,8 +225,13 @@ fn in_list(
     q: Question,
     said: within::Said,
     output: &[u8; 57408],
-) -> Run {
-    let n = smaller(said.answer.detail as usize, SLOTS);
+) -> Run
+    requires { ⌜ GivenInside (said .answer) (now output) ⌝ }
+{
+    let n = said.answer.detail as usize;
+    if (said.answer.number != 0) | (SLOTS < n) {
+        return run;
+    }
     let seen = top_in_list(output, n, list, run, q.x1, q.x2);
     let holds = ceiling_holds(list, q, said.ceiling, output, n);
     found(seen, spot::bias(said.ceiling), holds)

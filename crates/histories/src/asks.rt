@@ -1,5 +1,9 @@
 // What the calls that read say, compared with the list.
+ghost use mathlib.Core.Path.{_≡_};
+ghost use mathlib.Core.Bool.{true};
 ghost use Prim.Native.Nat.{_≤_, _<_};
+ghost use Rattle.spot.specs.Spots.{limitedFrom};
+ghost use Rattle.table.specs.Queries.{GivenInside};
 use crate::Run;
 use crate::compared;
 use crate::drawn;
@@ -16,8 +20,8 @@ pub const LAST: i32 = 2147483647;
 
 // Whether a comes before b in a Report that begins at place x1: what lies past the door comes last.
 fn report_before(x1: i32, a: u64, b: u64) -> bool {
-    let near = x1 <= list::place_of(a);
-    if near == (x1 <= list::place_of(b)) {
+    let near = x1 <= spot::place_of(a);
+    if near == (x1 <= spot::place_of(b)) {
         return a < b;
     }
     near
@@ -31,7 +35,7 @@ fn in_order(by_top: bool, x1: i32, a: u64, b: u64) -> bool {
 }
 
 fn wanted(id: u64, x1: i32, x2: i32, y: i32) -> bool {
-    list::lies(list::place_of(id), x1, x2) & (y <= list::rank_of(id))
+    list::lies(spot::place_of(id), x1, x2) & (y <= spot::rank_in(id))
 }
 
 fn listed(list: &[u64; 9568], id: u64, track: u64) -> bool {
@@ -59,7 +63,7 @@ pub fn spots_in_list(
     y: i32,
     by_top: bool,
 ) -> Run
-    requires { ⌜ n ≤ 4784 ⌝ }
+    requires { ⌜ (n ≤ 4784) × (limitedFrom (now output) 12 n 0 ≡ true) ⌝ }
 {
     let mut run = begun;
     let mut last = 0;
@@ -82,7 +86,9 @@ pub fn call_report(
     y: i32,
     output: &mut [u8; 57408],
     map: &mut [u8; 512],
-) -> block::Answer {
+) -> block::Answer
+    ensures { λ r. ⌜ GivenInside r (now (output .exit)) ⌝ }
+{
     table::report(table, x1, x2, y, output, map)
 }
 
@@ -93,7 +99,9 @@ pub fn call_top(
     k: u32,
     output: &mut [u8; 57408],
     map: &mut [u8; 512],
-) -> block::Answer {
+) -> block::Answer
+    ensures { λ r. ⌜ GivenInside r (now (output .exit)) ⌝ }
+{
     table::top(table, x1, x2, k, output, map)
 }
 
@@ -123,6 +131,18 @@ fn reads_stretches(table: &[u8], x1: i32, x2: i32, y: i32, marks: &[u8; 512]) ->
     within(marks, &up, &down) & within(&up, marks, marks) & within(&down, marks, marks)
 }
 
+// How far the last of n spots lies behind the first, in centimetres: 32 bits hold the difference of two places.
+fn stretch(output: &[u8; 57408], n: usize) -> i32
+    requires { ⌜ (n ≤ 4784) × (limitedFrom (now output) 12 n 0 ≡ true) ⌝ }
+{
+    if n == 0 {
+        return 0;
+    }
+    let first = spot::read_key(output, 0);
+    let last = spot::read_key(output, 12 * n - 12);
+    spot::gap(spot::place_of(last), spot::place_of(first))
+}
+
 fn report(table: &[u8], list: &[u64; 9568], run: Run, x1: i32, x2: i32, y: i32) -> Run {
     let mut output = [0u8; 57408];
     let mut map = [0u8; 512];
@@ -130,10 +150,12 @@ fn report(table: &[u8], list: &[u64; 9568], run: Run, x1: i32, x2: i32, y: i32) 
     let counted = told(run, a, 0, list::report_count(list, x1, x2, y));
     let marked = compared(counted, reads_stretches(table, x1, x2, y, &map));
     let n = a.detail as usize;
-    if SLOTS < n {
+    if (a.number != 0) | (SLOTS < n) {
         return marked;
     }
-    spots_in_list(&output, n, list, marked, x1, x2, y, false)
+    let far = stretch(&output, n);
+    let measured = found(marked, spot::bias(far), (0 <= far) | (x2 < x1));
+    spots_in_list(&output, n, list, measured, x1, x2, y, false)
 }
 
 // Whether Top's marks are among those of a Report over the same places from the rank of the last of the k spots, or the least where there are fewer; for k = 0 block 0
@@ -172,11 +194,10 @@ pub fn top_in_list(
     run: Run,
     x1: i32,
     x2: i32,
-) -> Run {
+) -> Run
+    requires { ⌜ (n ≤ 4784) × (limitedFrom (now output) 12 n 0 ≡ true) ⌝ }
+{
     if n == 0 {
-        return run;
-    }
-    if SLOTS < n {
         return run;
     }
     let seen = spots_in_list(output, n, list, run, x1, x2, FIRST, true);
@@ -191,7 +212,11 @@ fn top(table: &[u8], list: &[u64; 9568], run: Run, x1: i32, x2: i32, k: u32) -> 
     let all = list::report_count(list, x1, x2, FIRST);
     let counted = told(run, a, 0, least(all, k as u64));
     let marked = compared(counted, reads_little(table, list, x1, x2, k, &map));
-    top_in_list(&output, a.detail as usize, list, marked, x1, x2)
+    let n = a.detail as usize;
+    if (a.number != 0) | (SLOTS < n) {
+        return marked;
+    }
+    top_in_list(&output, n, list, marked, x1, x2)
 }
 
 // Report and Top over such places, the Report from a rank near 0 or at one of the ends.

@@ -1,4 +1,5 @@
 // Many ranges in one call, compared with the list and with single reports.
+ghost use Rattle.table.specs.Queries.{GivenInside};
 ghost use Prim.Native.Nat.{_≤_, _<_};
 ghost use lib.ListN.{length};
 use crate::Run;
@@ -311,6 +312,23 @@ fn join(map: &mut [u8; 513], own: &[u8; 512]) {
     }
 }
 
+// The spots of a single report, compared with the list.
+fn one_in_list(
+    list: &[u64; 9568],
+    run: Run,
+    r: ranges::Range,
+    a: block::Answer,
+    own: &[u8; 57408],
+) -> Run
+    requires { ⌜ GivenInside a (now own) ⌝ }
+{
+    let n = a.detail as usize;
+    if (a.number != 0) | (SLOTS < n) {
+        return run;
+    }
+    spots_in_list(own, n, list, run, r.x1, r.x2, r.y, false)
+}
+
 // The report of one range alone, compared with the list; its spots go behind those of the ranges before, its marks beside theirs.
 fn report_one(
     table: &[u8],
@@ -330,7 +348,7 @@ fn report_one(
     let end = lay(&own, 12 * n, output, at);
     join(map, &marks);
     Single {
-        run: spots_in_list(&own, n, list, counted, r.x1, r.x2, r.y, false),
+        run: one_in_list(list, counted, r, a, &own),
         count: a.detail,
         end,
     }

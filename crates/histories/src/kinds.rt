@@ -44,13 +44,42 @@ pub fn around(seed: u64, h: u64) -> i32
     spot::unbias(2147483648 + x - h)
 }
 
+// A place at the limits: the two ends, those just outside, and the ends of 32 bits.
+fn edge(x: u64) -> i32 {
+    if x == 0 {
+        return -1000000;
+    }
+    if x == 1 {
+        return 1000000;
+    }
+    if x == 2 {
+        return -1000001;
+    }
+    if x == 3 {
+        return 1000001;
+    }
+    if x == 4 {
+        return -2147483648;
+    }
+    2147483647
+}
+
+// A place from -3000 to 2999, and of 32 one at the limits: a third of these are inside.
+fn any_place(seed: u64) -> i32 {
+    let x = below(seed, 6192);
+    if x < 6000 {
+        return spot::unbias(2147480648 + x);
+    }
+    edge(x % 6)
+}
+
 // An add of a random identity, with a rank around 0, from -h to h - 1, or at one of the ends.
 fn add_any(seed: u64, h: u64) -> Change
     requires { ⌜ (0 < h) × (h ≤ 32768) ⌝ }
 {
     let s = next(seed);
     let t = next(s);
-    adding(t, spot::key_of(around(s, 3000), around(t, h)))
+    adding(t, spot::key_of(any_place(s), around(t, h)))
 }
 
 // A withdrawal of the spot in a slot; of any identity where there is none.
@@ -59,7 +88,7 @@ fn withdraw_slot(list: &[u64; 9568], seed: u64, slot: usize) -> Change {
         return withdrawing(seed, list[slot]);
     }
     let s = next(seed);
-    withdrawing(s, spot::key_of(around(s, 3000), 0))
+    withdrawing(s, spot::key_of(any_place(s), 0))
 }
 
 // A slot with a spot, from a random one on.

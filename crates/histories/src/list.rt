@@ -6,18 +6,15 @@ pub const SLOTS: usize = 4784;
 
 pub const NONE: u64 = 4294967296;
 
-pub fn place_of(id: u64) -> i32 {
-    spot::unbias(id / 4294967296)
-}
-
-pub fn rank_of(id: u64) -> i32 {
-    spot::unbias(id % 4294967296)
+// Whether the list takes no spot at this place.
+pub fn outside(place: i32) -> bool {
+    (place < -1000000) | (1000000 < place)
 }
 
 // Whether a comes before b in the order of Top's answers: the higher rank first, of equal ranks the lower place.
 pub fn top_before(a: u64, b: u64) -> bool {
-    let rank = rank_of(a);
-    let other = rank_of(b);
+    let rank = spot::rank_in(a);
+    let other = spot::rank_in(b);
     if rank == other {
         return a < b;
     }
@@ -78,7 +75,7 @@ pub fn lies(place: i32, x1: i32, x2: i32) -> bool {
 
 // Whether a slot has a spot with a place in range that does not come behind `last` in the order of Top's answers.
 fn counts(id: u64, track: u64, x1: i32, x2: i32, last: u64) -> bool {
-    (track != NONE) & lies(place_of(id), x1, x2) & !top_before(last, id)
+    (track != NONE) & lies(spot::place_of(id), x1, x2) & !top_before(last, id)
 }
 
 // The number of such spots.

@@ -111,8 +111,8 @@ fn change_table(
     id: u64,
     track: u32,
 ) -> block::Answer {
-    let place = list::place_of(id);
-    let rank = list::rank_of(id);
+    let place = spot::place_of(id);
+    let rank = spot::rank_in(id);
     if adds {
         return table::add(table, scratch, place, rank, track);
     }
@@ -121,6 +121,9 @@ fn change_table(
 
 // The number that the list asks for.
 fn change_list(list: &mut [u64; 9568], capacity: u64, adds: bool, id: u64, track: u64) -> u32 {
+    if list::outside(spot::place_of(id)) {
+        return 9;
+    }
     if adds {
         return list::add(list, capacity, id, track);
     }

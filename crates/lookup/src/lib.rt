@@ -1,15 +1,15 @@
 // The lookup of one key: down the one path whose ranges hold it, to the first node that names it.
 ghost use mathlib.Core.Path.{_≡_};
 ghost use mathlib.Core.Bool.{true};
-ghost use Prim.Native.Nat.{suc, _+_, _*_, _≤_};
+ghost use Prim.Native.Nat.{suc};
 ghost use lib.ListN.{length};
-ghost use Rattle.octets.specs.Lists.{records, rising};
+ghost use Rattle.octets.specs.Lists.{records};
 ghost use Rattle.spot.specs.Keys.{within};
 ghost use Rattle.spot.specs.Spots.{find, spotAt};
 ghost use Rattle.block.specs.Table.{tableSized};
 ghost use Rattle.block.specs.Node.{storeOf};
 ghost use Rattle.block.specs.NodeRules.{ValidBlock};
-ghost use Rattle.visit.specs.Visit.{endOf, partOf, keysFrom};
+ghost use Rattle.visit.specs.Visit.{Ready, endOf, partOf};
 ghost use Rattle.lookup.specs.Answers.{LookupPost};
 ghost use Rattle.lookup.specs.Words.{trackFound, Speaks, Lookable, lookedIn};
 
@@ -34,7 +34,7 @@ pub struct Word {
 
 // The spot of k among the n rising ones from at on.
 fn find_run(t: &[u8], at: usize, n: usize, k: u64) -> Found
-    requires { ⌜ (n ≤ 64) × (at + 12 * n ≤ length (now t)) × (rising (keysFrom (now t) 12 n at) ≡ true) ⌝ }
+    requires { ⌜ Ready (now t) at 12 n ⌝ }
     ensures { λ r. ⌜ trackFound r ≡ find k (records (spotAt (now (t .entry))) 12 n at) ⌝ }
 {
     let i = visit::below(t, at, spot::SPOT_BYTES, n, k);

@@ -115,7 +115,7 @@ module _ (b : Batch) (t counts out map : List ℕ) (r : Answer) where
       module _ (few : b .n ≤ 64) where
         fine : (rs : List Range) → b .n ≡ length rs → earlyNumber (withCounts t out map counts) (reportMany rs) ≡ 0
         fine rs k =
-            number-fine (withCounts t out map counts) (reportMany rs) e (lent-right (length rs) k) (le-leb (length rs) 64 (subst (λ (n : ℕ). n ≤ 64) k few))
+            number-fine (withCounts t out map counts) (reportMany rs) e (lent-right (length rs) k) (le-leb (length rs) 64 (subst (λ (n : ℕ). n ≤ 64) k few)) refl
 
         -- block 0 breaks a rule
         pub many-header : headerOk (length t) (headOf t) ≡ false → r ≡ answer 3 0 → ManyOf b t counts out map r counts out map

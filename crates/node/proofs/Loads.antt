@@ -8,20 +8,21 @@ use native.Mathlib.Omega.{arith}
 use lib.ListN.{length, take, drop, getD}
 use Rattle.octets.specs.Lists.{records, rising}
 use Rattle.octets.proofs.Bytes.{be-one}
-use Rattle.spot.specs.Spots.{keyAt, spotAt, keys}
+use Rattle.spot.specs.Spots.{keyAt, spotAt, keys, limitedFrom}
 use Rattle.spot.specs.declared.Spot.{Spot}
 use Rattle.block.specs.declared.Entry.{Entry}
 use Rattle.block.specs.declared.Front.{Front}
 use Rattle.block.specs.Table.{version1, blocksOf, block}
 use Rattle.block.specs.Node.{nodeOf, nodeFrom, storeOf, pointsFrom, insertsFrom, deletesFrom}
-use Rattle.block.specs.NodeRules.{ValidBlock, zeroFirst, lows}
+use Rattle.block.specs.NodeRules.{ValidBlock, ValidBytes, zeroFirst, lows}
 use Rattle.block.specs.Access.{frontOf, usedOf}
 use Rattle.block.proofs.Facts.{BlockFacts, block-facts}
-use Rattle.block.proofs.Frames.{block-length, part-is}
+use Rattle.block.proofs.Frames.{part-is}
+use Rattle.block.proofs.Limits.{valid-bytes, points-inside, inserts-inside, deletes-inside}
 use Rattle.buffer.specs.Buffer.{held, named}
 use Rattle.node.specs.declared.NodeValue.{NodeValue}
 use Rattle.node.specs.Memory.{Loaded}
-use Rattle.node.specs.Blocks.{ValidIn, EntriesLoaded, LoadedIn}
+use Rattle.node.specs.Blocks.{EntriesLoaded, LoadedIn}
 use Rattle.node.proofs.Whole.{same-node}
 
 -- the counts of such a block
@@ -32,12 +33,24 @@ pub record Counts (h : Front) : Type 0 where
   pub d : h .d ≤ 16
   pub used : usedOf h ≤ 1896
 
-module _ (s : List ℕ) (v : ValidIn s) (h : Front) (e : h ≡ frontOf s) where
+module _ (s : List ℕ) (v : ValidBytes s) (h : Front) (e : h ≡ frontOf s) where
   facts : BlockFacts (v .room) (v .level) (v .asked) s
   facts = block-facts (v .room) (v .level) (v .asked) s (v .ok)
 
   pub counts : Counts h
   counts = subst Counts (sym e) (record { c = facts .c-most; p = facts .p-most; i = facts .i-most; d = facts .d-most; used = facts .used-most })
+
+  -- the places of its lists' keys, where the lists stand
+  pub points-limited : (at : ℕ) → at ≡ pointsFrom version1 (h .c) → limitedFrom s 12 (h .p) at ≡ true
+  points-limited at q = ap (limitedFrom s 12 (h .p)) q ∙ ap (λ (x : Front). limitedFrom s 12 (x .p) (pointsFrom version1 (x .c))) e ∙ points-inside s v
+
+  pub inserts-limited : (at : ℕ) → at ≡ insertsFrom version1 (h .c) (h .p) → limitedFrom s 12 (h .i) at ≡ true
+  inserts-limited at q =
+      ap (limitedFrom s 12 (h .i)) q ∙ ap (λ (x : Front). limitedFrom s 12 (x .i) (insertsFrom version1 (x .c) (x .p))) e ∙ inserts-inside s v
+
+  pub deletes-limited : (at : ℕ) → at ≡ deletesFrom version1 (h .c) (h .p) (h .i) → limitedFrom s 8 (h .d) at ≡ true
+  deletes-limited at q =
+      ap (limitedFrom s 8 (h .d)) q ∙ ap (λ (x : Front). limitedFrom s 8 (x .d) (deletesFrom version1 (x .c) (x .p) (x .i))) e ∙ deletes-inside s v
 
   module _ (n : NodeValue) (level : n .level ≡ getD s 3 0) (small : n .level < 256) (entries : EntriesLoaded s (n .entries))
       (points : (n .points .n ≡ h .p) × (held (n .points) ≡ records (spotAt s) 12 (h .p) (pointsFrom version1 (h .c))))
@@ -88,11 +101,8 @@ module _ (s : List ℕ) (v : ValidIn s) (h : Front) (e : h ≡ frontOf s) where
 -- ---- a block of a table
 
 module _ (t : List ℕ) (b : ℕ) (v : ValidBlock t b) where
-  pub valid-part : ValidIn (take (b * 2048 + 2048 - b * 2048) (drop (b * 2048) t))
-  unfolding storeOf
-  valid-part =
-      subst ValidIn (sym (part-is t b))
-      (record { room = blocksOf (length t); level = v .level; asked = v .asked; ok = v .ok; sized = block-length t b (v .inside) })
+  pub valid-part : ValidBytes (take (b * 2048 + 2048 - b * 2048) (drop (b * 2048) t))
+  valid-part = subst ValidBytes (sym (part-is t b)) (valid-bytes t b v)
 
   pub loaded-part : (n : NodeValue) → LoadedIn (take (b * 2048 + 2048 - b * 2048) (drop (b * 2048) t)) n → Loaded t b n
   unfolding storeOf

@@ -5,14 +5,14 @@ ghost use mathlib.Core.List.{_∷_, _++_};
 ghost use Prim.Native.Nat.{suc, _+_, _-_, _*_, _≤_, _<_};
 ghost use lib.ListN.{length, take, drop, replicate};
 ghost use Rattle.octets.specs.Lists.{records};
-ghost use Rattle.spot.specs.Spots.{keyAt, spotAt};
+ghost use Rattle.spot.specs.Spots.{keyAt, spotAt, limitedFrom};
 ghost use Rattle.block.specs.Access.{frontOf};
-ghost use Rattle.block.specs.NodeRules.{ValidBlock};
+ghost use Rattle.block.specs.NodeRules.{ValidBlock, ValidBytes};
 ghost use Rattle.buffer.specs.Buffer.{held, named};
 ghost use Rattle.node.specs.Memory.{entriesOf, EntryAt, Storable, Stored, StoredIn, Loaded};
 ghost use Rattle.octets.specs.Bytes.{putBytes};
 ghost use Rattle.node.specs.Bytes.{frontBytes, bytesUnless, entryBytes, keyFits, keysFit, SpotsWritten, KeysWritten, EntriesWritten};
-ghost use Rattle.node.specs.Blocks.{ValidIn, EntriesLoaded, LoadedIn};
+ghost use Rattle.node.specs.Blocks.{EntriesLoaded, LoadedIn};
 
 // The child entries of a node, held together as one value; the first n are in use.
 pub struct Entries {
@@ -234,7 +234,7 @@ pub fn put_node(t: &mut [u8], b: usize, n: NodeValue)
 
 // The c entries of a node.
 fn load_entries(s: &[u8], c: usize) -> Entries
-    requires { ⌜ (c ≡ frontOf (now s) .c) × (c ≤ 8) × (8 + 28 * c ≤ length (now s)) ⌝ }
+    requires { ⌜ ValidBytes (now s) × (c ≡ frontOf (now s) .c) ⌝ }
     ensures { λ r. ⌜ EntriesLoaded (now (s .entry)) r ⌝ }
 {
     let none = block::Entry {
@@ -259,7 +259,7 @@ fn load_entries(s: &[u8], c: usize) -> Entries
 
 // The n spots, and the n keys, from a place on.
 fn load_spots(s: &[u8], at: usize, n: usize) -> buffer::SpotBuffer
-    requires { ⌜ (n ≤ 80) × (at + 12 * n ≤ length (now s)) ⌝ }
+    requires { ⌜ (n ≤ 80) × (at + 12 * n ≤ length (now s)) × (limitedFrom (now s) 12 n at ≡ true) ⌝ }
     ensures { λ r. ⌜ (r .n ≡ n) × (held r ≡ records (spotAt (now (s .entry))) 12 n at) ⌝ }
 {
     let mut out = buffer::empty();
@@ -274,7 +274,7 @@ fn load_spots(s: &[u8], at: usize, n: usize) -> buffer::SpotBuffer
 }
 
 fn load_keys(s: &[u8], at: usize, n: usize) -> buffer::KeyBuffer
-    requires { ⌜ (n ≤ 32) × (at + 8 * n ≤ length (now s)) ⌝ }
+    requires { ⌜ (n ≤ 32) × (at + 8 * n ≤ length (now s)) × (limitedFrom (now s) 8 n at ≡ true) ⌝ }
     ensures { λ r. ⌜ (r .n ≡ n) × (named r ≡ records (keyAt (now (s .entry))) 8 n at) ⌝ }
 {
     let mut out = buffer::empty_keys();
@@ -290,7 +290,7 @@ fn load_keys(s: &[u8], at: usize, n: usize) -> buffer::KeyBuffer
 
 // The node in the bytes of a block that keeps the rules.
 fn load_block(s: &[u8]) -> NodeValue
-    requires { ⌜ ValidIn (now s) ⌝ }
+    requires { ⌜ ValidBytes (now s) ⌝ }
     ensures { λ r. ⌜ LoadedIn (now (s .entry)) r ⌝ }
 {
     let h = block::front_of(s);

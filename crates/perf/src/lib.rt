@@ -1,11 +1,15 @@
 // The leaves and the validation of a block, exported for the benchmarks under measure/.
 ghost use mathlib.Core.Path.{_≡_};
-ghost use Prim.Native.Nat.{_*_};
+ghost use mathlib.Core.Bool.{true};
+ghost use Prim.Native.Nat.{_*_, _/_};
 ghost use lib.ListN.{length};
+ghost use Rattle.spot.specs.Spots.{limitedFrom};
 
 // The sum, modulo 2^64, of the keys that stand 8 bytes apart in s.
 #[no_mangle]
-pub extern "C" fn perf_sum_keys(s: &[u8]) -> u64 {
+pub extern "C" fn perf_sum_keys(s: &[u8]) -> u64
+    requires { ⌜ limitedFrom (now s) 8 (length (now s) / 8) 0 ≡ true ⌝ }
+{
     let n = s.len() / 8;
     let mut sum: u64 = 0;
     let mut i = 0;

@@ -85,7 +85,7 @@ module _ (t : List ℕ) (q : Query) (h : isBroken (walkTable t q) ≡ false) whe
           blocks = header-few t whole-header;
           deep = omega (arith, levels-few t whole-header p l);
           ancestors = above-root t path _ n;
-          order = refl;
+          order = record { rise = refl; limits = refl };
           room = omega (arith, tally-is);
         }
 

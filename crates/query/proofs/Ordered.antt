@@ -1,4 +1,4 @@
--- A walk finds its spots in place order, on every table, sound or not: each is put where it belongs.
+-- A walk finds its spots in place order, on every table, sound or not: each is put where it belongs. Their places are inside the limits.
 -- Assumes nothing.
 use mathlib.Core.Path.{_≡_, refl, ap, _∙_}
 use mathlib.Core.Bool.{Bool, true, false, cond, _&&_}
@@ -18,6 +18,8 @@ use Rattle.tree.specs.Walk.{Walk, broken, walked, finds, spots, walkTable}
 use Rattle.tree.specs.Trace.{admitted, obeys, visits, pour, gains}
 use Rattle.tree.proofs.Onto.{onto}
 use Rattle.tree.proofs.Traces.{table-trace}
+use Rattle.tree.proofs.Limited.{walk-limited}
+use Rattle.query.specs.Merging.{Orderly}
 use Rattle.query.proofs.Puts.{putAll-ascends}
 
 abbrev Ordered : List Spot → Type 0
@@ -41,7 +43,7 @@ if-ordered : (ok : Bool) (found : List Spot) (blocks : List ℕ) → Ordered fou
 if-ordered true found blocks o = o
 if-ordered false found blocks o = refl
 
-pub walk-ascends : (t : List ℕ) (q : Query) → ascends 0 (keys (spots (walkTable t q))) ≡ true
+walk-ascends : (t : List ℕ) (q : Query) → ascends 0 (keys (spots (walkTable t q))) ≡ true
 walk-ascends t q =
     let m = storeOf t in
     let L = headOf t .levels in
@@ -49,3 +51,6 @@ walk-ascends t q =
     ap (λ (w : Walk). ascends 0 (keys (spots w))) (table-trace t q)
     ∙ if-ordered (headerOk (length t) (headOf t) && (obeys L m q W && distinct (visits L m q W))) (gains L m q [] W []) (onto (visits L m q W) [])
     (gains-ordered L m q [] W [] refl)
+
+pub walk-order : (t : List ℕ) (q : Query) → Orderly (spots (walkTable t q))
+walk-order t q = record { rise = walk-ascends t q; limits = walk-limited t q }

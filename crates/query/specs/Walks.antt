@@ -5,9 +5,8 @@ use Prim.Native.Nat.{ℕ, suc, _+_, _*_, _^_, _≤_, _<_}
 use mathlib.Core.Bool.{true, not, _&&_}
 use mathlib.Core.List.{List, _++_}
 use lib.ListN.{length, drop}
-use Rattle.octets.specs.Lists.{rising, ascends}
 use Rattle.octets.specs.Bitmap.{bit, setBit, onesBelow}
-use Rattle.spot.specs.Spots.{keys, putAll, spotsBytes, spotsIn}
+use Rattle.spot.specs.Spots.{putAll, spotsBytes, spotsIn}
 use Rattle.spot.specs.declared.Spot.{Spot}
 use Rattle.spot.specs.declared.Query.{Query}
 use Rattle.block.specs.declared.Asked.{Asked}
@@ -18,11 +17,12 @@ use Rattle.tree.specs.Part.{Part}
 use Rattle.tree.specs.Walk.{finds, walkTable, isBroken, spots, blocksRead}
 use Rattle.tree.specs.Trace.{obeys, visits, tally, unseen, marked}
 use Rattle.tree.specs.ReadMap.{readMap, ones}
-use Rattle.visit.specs.Visit.{partOf, namedAbove, keysFrom, ceiling, ValidPath, Ancestors}
+use Rattle.visit.specs.Visit.{partOf, namedAbove, ceiling, Ready, ValidPath, Ancestors}
 use Rattle.visit.specs.declared.Span.{Span}
 use Rattle.visit.specs.declared.Path.{Path}
 use Rattle.tally.specs.declared.Tally.{Tally}
 use Rattle.query.specs.declared.Sum.{Sum}
+use Rattle.query.specs.Merging.{Orderly}
 
 -- the blocks so far are the ones of the map, with at most 128 spots each
 pub record Tallied (map : List ℕ) (y : Tally) : Type 0 where
@@ -51,11 +51,11 @@ pub record Collected (out out′ : List ℕ) (n : ℕ) (after : List Spot) (r : 
   pub count : r ≡ length after
   pub rest : drop (12 * r) out′ ≡ drop (12 * r) out
   pub sized : length out′ ≡ length out
-  pub order : ascends 0 (keys after) ≡ true
+  pub order : Orderly after
 
 -- the first n spots of a buffer are in place order, if so many fit
 abbrev pub OrderedFront : List ℕ → ℕ → Type 0
-OrderedFront out n = 12 * n ≤ length out → ascends 0 (keys (spotsIn out n)) ≡ true
+OrderedFront out n = 12 * n ≤ length out → Orderly (spotsIn out n)
 
 -- r spots are found; if they fit, they are put among the first m of the output
 pub record GatheredFront (out out′ : List ℕ) (m : ℕ) (found : List Spot) (r : ℕ) : Type 0 where
@@ -79,10 +79,8 @@ pub record Walkable (t map : List ℕ) (b level : ℕ) (asked : Asked) (path : P
 
 -- a run of spots that rise may be merged into the first m spots of the output, if it fits
 pub record Mergeable (t out : List ℕ) (at n : ℕ) (q : Query) (p : Path) (m : ℕ) : Type 0 where
-  pub few : n ≤ 64
-  pub inside : at + 12 * n ≤ length t
+  pub run : Ready t at 12 n
   pub path : ValidPath t p
-  pub rises : rising (keysFrom t 12 n at) ≡ true
   pub order : OrderedFront out m
   pub small : m + n < 2 ^ 64
 
@@ -94,7 +92,7 @@ pub record Collectable (t out : List ℕ) (b level : ℕ) (span : Span) (q : Que
   pub blocks : blocksOf (length t) ≤ 4096
   pub deep : path .n + level ≤ 6
   pub ancestors : Ancestors t path (ceiling asked)
-  pub order : ascends 0 (keys (spotsIn out m)) ≡ true
+  pub order : Orderly (spotsIn out m)
   pub room : 12 * (m + tally (suc level) (storeOf t) q (namedAbove t path) (partOf b asked span)) ≤ length out
 
 -- a whole table is walked: r says whether the walk is whole, its tally how many blocks it reads and spots it finds, and the map marks what it reads.

@@ -18,7 +18,7 @@ use Rattle.octets.proofs.Sets.{distinct-cons}
 use Rattle.octets.proofs.UpTo.{upTo-from, upTo-distinct}
 use Rattle.spot.specs.declared.Spot.{Spot}
 use Rattle.spot.specs.Spots.{keys, find}
-use Rattle.spot.specs.Keys.{rankKey, allKeys, within}
+use Rattle.spot.specs.Keys.{rankKey, allKeys, within, limited}
 use Rattle.spot.proofs.Places.{within-yes, within-low, within-high, within-from, within-to}
 use Rattle.spot.proofs.Buffers.{keep-every, keep-pass}
 use Rattle.spot.proofs.Canon.{find-only, keep-rises}
@@ -27,12 +27,13 @@ use Rattle.block.specs.Node.{Node, Store}
 use Rattle.block.specs.Table.{blockOk}
 use Rattle.block.specs.declared.Asked.{Asked}
 use Rattle.block.specs.declared.Asked.the-variants.{Child}
-use Rattle.block.specs.NodeRules.{names, lows, zeroFirst, tops, nodeOk, childCountOk, childBlocksOk, buffersRise, namedOnce, lowsRise, pointsAbove, filled, lowest, leafBuffersEmpty, agrees, standsIn, childrenApart, entriesCredible}
+use Rattle.block.specs.NodeRules.{names, lows, zeroFirst, tops, extremes, nodeOk, childCountOk, childBlocksOk, buffersRise, namedOnce, lowsRise, pointsAbove, filled, lowest, leafBuffersEmpty, agrees, standsIn, childrenApart, entriesCredible, insideLimits}
+use Rattle.block.proofs.Extremes.{Shows, inside-limits}
 use Rattle.tree.specs.Part.{Part, parts, children, lowOf}
 use Rattle.tree.specs.Lookup.{orElse, down, lookup}
 use Rattle.tree.specs.Reach.{gather, reach, settled}
 use Rattle.tree.specs.Sound.{soundAt, inRange}
-use Rattle.tree.proofs.Entries.{not-below, agree-held, agree-top}
+use Rattle.tree.proofs.Entries.{not-below, agree-held, agree-top, agree-bottom}
 use Rattle.tree.proofs.Below.{sizes-filled, sizes-lowest}
 use Rattle.tree.proofs.Ranges.{steps-make}
 use Rattle.tree.proofs.Credible.{lows-not-below, entries-credible, children-apart}
@@ -66,6 +67,16 @@ entry-low c t ys e n is h =
     let i = agree-top e n h (agree-held e n h z) .0 in
     inr (within-to c t (rankKey (e .top)) (every-mem (λ k. within c t (rankKey k)) (keys (band c t ys)) (band-ranks c t ys) (subst (λ (ps : List Spot). List·Memᴰ (e .top) (keys ps)) is i))))
     (same-or-not (e .size) 0)
+
+-- what it shows of them has its place inside the limits, where all spots have
+pub entry-shows : (c t : ℕ) (ys : List Spot) (e : Entry) (n : Node) → n .points ≡ band c t ys → agrees (Child e) n ≡ true → every limited (keys ys) ≡ true
+    → (e .size ≡ 0 → ⊥)
+    → Shows e
+entry-shows c t ys e n is h lim z =
+    let held = agree-held e n h z in
+    let ks = keys (n .points) in
+    let inside : every limited ks ≡ true = ap (λ (ps : List Spot). every limited (keys ps)) is ∙ band-every c t limited ys lim in
+    record { top = every-mem limited ks inside (agree-top e n h held .0); bottom = every-mem limited ks inside (agree-bottom e n h held .0) }
 
 -- the uppermost node of what is built
 pub record Topmost (room : ℕ) (m : Store) (b : ℕ) (ys : List Spot) (t : ℕ) : Type 0 where
@@ -108,11 +119,13 @@ pub record Entries (room : ℕ) (p : Part) (c : ℕ) (es : List Entry) : Type 0 
   pub zero-first : zeroFirst (lows es) ≡ true
   pub up : rising (rest (lows es)) ≡ true
   pub inside : every (within (p .lo) (p .hi)) (rest (lows es)) ≡ true
+  pub limits : every limited (rest (lows es)) ≡ true
+  pub shown : every limited (extremes es) ≡ true
   pub lower : every (λ k. ltb (rankKey k) c) (tops es) ≡ true
   pub last : c ≡ 0 → every (λ e. eqb (e .size) 0) es ≡ true
   pub blocks : every (λ e. blockOk room (e .block)) es ≡ true
 
-module _ (room level : ℕ) (p : Part) (ys : List Spot) (t c : ℕ) (es : List Entry) (up : rising (keys ys) ≡ true) (inside : every (within (p .lo) (p .hi)) (keys ys) ≡ true) (most : length (band c t ys) ≤ 64) (least : (32 ≤ length (band c t ys)) ⊎ (c ≡ 0)) (entries : Entries room p c es) where
+module _ (room level : ℕ) (p : Part) (ys : List Spot) (t c : ℕ) (es : List Entry) (up : rising (keys ys) ≡ true) (inside : every (within (p .lo) (p .hi)) (keys ys) ≡ true) (limits : every limited (keys ys) ≡ true) (most : length (band c t ys) ≤ 64) (least : (32 ≤ length (band c t ys)) ⊎ (c ≡ 0)) (entries : Entries room p c es) where
   unfoldable ps : List Spot
   ps = band c t ys
 
@@ -178,12 +191,17 @@ module _ (room level : ℕ) (p : Part) (ys : List Spot) (t c : ℕ) (es : List E
   unfolding n builtNode
   lows-in = entries .inside
 
+  limits-kept : insideLimits n ≡ true
+  unfolding n ps builtNode
+  limits-kept =
+      inside-limits (builtNode room level es (band c t ys)) (rw (names-built room level es (band c t ys)) (band-every c t limited ys limits)) (entries .limits) (entries .shown)
+
   node-ok : (a : Asked) → childCountOk a n ≡ true → agrees a n ≡ true → lowOf a ≤ p .lo → childrenApart a n ≡ true → entriesCredible a n ≡ true → nodeOk level a n ≡ true
   unfolding nodeOk
   node-ok a cc ag lo off fine =
       all-cons _ _ node-laid (all-cons _ _ node-level (all-cons _ _ cc (all-cons _ _ rises (all-cons _ _ once (all-cons _ _ entries-up
       (all-cons _ _ above (all-cons _ _ sizes (all-cons _ _ leaf-empty (all-cons _ _ ag (all-cons _ _ (not-below a (p .lo) (p .hi) n lo (λ k i. every-mem _ _ named-in i)) (all-cons _ _ blocks-ok
-      (all-cons _ _ (lows-not-below a (p .lo) (p .hi) n lo lows-in) (all-cons _ _ off (all-cons _ _ fine all-nil))))))))))))))
+      (all-cons _ _ (lows-not-below a (p .lo) (p .hi) n lo lows-in) (all-cons _ _ off (all-cons _ _ fine (all-cons _ _ limits-kept all-nil)))))))))))))))
 
   in-range : inRange p n ≡ true
   unfolding inRange n ps builtNode
@@ -244,7 +262,7 @@ module _ (room l : ℕ) (m : Store) (p : Part) (ys : List Spot) (t c w : ℕ) (e
       (steps-make es (p .lo) (p .hi) order (entries .up) (λ k i. every-mem _ _ (entries .inside) i)) (below .sounds)
 
   -- the node is as built
-  pub node-good : rising (keys ys) ≡ true → every (within (p .lo) (p .hi)) (keys ys) ≡ true → Entries room p c es
+  pub node-good : rising (keys ys) ≡ true → every (within (p .lo) (p .hi)) (keys ys) ≡ true → every limited (keys ys) ≡ true → Entries room p c es
       → childCountOk (p .asked) (builtNode room l es (band c t ys)) ≡ true
       → agrees (p .asked) (m (p .block)) ≡ true
       → lowOf (p .asked) ≤ p .lo
@@ -253,11 +271,11 @@ module _ (room l : ℕ) (m : Store) (p : Part) (ys : List Spot) (t c w : ℕ) (e
       → p .hi ≤ allKeys
       → Good (suc l) m p ys t (suc w)
   unfolding n ps
-  node-good up inside entries cc ag lo at order full =
+  node-good up inside limits entries cc ag lo at order full =
       record {
         sound =
-            sound-here (node-ok room l p ys t c es up inside (own .most) (own .least) entries (p .asked) cc (rw (own .is) at ag) lo (kids-apart at) (kids-credible lo order full entries))
-            (in-range room l p ys t c es up inside (own .most) (own .least) entries);
+            sound-here (node-ok room l p ys t c es up inside limits (own .most) (own .least) entries (p .asked) cc (rw (own .is) at ag) lo (kids-apart at) (kids-credible lo order full entries))
+            (in-range room l p ys t c es up inside limits (own .most) (own .least) entries);
         look = look-here;
         reached = reached-here;
         quiet = quiet-here;

@@ -3,7 +3,7 @@
 use mathlib.Core.Path.{_≡_, refl, ap, sym, subst, _∙_}
 use mathlib.Core.Logic.{_⊎_, inl, inr, ⊎-elim}
 use mathlib.Core.Bool.{Bool, true, false, cond, _&&_, true≢false}
-use mathlib.Core.List.{List, [], _∷_, _++_}
+use mathlib.Core.List.{List, [], _∷_, _++_, List·Memᴰ, List·Memᴰ·cases-cons, List·Memᴰ·not-nil}
 use mathlib.Core.Option.{none, some}
 use Prim.Native.Nat.{ℕ, suc, _+_, _*_, _≤_, _<_}
 use native.Mathlib.Omega.{arith}
@@ -16,7 +16,7 @@ use Rattle.octets.proofs.Rising.{rising-rest, rising-make, rising-lower, rising
 use Rattle.octets.proofs.UpTo.{upTo-more}
 use Rattle.spot.specs.declared.Spot.{Spot}
 use Rattle.spot.specs.Spots.{keys, find}
-use Rattle.spot.specs.Keys.{rankKey, allKeys, within}
+use Rattle.spot.specs.Keys.{rankKey, allKeys, within, limited}
 use Rattle.spot.proofs.Places.{within-yes, within-low, within-from, within-to}
 use Rattle.spot.proofs.Buffers.{keys-append, find-fails}
 use Rattle.spot.proofs.Canon.{cond-none}
@@ -26,6 +26,7 @@ use Rattle.block.specs.Table.{blockOk}
 use Rattle.block.specs.declared.Asked.{Asked}
 use Rattle.block.specs.declared.Asked.the-variants.{Child}
 use Rattle.block.specs.NodeRules.{lows, tops, childCountOk, fewest, agrees, standsIn}
+use Rattle.block.proofs.Extremes.{Shows, extremes-inside}
 use Rattle.tree.specs.Part.{Part, nextLow, parts, lowOf}
 use Rattle.tree.specs.Lookup.{down, lookup}
 use Rattle.tree.specs.Reach.{gather, reach, settled}
@@ -33,7 +34,7 @@ use Rattle.tree.specs.Sound.{soundAt}
 use Rattle.tree.proofs.Says.{find-append}
 use Rattle.tree.proofs.Credible.{next-low}
 use Rattle.rebuild_theory.specs.Build.{nodes, fansOk, band, builtNode, Starts, Shares, Built}
-use Rattle.rebuild_theory.proofs.Bands.{topmost, points-band, entry-low, Good, AllGood, Entries, or-none, node-good}
+use Rattle.rebuild_theory.proofs.Bands.{topmost, points-band, entry-low, entry-shows, Good, AllGood, Entries, or-none, node-good}
 
 -- spots cut in two where the next entry's range begins
 record Cut (lo mid hi : ℕ) (own others : List Spot) : Type 0 where
@@ -41,6 +42,13 @@ record Cut (lo mid hi : ℕ) (own others : List Spot) : Type 0 where
   others-in : every (within mid hi) (keys others) ≡ true
   own-up : rising (keys own) ≡ true
   others-up : rising (keys others) ≡ true
+
+-- a part of the spots has what all have
+own-limited : (own others ys : List Spot) → ys ≡ own ++ others → every limited (keys ys) ≡ true → every limited (keys own) ≡ true
+own-limited own others ys e h = every-left limited (keys own) (keys others) (rw (ap keys e ∙ keys-append own others) at h)
+
+others-limited : (own others ys : List Spot) → ys ≡ own ++ others → every limited (keys ys) ≡ true → every limited (keys others) ≡ true
+others-limited own others ys e h = every-right limited (keys own) (keys others) (rw (ap keys e ∙ keys-append own others) at h)
 
 cut : (es : List Entry) (lo hi : ℕ) (own others : List Spot) → Starts es others → rising (keys own ++ keys others) ≡ true → every (within lo hi) (keys own ++ keys others) ≡ true
     → Cut lo (nextLow es hi) hi own others
@@ -74,6 +82,11 @@ cut (e ∷ es) lo hi own (s ∷ ss) st up inside =
 pub starts-some : (e : Entry) (es : List Entry) (ss : List Spot) → Starts (e ∷ es) ss → isEmpty ss ≡ false
 starts-some e es [] h = absurd h
 starts-some e es (s ∷ ss) h = refl
+
+-- it begins at one of them
+starts-limited : (e : Entry) (es : List Entry) (ss : List Spot) → Starts (e ∷ es) ss → every limited (keys ss) ≡ true → limited (e .low) ≡ true
+starts-limited e es [] st h = absurd st
+starts-limited e es (s ∷ ss) st h = ap limited st ∙ and-left (limited (s .key)) (every limited (keys ss)) h
 
 -- spots in a range leave it no room to be empty
 some-within : (lo hi : ℕ) (ss : List Spot) → isEmpty ss ≡ false → every (within lo hi) (keys ss) ≡ true → lo < hi
@@ -119,6 +132,30 @@ module _ (fs : List ℕ) (room : ℕ) (m : Store) (c : ℕ) where
             (every-imp (within (e′ .low) hi) (within lo hi) (lows es) (λ j w. within-yes lo hi j (omega (arith, within-from (e′ .low) hi j w)) (within-to (e′ .low) hi j w)) (r .inside));
       }
 
+  -- lows are keys of spots
+  lows-limited : (e : Entry) (es : List Entry) (b : ℕ) (ys : List Spot) → Shares (λ b′ zs. Built fs room m b′ zs c) m (nodes fs) b (e ∷ es) ys → every limited (keys ys) ≡ true
+      → every limited (lows es) ≡ true
+  lows-limited e [] b ys sh lim = refl
+  lows-limited e (e′ ∷ es) b ys sh lim =
+      let later = others-limited (sh .own) (sh .others) ys (sh .split) lim in
+      and-both (limited (e′ .low)) (every limited (lows es)) (starts-limited e′ es (sh .others) (sh .next) later)
+      (lows-limited e′ es (b + nodes fs) (sh .others) (sh .rest) later)
+
+  -- and so is what entries show
+  shown-limited : (es : List Entry) (b : ℕ) (ys : List Spot) → Shares (λ b′ zs. Built fs room m b′ zs c) m (nodes fs) b es ys → every limited (keys ys) ≡ true
+      → (e : Entry) → List·Memᴰ e es → (e .size ≡ 0 → ⊥) → Shows e
+  shown-limited [] b ys sh lim e i z = absurd (List·Memᴰ·not-nil i)
+  shown-limited (x ∷ es) b ys sh lim e i z =
+      ⊎-elim (λ (q : e ≡ x). subst Shows (sym q) (first (λ o. z (ap (λ (y : Entry). y .size) q ∙ o))))
+      (λ j. shown-limited es (b + nodes fs) (sh .others) (sh .rest) (others-limited (sh .own) (sh .others) ys (sh .split) lim) e j z)
+      (List·Memᴰ·cases-cons i)
+    where
+      first : (x .size ≡ 0 → ⊥) → Shows x
+      first n =
+          let t = topmost fs room m (x .block) (sh .own) c (sh .built) in
+          entry-shows (t .c) c (sh .own) x (m (x .block)) (points-band room (t .level) m (x .block) (sh .own) c (t .c) (t .es) (t .node)) (sh .agree)
+          (own-limited (sh .own) (sh .others) ys (sh .split) lim) n
+
   -- an entry's top is below c; where c is 0, there is none
   entry-under : (e : Entry) (zs : List Spot) → Built fs room m (e .block) zs c → agrees (Child e) (m (e .block)) ≡ true → (e .size ≡ 0) ⊎ (rankKey (e .top) < c)
   entry-under e zs h ag =
@@ -156,6 +193,7 @@ module _ (fs : List ℕ) (room : ℕ) (m : Store) (c : ℕ) where
 pub record Placed (fs : List ℕ) (room : ℕ) (m : Store) (p : Part) (ys : List Spot) : Type 0 where
   pub up : rising (keys ys) ≡ true
   pub inside : every (within (p .lo) (p .hi)) (keys ys) ≡ true
+  pub limits : every limited (keys ys) ≡ true
   pub agree : agrees (p .asked) (m (p .block)) ≡ true
   pub low : lowOf (p .asked) ≤ p .lo
   pub own : standsIn (p .asked) ≡ p .block
@@ -168,15 +206,16 @@ pub record Placed (fs : List ℕ) (room : ℕ) (m : Store) (p : Part) (ys : List
 module _ (fs : List ℕ) (room : ℕ) (m : Store) (c : ℕ) (fans : fansOk 4 fs ≡ true) (deeper : (p : Part) (ys : List Spot) → Built fs room m (p .block) ys c → Placed fs room m p ys → Good (suc (length fs)) m p ys c (nodes fs)) where
   parts-good : (es : List Entry) (lo hi b : ℕ) (ys : List Spot) → Shares (λ b′ zs. Built fs room m b′ zs c) m (nodes fs) b es ys → nextLow es lo ≤ lo → hi ≤ allKeys → rising (keys ys) ≡ true
       → every (within lo hi) (keys ys) ≡ true
+      → every limited (keys ys) ≡ true
       → 1 ≤ b
       → b + length es * nodes fs ≤ room
       → AllGood (suc (length fs)) m (parts lo hi es) ys c b (length es * nodes fs)
   unfolding fewest standsIn
-  parts-good [] lo hi b ys sh fl full up inside one fit =
+  parts-good [] lo hi b ys sh fl full up inside lim one fit =
       let z : 0 * nodes fs ≡ 0 = omega arith in
       record { sounds = refl; looks = λ k. rw sh (sym (cond-none (ltb (rankKey k) c))); reacheds = rw z; quiets = refl }
-  parts-good (e ∷ es) lo hi b ys sh fl full up inside one fit =
-      join (parts-good es (nextLow es hi) hi (b + nodes fs) (sh .others) (sh .rest) (next-low es hi) full (x .others-up) (x .others-in) (omega arith) (omega (arith, d, fit)))
+  parts-good (e ∷ es) lo hi b ys sh fl full up inside lim one fit =
+      join (parts-good es (nextLow es hi) hi (b + nodes fs) (sh .others) (sh .rest) (next-low es hi) full (x .others-up) (x .others-in) (others-limited (sh .own) (sh .others) ys (sh .split) lim) (omega arith) (omega (arith, d, fit)))
     where
       l : ℕ
       l = suc (length fs)
@@ -202,7 +241,7 @@ module _ (fs : List ℕ) (room : ℕ) (m : Store) (c : ℕ) (fans : fansOk 4 fs 
           let some = some-within lo mid (sh .own) (sh .some) (x .own-in) in
           let end = starts-before es hi (sh .others) (sh .next) (x .others-in) in
           deeper q (sh .own) (sh .built)
-          (record { up = x .own-up; inside = x .own-in; agree = sh .agree; low = fl; own = refl; order = omega arith; full = omega arith; fans = fans; first = omega arith; last = omega (arith, d, fit, at) })
+          (record { up = x .own-up; inside = x .own-in; limits = own-limited (sh .own) (sh .others) ys (sh .split) lim; agree = sh .agree; low = fl; own = refl; order = omega arith; full = omega arith; fans = fans; first = omega arith; last = omega (arith, d, fit, at) })
 
       Later : Type 0
       Later = AllGood (suc (length fs)) m (parts mid hi es) (sh .others) c (b + nodes fs) (length es * nodes fs)
@@ -242,7 +281,8 @@ built-good [] room m t p ys h pl =
     (record { sounds = refl; looks = λ k. rw (le-ltb (rankKey k) 0 (omega arith)); reacheds = refl; quiets = refl })
     (pl .up)
     (pl .inside)
-    (record { zero-first = refl; up = refl; inside = refl; lower = refl; last = λ e. refl; blocks = refl })
+    (pl .limits)
+    (record { zero-first = refl; up = refl; inside = refl; limits = refl; shown = refl; lower = refl; last = λ e. refl; blocks = refl })
     (leaf-count (p .asked) room (band 0 t ys))
     (pl .agree)
     (pl .low)
@@ -269,10 +309,11 @@ built-good (f ∷ fs) room m t p ys h pl =
     (pl .full)
     (pl .up)
     (pl .inside)
+    (pl .limits)
     (omega arith)
     fit′ in
     subst (λ (i : ℕ). Good (suc (suc (length fs))) m p ys t i) (ap suc w)
-    (node-good room (suc (length fs)) m p ys t (h .c) (length (h .es) * nodes fs) (h .es) (h .node) all-good (pl .up) (pl .inside)
+    (node-good room (suc (length fs)) m p ys t (h .c) (length (h .es) * nodes fs) (h .es) (h .node) all-good (pl .up) (pl .inside) (pl .limits)
     (entries (h .es) (h .first) (h .shares) fit′)
     (count-ok (p .asked) room (length fs) f fs (h .es) (band (h .c) t ys) n (pl .fans))
     (pl .agree)
@@ -288,13 +329,15 @@ built-good (f ∷ fs) room m t p ys h pl =
     entries : (es : List Entry) → nextLow es 0 ≡ 0 → Shares (λ b′ zs. Built fs room m b′ zs (h .c)) m (nodes fs) (p .block + 1) es ys
         → p .block + 1 + length es * nodes fs ≤ room
         → Entries room p (h .c) es
-    entries [] z sh fit = record { zero-first = refl; up = refl; inside = refl; lower = refl; last = λ e. refl; blocks = refl }
+    entries [] z sh fit = record { zero-first = refl; up = refl; inside = refl; limits = refl; shown = refl; lower = refl; last = λ e. refl; blocks = refl }
     entries (e ∷ es) z sh fit =
         let x = lows-up fs room m (h .c) e es (p .lo) (p .hi) (p .block + 1) ys sh (pl .up) (pl .inside) in
         record {
           zero-first = eq-eqb (e .low) 0 z;
           up = rising-lower 0 (suc (p .lo)) (lows es) (omega arith) (x .up);
           inside = x .inside;
+          limits = lows-limited fs room m (h .c) e es (p .block + 1) ys sh (pl .limits);
+          shown = extremes-inside (e ∷ es) (shown-limited fs room m (h .c) (e ∷ es) (p .block + 1) ys sh (pl .limits));
           lower = tops-under fs room m (h .c) (e ∷ es) (p .block + 1) ys sh;
           last = λ o. sizes-none fs room m (h .c) (e ∷ es) (p .block + 1) ys sh o;
           blocks = blocks-fit fs room m (h .c) (e ∷ es) (p .block + 1) ys sh (omega arith) fit;

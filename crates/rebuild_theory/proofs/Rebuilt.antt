@@ -12,14 +12,16 @@ use lib.Dec.{leb, ltb, eqb}
 use borrow.Author.Tests.{le-leb, lt-leb, lt-ltb, ne-eqb}
 use Rattle.octets.specs.Lists.{every, has, upTo}
 use Rattle.octets.specs.Bitmap.{bit}
+use Rattle.octets.proofs.Tests.{every-imp}
 use Rattle.octets.proofs.Order.{less-or-not}
 use Rattle.octets.proofs.UpTo.{upTo-distinct, has-upTo, has-upTo-not}
 use Rattle.spot.specs.declared.Spot.{Spot}
 use Rattle.spot.specs.Spots.{keys, find}
-use Rattle.spot.specs.Keys.{rankKey, allKeys, within}
+use Rattle.spot.specs.Keys.{rankKey, allKeys, within, limited}
 use Rattle.spot.proofs.Halves.{rank-small}
 use Rattle.spot.proofs.Canon.{cond-none, canon}
-use Rattle.spot.proofs.Places.{within-to}
+use Rattle.spot.proofs.Places.{within-yes, within-to}
+use Rattle.spot.proofs.Limits.{limited-small}
 use Rattle.spot.proofs.Buffers.{find-fails}
 use Rattle.block.specs.Header.{headOf}
 use Rattle.block.specs.Node.{storeOf}
@@ -66,6 +68,9 @@ module _ (t : List ℕ) (ys : List Spot) (r : Rebuilt t ys) where
   fits =
       shape-fits (length ys) (blocksOf (length t) - 1) (r .few) (omega (arith, header-least t (r .header))) (omega (arith, header-few t (r .header)))
 
+  keyed : every (within 0 allKeys) (keys ys) ≡ true
+  keyed = every-imp limited (within 0 allKeys) (keys ys) (λ k h. within-yes 0 allKeys k (omega arith) (limited-small k h)) (r .limits)
+
   abbrev top : Part
   top = record { block = 1; asked = Root 1; lo = 0; hi = allKeys }
 
@@ -75,7 +80,7 @@ module _ (t : List ℕ) (ys : List Spot) (r : Rebuilt t ys) where
       let f = fits .fits in
       let b = header-least t (r .header) in
       built-good (shape (length ys)) (blocksOf (length t)) (storeOf t) allKeys top ys (r .built)
-      (record { up = r .up; inside = r .keyed; agree = refl; low = omega arith; own = refl; order = omega arith; full = omega arith; fans = fits .fans; first = omega arith; last = omega arith })
+      (record { up = r .up; inside = keyed; limits = r .limits; agree = refl; low = omega arith; own = refl; order = omega arith; full = omega arith; fans = fits .fans; first = omega arith; last = omega arith })
 
   is-top : whole (headOf t) ≡ top
   is-top = λ i. record { block = r .root i; asked = Root (r .root i); lo = 0; hi = allKeys }
@@ -86,7 +91,7 @@ module _ (t : List ℕ) (ys : List Spot) (r : Rebuilt t ys) where
   -- what is live is what it was built from
   pub rebuilt-live : (k : ℕ) → live t k ≡ find k ys
   unfolding live
-  rebuilt-live k = rw (is-top, r .levels) (good .look k ∙ find-all k ys (r .keyed))
+  rebuilt-live k = rw (is-top, r .levels) (good .look k ∙ find-all k ys keyed)
 
   rebuilt-reach : reach (headOf t .levels) (storeOf t) (whole (headOf t)) ≡ upTo 1 (nodes (shape (length ys)))
   rebuilt-reach = rw (is-top, r .levels) (good .reached)

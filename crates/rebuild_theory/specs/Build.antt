@@ -9,7 +9,7 @@ use lib.ListN.{length}
 use lib.Dec.{leb}
 use Rattle.octets.specs.Lists.{every, keep, isEmpty, rising}
 use Rattle.octets.specs.Bitmap.{bit}
-use Rattle.spot.specs.Keys.{rankKey, allKeys, within}
+use Rattle.spot.specs.Keys.{rankKey, allKeys, within, limited}
 use Rattle.spot.specs.Spots.{keys}
 use Rattle.spot.specs.declared.Spot.{Spot}
 use Rattle.block.specs.declared.Entry.{Entry}
@@ -154,7 +154,8 @@ pub record BuildPost (room : ℕ) (fs : List ℕ) (b : ℕ) (ys : List Spot) (li
 -- a table is built whole from the spots ys: the tree from block 1 on, and a header that says so
 pub record Rebuilt (t : List ℕ) (ys : List Spot) : Type 0 where
   pub up : rising (keys ys) ≡ true
-  pub keyed : every (within 0 allKeys) (keys ys) ≡ true
+  -- request 2026-07
+  pub limits : every limited (keys ys) ≡ true
   pub few : length ys ≤ capacity (length t)
   pub header : headerOk (length t) (headOf t) ≡ true
   pub root : headOf t .root ≡ 1

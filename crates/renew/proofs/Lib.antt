@@ -1,4 +1,5 @@
 pub mod Written
+pub mod Inside
 pub mod Leaving
 pub mod Passing
 pub mod Replaced

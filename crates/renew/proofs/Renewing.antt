@@ -8,19 +8,22 @@ use native.Mathlib.Omega.{arith}
 use lib.Dec.{leb}
 use lib.ListN.{length, drop}
 use borrow.Author.Tests.{le-leb, lt-leb}
-use Rattle.octets.specs.Lists.{rising}
+use Rattle.octets.specs.Lists.{every, rising}
 use Rattle.octets.proofs.Tests.{and-both}
 use Rattle.octets.proofs.Records.{length-records}
 use Rattle.octets.proofs.Parts.{drop-more}
+use Rattle.spot.specs.Keys.{limited}
 use Rattle.spot.specs.Query.{everything}
 use Rattle.spot.specs.Spots.{keys, without, spotAt, spotsFrom, spotsIn}
 use Rattle.spot.specs.declared.Spot.{Spot}
 use Rattle.spot.proofs.Canon.{length-without}
+use Rattle.spot.proofs.Limits.{limited-spots}
 use Rattle.block.specs.Table.{tableSized, capacity}
 use Rattle.block.proofs.Making.{blocks-least, blocks-most}
 use Rattle.tree.specs.Walk.{walkTable, liveSpots}
 use Rattle.tree.specs.Sound.{sound}
 use Rattle.tree.proofs.Tables.{live-walk}
+use Rattle.tree.proofs.Limited.{live-limited}
 use Rattle.query.specs.declared.Sum.{Sum}
 use Rattle.rebuild_theory.specs.Build.{Rebuilt}
 use Rattle.build.specs.Building.{Segment}
@@ -67,6 +70,7 @@ module _ {t w w₁ : List ℕ} {r : Sum} (z : tableSized (length t) ≡ true) (l
         few = omega (arith, renew-few, blocks-most (length t) z);
         room = omega (arith, room, g .lent, lent);
         rises = ap (λ (l : List Spot). rising (keys l)) (g .holds ok) ∙ up-is;
+        limits = limited-spots w₁ (r .tally .spots) 0 ∙ ap (λ (l : List Spot). every limited (keys l)) (g .holds ok) ∙ live-limited t;
       }
 
   module _ {w₂ : List ℕ} {m : ℕ} (f : List Spot → List Spot) (a : Amended w₁ w₂ (r .tally .spots) (f (spotsIn w₁ (r .tally .spots))) m) where
@@ -96,12 +100,14 @@ module _ {t w w₁ : List ℕ} {r : Sum} (z : tableSized (length t) ≡ true) (l
           built = λ y. absurd (false≢true y);
         }
 
-    pub renew-segment : m ≤ capacity (length t) → (rising (keys (liveSpots t)) ≡ true → rising (keys (f (liveSpots t))) ≡ true) → Segment w₂ 0 m
-    renew-segment few up =
+    pub renew-segment : m ≤ capacity (length t) → (rising (keys (liveSpots t)) ≡ true → rising (keys (f (liveSpots t))) ≡ true)
+        → (every limited (keys (liveSpots t)) ≡ true → every limited (keys (f (liveSpots t))) ≡ true) → Segment w₂ 0 m
+    renew-segment few up inside =
         record {
           inside = omega (arith, lent-is, lent);
           few = omega (arith, blocks-most (length t) z);
           rises = ap (λ (l : List Spot). rising (keys l)) holds-is ∙ up up-is;
+          limits = limited-spots w₂ m 0 ∙ ap (λ (l : List Spot). every limited (keys l)) holds-is ∙ inside (live-limited t);
         }
 
     pub renew-fits : m ≤ capacity (length t) → leb (length (f (liveSpots t))) (capacity (length t)) ≡ true

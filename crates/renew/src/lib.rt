@@ -4,6 +4,7 @@ ghost use mathlib.Core.Bool.{true};
 ghost use Prim.Native.Nat.{_≤_};
 ghost use lib.Dec.{leb};
 ghost use lib.ListN.{length};
+ghost use Rattle.spot.specs.Keys.{limited};
 ghost use Rattle.spot.specs.Spots.{put, without};
 ghost use Rattle.block.specs.Table.{tableSized, capacity};
 ghost use Rattle.tree.specs.Walk.{liveSpots};
@@ -50,7 +51,7 @@ pub fn anew(table: &mut [u8], scratch: &mut [u8]) -> bool
 // The live spots laid out anew with s put in, in the place of one with its key; false, with the table as it was, where a rule is broken or they are too
 // many.
 pub fn with_spot(table: &mut [u8], scratch: &mut [u8], s: spot::Spot) -> bool
-    requires { ⌜ (tableSized (length (now table)) ≡ true) × (length (now table) ≤ length (now scratch)) ⌝ }
+    requires { ⌜ (tableSized (length (now table)) ≡ true) × (length (now table) ≤ length (now scratch)) × (limited (s .key) ≡ true) ⌝ }
     ensures { λ r. ⌜ Renewed (now (table .entry)) (now (table .exit)) (now (scratch .entry)) (now (scratch .exit)) (put s (without (s .key) (liveSpots (now (table .entry))))) (leb (length (put s (without (s .key) (liveSpots (now (table .entry)))))) (capacity (length (now (table .entry))))) r ⌝ }
 {
     let all = gather(table, scratch);

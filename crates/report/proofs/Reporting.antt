@@ -11,14 +11,16 @@ use lib.IntN.{ℤ}
 use Rattle.octets.specs.Lists.{ascends}
 use Rattle.octets.proofs.Order.{stride}
 use Rattle.octets.proofs.Records.{length-records, records-cong}
-use Rattle.spot.specs.Spots.{spotAt, spotsIn, spotsBytes, keys, fromOn}
+use Rattle.spot.specs.Spots.{spotAt, spotsIn, spotsBytes, keys, fromOn, limitedFrom}
 use Rattle.spot.specs.Query.{query, fromOf}
 use Rattle.spot.specs.declared.Spot.{Spot}
 use Rattle.spot.specs.declared.Query.{Query}
 use Rattle.spot.proofs.Card.{spotAt-left}
+use Rattle.spot.proofs.Limits.{limited-spots}
 use Rattle.spot.proofs.Stored.{length-spotsBytes, spotsBytes-records}
 use Rattle.tree.specs.Walk.{spots, walkTable}
 use Rattle.tree.specs.Report.{reportTable}
+use Rattle.query.specs.Merging.{Orderly}
 use Rattle.sort.specs.Turning.{Turned}
 use Rattle.sort.proofs.Turning.{from-on-length}
 use Rattle.report.specs.Reports.{written, Reportable, Reported, Turnable}
@@ -27,6 +29,10 @@ use Rattle.report.proofs.Reports.{report-spots, report-length}
 -- a query made of numbers as the machine holds them
 pub query-same : (x1 x2 y a b d : ℤ) (q : Query) → a ≡ x1 → b ≡ x2 → d ≡ y → q ≡ query a b d → q ≡ query x1 x2 y
 query-same x1 x2 y a b d q e f g h = rw (e, f, g) at h
+
+-- what is asked of n spots that are turned
+pub turn-asks : (out : List ℕ) (n : ℕ) → 12 * n ≤ length out → Orderly (spotsIn out n) → (12 * n ≤ length out) × (ascends 0 (keys (spotsIn out n)) ≡ true) × (limitedFrom out 12 n 0 ≡ true)
+turn-asks out n room o = (room, o .rise, limited-spots out n 0 ∙ o .limits)
 
 -- n spots in place order stand at the front, and what lies behind them is as it was lent
 turned-is : {n k : ℕ} {out1 out2 : List ℕ} (out : List ℕ) (ss : List Spot) → n ≡ length ss → spotsIn out1 n ≡ ss → drop (12 * n) out1 ≡ drop (12 * n) out → 12 * n ≤ length out1
@@ -95,9 +101,8 @@ held-turned {few} {out} {out1} {out2} {n} {k} h e f o turn long bytes =
     bytes ∙
     ap (λ (i : ℕ). written (fromOn i (spotsIn few n)) out) (f ∙ ap fromOf e)
 
-pub held-order : {few out out1 : List ℕ} {n : ℕ} → Turnable few out n → out1 ≡ take (12 * n) few ++ drop (12 * n) out → ascends 0 (keys (spotsIn out1 n)) ≡ true
-held-order {few} {out} {out1} {n} h o =
-    ap (λ (ss : List Spot). ascends 0 (keys ss)) (ap (λ (s : List ℕ). spotsIn s n) o ∙ copied-spots few (drop (12 * n) out) n (h .held)) ∙ h .order
+pub held-order : {few out out1 : List ℕ} {n : ℕ} → Turnable few out n → out1 ≡ take (12 * n) few ++ drop (12 * n) out → Orderly (spotsIn out1 n)
+held-order {few} {out} {out1} {n} h o = subst Orderly (sym (ap (λ (s : List ℕ). spotsIn s n) o ∙ copied-spots few (drop (12 * n) out) n (h .held))) (h .order)
 
 pub held-are : (x1 x2 y : ℤ) (t out : List ℕ) (ss : List Spot) {out′ : List ℕ} → ss ≡ spots (walkTable t (query x1 x2 y))
     → out′ ≡ written (fromOn (fromOf (query x1 x2 y)) ss) out

@@ -7,14 +7,14 @@ use mathlib.Core.Bool.{true, false}
 use mathlib.Core.List.{List, _++_}
 use lib.ListN.{length, drop}
 use lib.IntN.{ℤ}
-use Rattle.octets.specs.Lists.{ascends}
 use Rattle.spot.specs.Query.{query}
-use Rattle.spot.specs.Spots.{keys, spotsIn, spotsBytes}
+use Rattle.spot.specs.Spots.{spotsIn, spotsBytes}
 use Rattle.spot.specs.declared.Spot.{Spot}
 use Rattle.spot.specs.declared.Query.{Query}
 use Rattle.block.specs.Table.{tableSized}
 use Rattle.tree.specs.Walk.{walkTable, isBroken, spots}
 use Rattle.tree.specs.Report.{reportTable}
+use Rattle.query.specs.Merging.{Orderly}
 
 -- spots at the front of an output, 12 bytes each as on the card, the rest unchanged
 abbrev pub written : List Spot → List ℕ → List ℕ
@@ -35,7 +35,7 @@ pub record Reported (x1 x2 y : ℤ) (t out out′ : List ℕ) (r : ℕ) : Type 0
 pub record Turnable (few out : List ℕ) (n : ℕ) : Type 0 where
   pub held : 12 * n ≤ length few
   pub room : 12 * n ≤ length out
-  pub order : ascends 0 (keys (spotsIn few n)) ≡ true
+  pub order : Orderly (spotsIn few n)
 
 -- the walk is whole and finds n spots, which stand at the front of the buffer if they fit there; the output has room for them
 pub record Givable (x1 x2 y : ℤ) (t few out : List ℕ) (n : ℕ) : Type 0 where

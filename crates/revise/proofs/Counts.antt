@@ -10,8 +10,10 @@ use native.Mathlib.Omega.{arith}
 use lib.Dec.{eqb, leb}
 use lib.ListN.{length}
 use borrow.Author.Tests.{eq-eqb, ne-eqb, le-leb, lt-leb}
-use Rattle.octets.specs.Lists.{rising}
+use Rattle.octets.specs.Lists.{every, rising}
 use Rattle.octets.proofs.Order.{same-or-not}
+use Rattle.octets.proofs.Tests.{and-both}
+use Rattle.spot.specs.Keys.{limited}
 use Rattle.spot.specs.declared.Spot.{Spot}
 use Rattle.spot.specs.Spots.{keys, find, put, without}
 use Rattle.spot.proofs.Canon.{canon, find-without, without-rises, length-put}
@@ -68,6 +70,10 @@ pub says-out : {ss : List Spot} {ks : List ℕ} (j : ℕ) (before : ℕ → Opti
     → batchSays ss ks k (before k) ≡ withKey j none before k
 unfolding withKey
 says-out j before e f k = ap₂ (λ ss ks. batchSays ss ks k (before k)) e f ∙ one-out (eqb k j) (before k)
+
+-- its keys are inside the limits if the one is
+pub one-limited : {ks : List ℕ} (k : ℕ) → ks ≡ k ∷ [] → limited k ≡ true → every limited ks ≡ true
+one-limited k e h = ap (every limited) e ∙ and-both (limited k) true h refl
 
 -- ---- how many they are
 

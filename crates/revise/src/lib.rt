@@ -5,6 +5,7 @@ ghost use mathlib.Core.List.{[], _∷_};
 ghost use mathlib.Core.Option.{none, some};
 ghost use Prim.Native.Nat.{_≤_};
 ghost use lib.ListN.{length};
+ghost use Rattle.spot.specs.Keys.{limited};
 ghost use Rattle.spot.specs.Spots.{put, without};
 ghost use Rattle.block.specs.Table.{capacity};
 ghost use Rattle.block.specs.Header.{headOf};
@@ -36,7 +37,7 @@ fn step_after(o: change::Outcome) -> Step
 
 // The spot put in, where the live spots are then no more than the bound.
 fn put_within(table: &mut [u8], scratch: &mut [u8], s: spot::Spot, bound: u64) -> u32
-    requires { ⌜ Lent (now table) (now scratch) × (headerOk (length (now table)) (headOf (now table)) ≡ true) × (bound ≤ capacity (length (now table))) ⌝ }
+    requires { ⌜ Lent (now table) (now scratch) × (limited (s .key) ≡ true) × (headerOk (length (now table)) (headOf (now table)) ≡ true) × (bound ≤ capacity (length (now table))) ⌝ }
     ensures { λ r. ⌜ WithinPost (now (table .entry)) (now (table .exit)) (now (scratch .entry)) (now (scratch .exit)) bound (length (put s (without (s .key) (liveSpots (now (table .entry)))))) (withKey (s .key) (some (s .track)) (live (now (table .entry)))) r ⌝ }
 {
     let one = buffer::push(buffer::empty(), s);
@@ -54,7 +55,7 @@ fn put_within(table: &mut [u8], scratch: &mut [u8], s: spot::Spot, bound: u64) -
 
 // The spot put in, where the bound is at capacity and its key is not live: the live spots are counted.
 fn put_counted(table: &mut [u8], scratch: &mut [u8], s: spot::Spot) -> u32
-    requires { ⌜ Lent (now table) (now scratch) × (headerOk (length (now table)) (headOf (now table)) ≡ true) × (lookedUp (now table) (s .key) ≡ Nothing) ⌝ }
+    requires { ⌜ Lent (now table) (now scratch) × (limited (s .key) ≡ true) × (headerOk (length (now table)) (headOf (now table)) ≡ true) × (lookedUp (now table) (s .key) ≡ Nothing) ⌝ }
     ensures { λ r. ⌜ Revised (now (table .entry)) (now (table .exit)) (now (scratch .entry)) (now (scratch .exit)) (s .key) (addNumber (length (now (table .entry))) (liveCount (now (table .entry))) (isLive (live (now (table .entry)) (s .key)))) (0 ∷ 3 ∷ 4 ∷ []) (withKey (s .key) (some (s .track)) (live (now (table .entry)))) r ⌝ }
 {
     let mut seen = [0u8; 512];
@@ -72,7 +73,7 @@ fn put_counted(table: &mut [u8], scratch: &mut [u8], s: spot::Spot) -> u32
 // Add: 4 where the table holds as many spots as it may and the key is not live. The bound grows only with a key that is not live: as long as only these calls write, it is
 // the number of live spots, and whether the table is full is counted only where it is at capacity.
 pub fn put_spot(table: &mut [u8], scratch: &mut [u8], s: spot::Spot) -> u32
-    requires { ⌜ Lent (now table) (now scratch) ⌝ }
+    requires { ⌜ Lent (now table) (now scratch) × (limited (s .key) ≡ true) ⌝ }
     ensures { λ r. ⌜ Revised (now (table .entry)) (now (table .exit)) (now (scratch .entry)) (now (scratch .exit)) (s .key) (addNumber (length (now (table .entry))) (liveCount (now (table .entry))) (isLive (live (now (table .entry)) (s .key)))) (0 ∷ 3 ∷ 4 ∷ []) (withKey (s .key) (some (s .track)) (live (now (table .entry)))) r ⌝ }
 {
     if !block::header_ok(table) {
@@ -93,7 +94,7 @@ pub fn put_spot(table: &mut [u8], scratch: &mut [u8], s: spot::Spot) -> u32
 
 // The spot of a key taken out, where the live spots are then no more than the bound.
 fn take_within(table: &mut [u8], scratch: &mut [u8], k: u64, bound: u64) -> u32
-    requires { ⌜ Lent (now table) (now scratch) × (headerOk (length (now table)) (headOf (now table)) ≡ true) × (bound ≤ capacity (length (now table))) ⌝ }
+    requires { ⌜ Lent (now table) (now scratch) × (limited k ≡ true) × (headerOk (length (now table)) (headOf (now table)) ≡ true) × (bound ≤ capacity (length (now table))) ⌝ }
     ensures { λ r. ⌜ WithinPost (now (table .entry)) (now (table .exit)) (now (scratch .entry)) (now (scratch .exit)) bound (length (without k (liveSpots (now (table .entry))))) (withKey k none (live (now (table .entry)))) r ⌝ }
 {
     let none = buffer::empty();
@@ -111,7 +112,7 @@ fn take_within(table: &mut [u8], scratch: &mut [u8], k: u64, bound: u64) -> u32
 
 // Withdraw: nothing is written where the key is not live. The bound falls with one that is, so that it stays the number of live spots; it is 0 there only if it was wrong before.
 pub fn take_key(table: &mut [u8], scratch: &mut [u8], k: u64) -> u32
-    requires { ⌜ Lent (now table) (now scratch) ⌝ }
+    requires { ⌜ Lent (now table) (now scratch) × (limited k ≡ true) ⌝ }
     ensures { λ r. ⌜ Revised (now (table .entry)) (now (table .exit)) (now (scratch .entry)) (now (scratch .exit)) k 0 (0 ∷ 3 ∷ []) (withKey k none (live (now (table .entry)))) r ⌝ }
 {
     if !block::header_ok(table) {

@@ -8,7 +8,7 @@ use lib.ListN.{length, take, drop}
 use Rattle.block.specs.declared.Answer.{Answer}
 use Rattle.tree.specs.Sound.{sound}
 use Rattle.table.specs.Calls.{Call, format, add, withdraw, report, top, count, check, rebuild, reportMany, topWithin, kind, isQuery, Lengths}
-use Rattle.demands.specs.Model.{PlainSpot, Plain, Reply, asBytes, outputAfter, refuse, accept, badTable, badLent, tooMany, full, ownReply, reply, toldCall, fourBytes, complement}
+use Rattle.demands.specs.Model.{PlainSpot, Plain, Reply, asBytes, outputAfter, refuse, accept, badTable, badLent, tooMany, changesOutside, full, ownReply, reply, toldCall, fourBytes, complement}
 use Rattle.demands.specs.History.{Event, History, AllAgreed, certainIn, replyIn, modelAfter}
 use Rattle.script.specs.Script.{Step, lentTo, logAfter}
 use Rattle.script.specs.Run.{entry, tellings, RunState, heldAfter, passed, outputOf, InTurn, AllInTurn, entries}
@@ -38,7 +38,8 @@ hands-none : (l : Lengths) (c : Call) (ps : Plain) → isQuery c ≡ false → r
 unfolding reply
 hands-none l c ps q =
     unless-refused (badTable (l .table)) 1 0 ps _
-    (unless-refused (badLent l (kind c)) 2 0 ps _ (unless-refused (tooMany (kind c)) 6 0 ps (ownReply l c ps) (own-none l c ps q)))
+    (unless-refused (badLent l (kind c)) 2 0 ps _
+    (unless-refused (tooMany (kind c)) 6 0 ps _ (unless-refused (changesOutside c) 9 0 ps (ownReply l c ps) (own-none l c ps q))))
 
 -- a query stays one when the model is told what hangs on the arrangement
 told-query : (c : Call) (n : ℕ) → isQuery (toldCall c n) ≡ isQuery c

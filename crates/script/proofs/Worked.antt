@@ -11,7 +11,7 @@ use Rattle.octets.specs.Bytes.{be}
 use Rattle.ranges.specs.Ranges.{rangeIn}
 use Rattle.ranges.specs.declared.Range.{Range}
 use Rattle.table.specs.Calls.{Call, add, report, count, reportMany, topWithin, Lengths}
-use Rattle.demands.specs.Model.{begunEmpty, eqZ, hasIdentity, placeBefore, topBefore, ofPlaces, ofReport, fromOnward, reported, takenOut, broughtIn, highest, fourBytes, complement, outputAfter, refuse, accept, badTable, badLent, tooMany, full, handOut, ownReply, reply}
+use Rattle.demands.specs.Model.{begunEmpty, eqZ, hasIdentity, placeBefore, topBefore, ofPlaces, ofReport, fromOnward, reported, takenOut, broughtIn, highest, fourBytes, complement, outputAfter, refuse, accept, badTable, badLent, tooMany, outside, changesOutside, full, handOut, ownReply, reply}
 use Rattle.script.specs.Script.{Step, Telling, allRanges, callsIn, callOf, callAt, stepAt, stepsOf, logPart, logAfter}
 
 -- 65,536 bytes are more than the run has of anything
@@ -98,5 +98,5 @@ model-log : logAfter sizes steps (replicate 8 nothing ++ (within ∷ [])) begunE
     ++ head 0 1 ++ (0 ∷ 0 ∷ 0 ∷ 5 ∷ 255 ∷ 255 ∷ 255 ∷ 253 ∷ 0 ∷ 0 ∷ 0 ∷ 9 ∷ []) ++ replicate 5 1
     ++ head 0 0 ++ replicate 17 1
     ++ (some 0 ++ some 1 ++ (255 ∷ 255 ∷ 255 ∷ 253 ∷ [])) ++ (0 ∷ 0 ∷ 0 ∷ 5 ∷ 255 ∷ 255 ∷ 255 ∷ 253 ∷ 0 ∷ 0 ∷ 0 ∷ 9 ∷ []) ++ replicate 6 1
-unfolding first second some nothing within head sizes step steps eqZ hasIdentity placeBefore topBefore ofPlaces ofReport fromOnward reported takenOut broughtIn highest fourBytes complement outputAfter refuse accept badTable badLent tooMany full handOut ownReply reply
+unfolding first second some nothing within head sizes step steps eqZ hasIdentity placeBefore topBefore ofPlaces ofReport fromOnward reported takenOut broughtIn highest fourBytes complement outputAfter refuse accept badTable badLent tooMany outside changesOutside full handOut ownReply reply
 model-log = refl

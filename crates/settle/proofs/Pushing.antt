@@ -27,6 +27,7 @@ use Rattle.buffer.specs.declared.KeyBuffer.{KeyBuffer}
 use Rattle.tree.specs.Part.{Part, nextLow, parts, Steps}
 use Rattle.tree.specs.Lookup.{lookup}
 use Rattle.tree.proofs.Ranges.{part-bounds}
+use Rattle.tree.proofs.Legal.{legal-full, legal-part}
 use Rattle.update_theory.specs.Held.{Held}
 use Rattle.update_theory.specs.Change.{part, reaches, Sound, Changed}
 use Rattle.update_theory.specs.Spare.{Taken, Within}
@@ -188,7 +189,7 @@ module _ (t : List ℕ) (l : ℕ) (n : NodeValue) (p : Picked) (e : Entry) (spar
   -- it is sound, and what holds then holds of it
   at-child : (Then : ℕ → ℕ → Type 0) → WhereSound t l (e .block) (Child e) (held (p .inserts)) (named (p .deletes)) spare left Then → Then (c₀ .lo) (c₀ .hi)
   at-child Then h =
-      h (c₀ .lo) (c₀ .hi) (bounds .2) (let v = bounds .1 in let z = o .full in omega arith) (first-low lo us vs e (lowsFit .zero)) batch-I batch-D (child .0) (child .1)
+      h (c₀ .lo) (c₀ .hi) (bounds .2) (legal-part lo hi (c₀ .lo) (c₀ .hi) (o .legal) (bounds .0) (bounds .1)) (first-low lo us vs e (lowsFit .zero)) batch-I batch-D (child .0) (child .1)
 
   pub child-whole : {t₁ : List ℕ} {r : Settled} → SettlePost t t₁ l (e .block) (Child e) (held (p .inserts)) (named (p .deletes)) spare left r → r .broken ≡ false
   child-whole {r = r} sp = at-child (λ a b. r .broken ≡ false) (sp .whole)
@@ -233,12 +234,12 @@ module _ (t : List ℕ) (l : ℕ) (n : NodeValue) (p : Picked) (e : Entry) (spar
     opens : Parted n p → Open (suc l) y lo hi (o .rank) (us ++ ((r .first ∷ fs) ++ vs)) (heldIn (p .node)) f
     opens (byInserts stay h d b) =
         subst⁻¹ (λ (v : Held). Open (suc l) y lo hi (o .rank) (us ++ ((r .first ∷ fs) ++ vs)) v f) b
-        (open-push-I (suc l) (Taken S S′) x y lo hi (o .full) (o .rank) us vs e (r .first) fs (heldIn n) f stay low node fresh steps
+        (open-push-I (suc l) (Taken S S′) x y lo hi (legal-full lo hi (o .legal)) (o .rank) us vs e (r .first) fs (heldIn n) f stay low node fresh steps
         (λ k i. batch-I k (subst⁻¹ (λ (ss : List Spot). List·Memᴰ k (keys ss)) h i))
         (subst (λ (ss : List Spot). Word (λ k q. batchSays ss [] k q)) h (subst (λ (ks : List ℕ). Word (λ k q. batchSays (held (p .inserts)) ks k q)) d changed)))
     opens (byDeletes stay d h b) =
         subst⁻¹ (λ (v : Held). Open (suc l) y lo hi (o .rank) (us ++ ((r .first ∷ fs) ++ vs)) v f) b
-        (open-push-D (suc l) (Taken S S′) x y lo hi (o .full) (o .rank) us vs e (r .first) fs (heldIn n) f stay low node fresh steps
+        (open-push-D (suc l) (Taken S S′) x y lo hi (legal-full lo hi (o .legal)) (o .rank) us vs e (r .first) fs (heldIn n) f stay low node fresh steps
         (λ k i. batch-D k (subst⁻¹ (λ (ks : List ℕ). List·Memᴰ k ks) d i))
         (subst (λ (ks : List ℕ). Word (λ k q. batchSays [] ks k q)) d (subst (λ (ss : List Spot). Word (λ k q. batchSays ss (named (p .deletes)) k q)) h changed)))
 

@@ -61,7 +61,7 @@ module _ {t t₁ s₁ map₁ t₂ s₂ map₂ : List ℕ} {level : ℕ} {n : Nod
     pushed = p .done went lo hi f before
 
     filled : ok ≡ true → FilledBy (storeOf t₁) (storeOf t₂) level (w .node) (r .node) lo hi f
-    filled o = q .done (all o .0) lo hi (pushed .rank) f (before .full) (p .zero went) (pushed .going .node)
+    filled o = q .done (all o .0) lo hi (pushed .rank) f (before .legal) (p .zero went) (pushed .going .node)
 
   pub refine-done : RefinePost t t₂ s₂ map₂ level n spare left (record { ok = ok; broken = r .broken; node = r .node; left = w .left })
   refine-done =
@@ -83,7 +83,7 @@ module _ {t t₁ s₁ map₁ t₂ s₂ map₂ : List ℕ} {level : ℕ} {n : Nod
                     (storeOf t₂) (b .rank) (entriesOf (r .node .entries)) (heldIn (r .node)) (a .going) (b .loop .going);
                 lowsFit = lows-as lo hi (entriesOf (w .node .entries)) (entriesOf (r .node .entries)) (q .sameLows) (a .lowsFit);
               };
-          whole = λ lo hi f before. let a = pushed lo hi f before in q .whole lo hi (a .rank) f (before .full) (p .zero went) (a .going .node);
+          whole = λ lo hi f before. let a = pushed lo hi f before in q .whole lo hi (a .rank) f (before .legal) (p .zero went) (a .going .node);
         };
         fewI = λ o. all o .1;
         fewD = λ o. all o .2;

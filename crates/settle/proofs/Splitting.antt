@@ -22,6 +22,7 @@ use Rattle.tree.specs.Part.{Part, parts, lowOf}
 use Rattle.tree.specs.Reach.{reach}
 use Rattle.tree.proofs.Frame.{Same, reaches-same}
 use Rattle.tree.proofs.Gather.{gather-append}
+use Rattle.tree.proofs.Legal.{legal-part}
 use Rattle.update_theory.specs.Held.{Held}
 use Rattle.update_theory.specs.Change.{part, reaches, Sound, Changed}
 use Rattle.update_theory.specs.Spare.{Taken, Within}
@@ -256,7 +257,7 @@ module _ {t s map : List ℕ} {b level : ℕ} {asked : Asked} {n : NodeValue} {h
   left-open =
       record {
         order = let z = u .low in omega arith;
-        full = let z = u .high in let y = o .full in omega arith;
+        legal = let z = u .high in legal-part lo hi lo sep (o .legal) (omega arith) (omega arith);
         rank = u .rank;
         node = u .openL;
         lowsFit = u .lowsL;
@@ -310,7 +311,7 @@ module _ {t s map : List ℕ} {b level : ℕ} {asked : Asked} {n : NodeValue} {h
     right-open =
         record {
           order = let z = u .high in omega arith;
-          full = o .full;
+          legal = let z = u .low in legal-part lo hi sep hi (o .legal) (omega arith) (omega arith);
           rank = u .rank;
           node = open-frame level (storeOf t) (storeOf t₂) sep hi (u .rank) (entriesOf (h .right .entries)) (heldIn (h .right)) f right-stays (u .openR);
           lowsFit = u .lowsR;
@@ -397,9 +398,9 @@ module _ {t s map : List ℕ} {b level : ℕ} {asked : Asked} {n : NodeValue} {h
           (λ z v i. apart z (v .0) (Memᴰ·append-left [] i)) (λ z v. (less₀ z (v .0), v .1)) (λ z v. ⊎-elim (λ j. inl (j, v .1)) inr (spare-step spare left c some (st .less) (st .spares .once) last z (v .0)))
           (new .0, λ i. new .1 (less₁ c (less₂ c i))) (λ v. new .1 (v .0)) (let z = u .low in omega arith) (let z = u .high in omega arith) kids
           stays
-          (refined-shape (Child d) (ground-left st hv cuts d) p₁ ok₁ b lo sep (d₁ .block) (left-open .full) (one .lowsFit) (p₁ .full ok₁ lo sep f left-open) (let z = d₁ .low in omega arith) (d₁ .agree (blocksOf (length t₁))))
+          (refined-shape (Child d) (ground-left st hv cuts d) p₁ ok₁ b lo sep (d₁ .block) (left-open .legal) (one .lowsFit) (p₁ .full ok₁ lo sep f left-open) (let z = d₁ .low in omega arith) (d₁ .agree (blocksOf (length t₁))))
           opens
-          (refined-shape (Child e) (ground-right st hv cuts e) p₂ ok₂ c sep hi (d₂ .block) (o .full) (two .lowsFit) (p₂ .full ok₂ sep hi f right-open) (let z = d₂ .low in omega arith) (d₂ .agree (blocksOf (length t₃))))
+          (refined-shape (Child e) (ground-right st hv cuts e) p₂ ok₂ c sep hi (d₂ .block) (right-open .legal) (two .lowsFit) (p₂ .full ok₂ sep hi f right-open) (let z = d₂ .low in omega arith) (d₂ .agree (blocksOf (length t₃))))
           (stored-else t₃ t₄ c (w₂ .node) q₂ b other ∙ two .going .changed .kept b off₂ not-taken ∙ q₁ .here)
           (q₂ .here)
           (λ z i j. stored-else t₃ t₄ c (w₂ .node) q₂ z j ∙ sym (instead-else b (storeOf t₁ b) (storeOf t₃) z i))

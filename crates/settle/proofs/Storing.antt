@@ -22,11 +22,12 @@ use Rattle.block.specs.declared.Asked.the-variants.{Root, Child}
 use Rattle.block.specs.Table.{blocksOf, blockOk}
 use Rattle.block.specs.Node.{Node, storeOf}
 use Rattle.block.specs.NodeRules.{nodeOk, lows, agrees, fewest, filled, lowest, childCountOk, childBlocksOk, lowsRise, leafBuffersEmpty, standsIn}
-use Rattle.tree.specs.Part.{parts, lowOf}
+use Rattle.tree.specs.Part.{Legal, parts, lowOf}
 use Rattle.tree.specs.Lookup.{lookup}
 use Rattle.tree.specs.Sound.{inRange}
 use Rattle.tree.proofs.Below.{sizes-filled, sizes-lowest}
 use Rattle.tree.proofs.Empty.{none-length}
+use Rattle.tree.proofs.Legal.{legal-full}
 use Rattle.update_theory.specs.Change.{part, reaches, Sound, Changed}
 use Rattle.update_theory.specs.Spare.{Taken}
 use Rattle.update_theory.specs.Open.{Open}
@@ -95,10 +96,10 @@ module _ {t t′ s′ map′ : List ℕ} {level : ℕ} {n : NodeValue} {spare : 
       sizes-filled (nodeIn room m) h (omega (arith, p .work .works .points)) (omega (arith, p .fewI ok)) (omega (arith, p .fewD ok))
   sizes (inr h) = sizes-lowest (nodeIn room m) (h .0) (h .1) (h .2) (h .3)
 
-  pub refined-shape : (b lo hi : ℕ) → standsIn a ≡ b → hi ≤ allKeys → LowsFit lo hi (entriesOf (w .node .entries)) → FilledUp (entriesOf (w .node .entries)) (heldIn (w .node)) → lowOf a ≤ lo
+  pub refined-shape : (b lo hi : ℕ) → standsIn a ≡ b → Legal lo hi → LowsFit lo hi (entriesOf (w .node .entries)) → FilledUp (entriesOf (w .node .entries)) (heldIn (w .node)) → lowOf a ≤ lo
       → agrees a (nodeIn (blocksOf (length t′)) (w .node)) ≡ true → Shape level b a lo hi (nodeIn (blocksOf (length t′)) (w .node))
   unfolding lowsRise childBlocksOk blockOk
-  refined-shape b lo hi own most l full low agree =
+  refined-shape b lo hi own legal l full low agree =
       record {
         laid = refl;
         level = eq-eqb (m .level) level (p .work .works .level);
@@ -111,7 +112,7 @@ module _ {t t′ s′ map′ : List ℕ} {level : ℕ} {n : NodeValue} {spare : 
         low = low;
         blocks = every-make _ (entriesOf (m .entries)) (λ e i. let z = p .work .works .inside e i in all-cons _ _ (le-leb 1 (e .block) (z .0)) (all-cons _ _ (lt-ltb (e .block) room (z .1)) all-nil));
         own = own;
-        full = most;
+        legal = legal;
       }
 
 -- ---- what leads to a part that was settled as one
@@ -177,7 +178,7 @@ module _ {t s map t₁ s₁ map₁ t₂ : List ℕ} {level b : ℕ} {asked : Ask
         going-done level (storeOf t) (storeOf t₁) (storeOf t₂) (part b asked lo hi) (again asked (r .first)) (spareOf spare left) (spareOf spare (w .left)) (worked .rank) (nodeIn (blocksOf (length t₁)) (w .node)) f sound
         (λ z i j. apart z i (Memᴰ·append-left [] j))
         (subst (λ (es : List Entry). Going level lo hi (storeOf t) (spareOf spare left) es (storeOf t₁) (spareOf spare (w .left)) (worked .rank) (entriesOf (w .node .entries)) (heldIn (w .node)) f) (st .same) (worked .going))
-        (refined-shape (again asked (r .first)) ground p ok b lo hi (again-own asked (r .first) b (q .first .block) (opened level (storeOf t) (part b asked lo hi) sound .own)) (o .full) (worked .lowsFit) (p .full ok lo hi f o) (again-low asked (r .first) lo (q .first .low) low)
+        (refined-shape (again asked (r .first)) ground p ok b lo hi (again-own asked (r .first) b (q .first .block) (opened level (storeOf t) (part b asked lo hi) sound .own)) (o .legal) (worked .lowsFit) (p .full ok lo hi f o) (again-low asked (r .first) lo (q .first .low) low)
         (again-agrees asked (r .first) (nodeIn (blocksOf (length t₁)) (w .node)) (q .first .agree (blocksOf (length t₁)))))
         (q .stored .here)
         (stored-else t₁ t₂ b (w .node) (q .stored))
@@ -216,7 +217,7 @@ settle-refused {t} {level = level} {b = b} {asked = asked} e h refused =
       fits = λ o. absurd (true≢false (sym o ∙ e));
       second = λ o. absurd (true≢false (sym o ∙ e));
       done = λ o. absurd (true≢false (sym o ∙ e));
-      whole = λ lo hi order full low inI inD sound apart. absurd (true≢false (sym (opened level (storeOf t) (part b asked lo hi) sound .ok) ∙ refused));
+      whole = λ lo hi order legal low inI inD sound apart. absurd (true≢false (sym (opened level (storeOf t) (part b asked lo hi) sound .ok) ∙ refused));
     }
 
 -- what a node in memory finds that took in a batch, in the range [lo, hi)
@@ -228,13 +229,13 @@ Received t level b asked ss ks n =
 
 -- it stands open over the table's store
 standing-open : {t s map : List ℕ} {b level : ℕ} {asked : Asked} {n : NodeValue} {spare : Spare} {left : ℕ} (st : StandsFor t s map b level asked n spare left) (lo hi rank : ℕ) (f : ℕ → Option ℕ)
-    → lo ≤ hi → hi ≤ allKeys → Sound (suc level) (storeOf t) (part b asked lo hi ∷ []) → Apart (spareOf spare left) (reaches (suc level) (storeOf t) (part b asked lo hi ∷ []))
+    → lo ≤ hi → Legal lo hi → Sound (suc level) (storeOf t) (part b asked lo hi ∷ []) → Apart (spareOf spare left) (reaches (suc level) (storeOf t) (part b asked lo hi ∷ []))
     → Open level (storeOf t) lo hi rank (entriesOf (n .entries)) (heldIn n) f → Opened (storeOf t) level lo hi n spare left f
 unfolding inRange
-standing-open {t} {b = b} {level = level} {asked = asked} {spare = spare} {left = left} st lo hi rank f order full sound apart o =
+standing-open {t} {b = b} {level = level} {asked = asked} {spare = spare} {left = left} st lo hi rank f order legal sound apart o =
     record {
       order = order;
-      full = full;
+      legal = legal;
       rank = rank;
       node = o;
       lowsFit = record { zero = st .zero; rise = st .rise; inside = ap (λ (es : List Entry). every (within lo hi) (rest (lows es))) (st .same) ∙ all-at _ (opened level (storeOf t) (part b asked lo hi) sound .inside) 1 };
@@ -252,13 +253,13 @@ settle-placed {t} {b = b} {level = level} {asked = asked} {ss = ss} {ks = ks} {n
       low = p .low;
       fits = p .fits;
       second = p .second;
-      done = λ ok lo hi order full low inI inD sound apart.
-          let d = p .done ok lo hi (λ k. batchSays ss ks k (lookup (suc level) (storeOf t) k (part b asked lo hi))) low sound apart (stood lo hi order full inI inD sound apart) in
+      done = λ ok lo hi order legal low inI inD sound apart.
+          let d = p .done ok lo hi (λ k. batchSays ss ks k (lookup (suc level) (storeOf t) k (part b asked lo hi))) low sound apart (stood lo hi order legal inI inD sound apart) in
           record { changed = d .changed; apart = d .apart };
-      whole = λ lo hi order full low inI inD sound apart. p .whole lo hi (λ k. batchSays ss ks k (lookup (suc level) (storeOf t) k (part b asked lo hi))) low sound apart (stood lo hi order full inI inD sound apart);
+      whole = λ lo hi order legal low inI inD sound apart. p .whole lo hi (λ k. batchSays ss ks k (lookup (suc level) (storeOf t) k (part b asked lo hi))) low sound apart (stood lo hi order legal inI inD sound apart);
     }
   where
-    stood : (lo hi : ℕ) → lo ≤ hi → hi ≤ allKeys → ((k : ℕ) → List·Memᴰ k (keys ss) → within lo hi k ≡ true) → ((k : ℕ) → List·Memᴰ k ks → within lo hi k ≡ true)
+    stood : (lo hi : ℕ) → lo ≤ hi → Legal lo hi → ((k : ℕ) → List·Memᴰ k (keys ss) → within lo hi k ≡ true) → ((k : ℕ) → List·Memᴰ k ks → within lo hi k ≡ true)
         → Sound (suc level) (storeOf t) (part b asked lo hi ∷ []) → Apart (spareOf spare left) (reaches (suc level) (storeOf t) (part b asked lo hi ∷ []))
         → Opened (storeOf t) level lo hi n spare left (λ k. batchSays ss ks k (lookup (suc level) (storeOf t) k (part b asked lo hi)))
-    stood lo hi order full inI inD sound apart = let o = rec lo hi order full inI inD sound in standing-open st lo hi (o .0) (λ k. batchSays ss ks k (lookup (suc level) (storeOf t) k (part b asked lo hi))) order full sound apart (o .1)
+    stood lo hi order legal inI inD sound apart = let o = rec lo hi order (legal-full lo hi legal) inI inD sound in standing-open st lo hi (o .0) (λ k. batchSays ss ks k (lookup (suc level) (storeOf t) k (part b asked lo hi))) order legal sound apart (o .1)

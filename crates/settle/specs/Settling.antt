@@ -11,7 +11,7 @@ use mathlib.Core.Option.{Option}
 use lib.ListN.{length}
 use Rattle.octets.specs.Lists.{every, rest, rising}
 use Rattle.octets.specs.Sets.{Apart}
-use Rattle.spot.specs.Keys.{allKeys, within}
+use Rattle.spot.specs.Keys.{within}
 use Rattle.spot.specs.Spots.{keys}
 use Rattle.spot.specs.declared.Spot.{Spot}
 use Rattle.block.specs.declared.Entry.{Entry}
@@ -20,7 +20,7 @@ use Rattle.block.specs.declared.Asked.the-variants.{Root, Child}
 use Rattle.block.specs.Table.{blocksOf}
 use Rattle.block.specs.Node.{Store, storeOf}
 use Rattle.block.specs.NodeRules.{zeroFirst, lows, fewest, ValidBlock}
-use Rattle.tree.specs.Part.{Part, parts, lowOf}
+use Rattle.tree.specs.Part.{Part, Legal, parts, lowOf}
 use Rattle.tree.specs.Lookup.{lookup}
 use Rattle.update_theory.specs.Change.{part, reaches, Sound, Changed}
 use Rattle.update_theory.specs.Spare.{Taken}
@@ -68,10 +68,10 @@ pub record Settleable (t s map : List ℕ) (b level : ℕ) (ni nd : ℕ) (spare 
   pub spares : SpareFits t spare
   pub less : left ≤ spare .n
 
--- what holds where the part is sound, the batch lies in its range, and it reaches no spare block
+-- what holds where the part is sound, its range is legal, the batch lies in it, and it reaches no spare block
 abbrev pub WhereSound : List ℕ → ℕ → ℕ → Asked → List Spot → List ℕ → Spare → ℕ → (ℕ → ℕ → Type 0) → Type 0
 WhereSound t level b asked ss ks spare left Then =
-    (lo hi : ℕ) → lo ≤ hi → hi ≤ allKeys → lowOf asked ≤ lo
+    (lo hi : ℕ) → lo ≤ hi → Legal lo hi → lowOf asked ≤ lo
     → ((k : ℕ) → List·Memᴰ k (keys ss) → within lo hi k ≡ true) → ((k : ℕ) → List·Memᴰ k ks → within lo hi k ≡ true)
     → Sound (suc level) (storeOf t) (part b asked lo hi ∷ []) → Apart (spareOf spare left) (reaches (suc level) (storeOf t) (part b asked lo hi ∷ []))
     → Then lo hi
@@ -100,7 +100,7 @@ pub record WorkedTo (x y : Store) (level lo hi : ℕ) (n r : NodeValue) (spare :
 -- what is known of it before
 pub record Opened (x : Store) (level lo hi : ℕ) (n : NodeValue) (spare : Spare) (left : ℕ) (f : ℕ → Option ℕ) : Type 0 where
   pub order : lo ≤ hi
-  pub full : hi ≤ allKeys
+  pub legal : Legal lo hi
   pub rank : ℕ
   pub node : Open level x lo hi rank (entriesOf (n .entries)) (heldIn n) f
   pub lowsFit : LowsFit lo hi (entriesOf (n .entries))

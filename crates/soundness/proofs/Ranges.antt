@@ -5,6 +5,7 @@ use mathlib.Core.Logic.{⊎-elim}
 use mathlib.Core.Bool.{Bool, true, _&&_, _||_, and-true}
 use mathlib.Core.List.{List, [], _∷_, _++_, List·Memᴰ, List·Memᴰ·head, List·Memᴰ·cases-cons, List·Memᴰ·append-cases, List·Memᴰ·eq-of-singleton, Memᴰ·append-right}
 use Prim.Native.Nat.{ℕ, suc, _+_, _-_, _*_, _≤_, _<_}
+use native.Mathlib.Nat.{mul-zero}
 use native.Mathlib.Omega.{arith}
 use lib.Dec.{leb, ltb}
 use lib.ListN.{length}
@@ -15,9 +16,10 @@ use Rattle.octets.proofs.Order.{stride}
 use Rattle.octets.proofs.Tests.{bool-ext, and-left, and-right, and-both, every-mem, every-make, every-append}
 use Rattle.octets.proofs.Records.{records-more}
 use Rattle.octets.proofs.Rising.{rising-rest, rising-least, rising-before}
-use Rattle.spot.specs.Keys.{within}
-use Rattle.spot.specs.Spots.{keys, keyAt}
+use Rattle.spot.specs.Keys.{within, limited}
+use Rattle.spot.specs.Spots.{keys, keyAt, limitedFrom}
 use Rattle.spot.proofs.Card.{keyAt-lt}
+use Rattle.spot.proofs.Limits.{limited-each}
 use Rattle.spot.proofs.Places.{within-yes, within-from, within-to}
 use Rattle.spot.proofs.Buffers.{keys-records}
 use Rattle.block.specs.declared.Asked.the-variants.{Root}
@@ -102,15 +104,21 @@ keys-decide t w n at s x y d h p q =
 pub last-ends : (w n : ℕ) → (n ≡ 0 → ⊥) → w * (n - 1) + w ≤ w * n
 last-ends w n d = let h : n - 1 < n = omega (arith, d) in stride w h
 
+-- the first and the last may be read
+pub ends-limited : (t : List ℕ) (w n at : ℕ) → (n ≡ 0 → ⊥) → limitedFrom t w n at ≡ true → (limited (keyAt t at) ≡ true) × (limited (keyAt t (at + w * (n - 1))) ≡ true)
+ends-limited t w n at d h =
+    let e : at ≡ at + w * 0 = omega (arith, mul-zero w) in
+    (ap (λ (i : ℕ). limited (keyAt t i)) e ∙ limited-each t w n at h 0 (omega (arith, d)), limited-each t w n at h (n - 1) (omega (arith, d)))
+
 -- ---- the keys of a node
 
 -- a node's keys as a run in the table, of which `keys_within` can be asked
 pub record Run (t : List ℕ) (w n at : ℕ) (ks : List ℕ) : Type 0 where
-  pub asks : (8 ≤ w) × (w ≤ 28) × (n ≤ 64) × (at + w * n ≤ length t) × (rising (keysFrom t w n at) ≡ true)
+  pub asks : (8 ≤ w) × (w ≤ 28) × (n ≤ 64) × (at + w * n ≤ length t) × (rising (keysFrom t w n at) ≡ true) × (limitedFrom t w n at ≡ true)
   pub same : ks ≡ keysFrom t w n at
 
 ready : {t : List ℕ} {w n at : ℕ} {ks : List ℕ} → Ready t at w n → ks ≡ keysFrom t w n at → Run t w n at ks
-ready r e = record { asks = (r .0, omega (arith, r .1), r .2, r .3, r .4); same = e }
+ready r e = record { asks = (r .wide, omega (arith, r .near), r .few, r .inside, r .rise, r .limits); same = e }
 
 -- by the front that was read in the bytes lent
 module _ (t : List ℕ) (b : ℕ) (v : ValidBlock t b) {h : Front} (e : h ≡ frontOf (lent t b)) where
@@ -139,19 +147,22 @@ module _ (t : List ℕ) (b : ℕ) (v : ValidBlock t b) {h : Front} (e : h ≡ fr
   lows-are = rest-lows (block t b) (be 1 (block t b) 7)
 
   pub lows-run : Run t 28 (h .c - 1) (b * 2048 + 40) (rest (lows (storeOf t b .entries)))
+  unfolding limitedFrom
   lows-run =
       let f : h ≡ frontOf (block t b) = e ∙ ap frontOf (part-is t b) in
       let l : h .c ≤ 8 = omega (arith, few-children t b (v .level) (v .asked) (v .ok), ap (λ (x : Front). x .c) e) in
       let g : rest (lows (storeOf t b .entries)) ≡ keysFrom t 28 (h .c - 1) (b * 2048 + 40) =
       lows-are ∙ ap (λ (x : Front). keysFrom (block t b) 28 (x .c - 1) 40) (sym f) ∙ sym (keys-run t b 28 (h .c - 1) 40 (omega arith) (omega arith))
       in
+      let facts = node-facts (v .level) (v .asked) (storeOf t b) (v .ok) in
       record {
         asks = (
           omega arith,
           omega arith,
           omega arith,
           omega (arith, v .inside),
-          subst (λ (x : List ℕ). rising x ≡ true) g (node-facts (v .level) (v .asked) (storeOf t b) (v .ok) .lows-rise),
+          subst (λ (x : List ℕ). rising x ≡ true) g (facts .lows-rise),
+          subst (λ (x : List ℕ). every limited x ≡ true) g (facts .lows-limited),
         );
         same = g;
       }

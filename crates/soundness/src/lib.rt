@@ -5,6 +5,7 @@ ghost use Prim.Native.Nat.{suc, _+_, _*_, _≤_, _<_};
 ghost use lib.ListN.{length};
 ghost use Rattle.octets.specs.Lists.{every, rising, sameList};
 ghost use Rattle.spot.specs.Keys.{within};
+ghost use Rattle.spot.specs.Spots.{limitedFrom};
 ghost use Rattle.block.specs.Header.{headOf};
 ghost use Rattle.block.specs.HeaderRules.{headerOk};
 ghost use Rattle.block.specs.Node.{storeOf};
@@ -17,7 +18,7 @@ ghost use Rattle.soundness.specs.Checks.{Checked, Checkable, shapedBelow
 
 // The n rising keys, w bytes apart from at on, lie in the span.
 pub fn keys_within(t: &[u8], at: usize, w: usize, n: usize, span: visit::Span) -> bool
-    requires { ⌜ (8 ≤ w) × (w ≤ 28) × (n ≤ 64) × (at + w * n ≤ length (now t)) × (rising (keysFrom (now t) w n at) ≡ true) ⌝ }
+    requires { ⌜ (8 ≤ w) × (w ≤ 28) × (n ≤ 64) × (at + w * n ≤ length (now t)) × (rising (keysFrom (now t) w n at) ≡ true) × (limitedFrom (now t) w n at ≡ true) ⌝ }
     ensures { λ r. ⌜ r ≡ every (within (span .lo) (endOf span)) (keysFrom (now (t .entry)) w n at) ⌝ }
 {
     if n == 0 {

@@ -9,3 +9,4 @@ pub mod TopKeys
 pub mod Ranks
 pub mod Stored
 pub mod Sorted
+pub mod Limits

@@ -4,29 +4,24 @@
 use mathlib.Core.Path.{_≡_, refl, sym, ap, ap₂, subst, _∙_}
 use mathlib.Core.Logic.{_⊎_, inl, inr, ⊎-elim, _↔_}
 use mathlib.Core.Bool.{Bool, false, _&&_, _||_, and-true}
-use mathlib.Core.List.{List}
 use Prim.Native.Nat.{ℕ, _+_, _*_, _/_, _%_, _<_}
 use native.Mathlib.Nat.{div-add-mod'}
 use native.Mathlib.Omega.{arith}
 use lib.Arith.{digits-div, digits-mod}
 use lib.Dec.{T, leb, ltb, eqb, ltb→lt, lt→ltb}
 use lib.IntN.{ℤ, pos, negsuc}
-use lib.ListN.{getD}
 use lib.Signed.{leZ, ltZ, _<ℤ_, ltZ-yes}
 use mir.Syntax.{w32}
 use mir.Val.{toZ, ofZ}
 use mir.ValLaws.{toZ-ofZ}
 use borrow.Author.Tests.{le-leb}
 use Rattle.octets.specs.Lists.{all}
-use Rattle.octets.specs.Bytes.{be}
-use Rattle.octets.proofs.Bytes.{be-lt}
 use Rattle.octets.proofs.Order.{leb-same, ltb-same}
 use Rattle.spot.specs.declared.Query.{Query}
-use Rattle.spot.specs.Keys.{word, allKeys, biased, unbiased, turned, key, placeOf, rankIn, rankKey, rankOf}
-use Rattle.spot.specs.Spots.{keyAt}
+use Rattle.spot.specs.Keys.{word, allKeys, biased, unbiased, key, placeOf, rankIn, rankKey, rankOf}
 use Rattle.spot.specs.Range.{ofRange}
 use Rattle.spot.specs.Query.{query, topQuery, fromOf, lastOf, leastOf, isRing, ends, wantsKey, placed, wanted}
-use Rattle.spot.proofs.Signed.{Fits, biased-lt, biased-inj, unbiased-biased, biased-unbiased, unbiased-fits, turned-lt, toZ-turned, leZ-biased, ltZ-biased}
+use Rattle.spot.proofs.Signed.{Fits, biased-lt, biased-inj, unbiased-biased, biased-unbiased, unbiased-fits, leZ-biased, ltZ-biased}
 use Rattle.spot.proofs.Halves.{high, low, lex-to, lex-from, pair-lt, pair-eq, rank-is}
 
 -- ---- keys and identities
@@ -160,28 +155,22 @@ pub ring-is : (q : Query) → Fits (q .x1) → Fits (q .x2) → ltZ (q .x2) (q .
 unfolding isRing fromOf lastOf
 ring-is q f1 f2 = ring-words (q .x1) (q .x2) f1 f2
 
--- the same of a spot on the card, whose place and rank are read as they are
-module _ (q : Query) (s : List ℕ) (i : ℕ) (f1 : Fits (q .x1)) (f2 : Fits (q .x2)) (fy : Fits (q .y)) (bytes : (j : ℕ) → getD s j 0 < 256)
-    (plain : isRing q ≡ false) where
-  -- of a range that is no ring
+-- the code's test of a key by its place and its rank, for a query that is no ring: each number comes back from its bits
+module _ (q : Query) (k : ℕ) (f1 : Fits (q .x1)) (f2 : Fits (q .x2)) (fy : Fits (q .y)) (plain : isRing q ≡ false) (small : k < allKeys) where
   between : (p r : ℤ) → wanted p r (q .x1) (q .x2) (q .y) ≡ ofRange (q .x1) (q .x2) p && leZ (q .y) r
   unfolding ofRange
   between p r = rw (ring-is q f1 f2 ∙ plain) refl
 
-  pub card-wants : wanted (toZ w32 (be 4 s i)) (toZ w32 (be 4 s (i + 4))) (q .x1) (q .x2) (q .y) ≡ wantsKey q (keyAt s i)
-  unfolding keyAt query
-  card-wants =
-      let u : ℕ = turned (be 4 s i) in
-      let v : ℕ = turned (be 4 s (i + 4)) in
-      ap₂ (λ (p r : ℤ). wanted p r (q .x1) (q .x2) (q .y)) (toZ-turned (be 4 s i) (be-lt 4 s i bytes)) (toZ-turned (be 4 s (i + 4)) (be-lt 4 s (i + 4) bytes)) ∙
-      between (unbiased u) (unbiased v) ∙
-      report-wants (q .x1) (q .x2) f1 f2 (unbiased u) (unbiased v) (unbiased-fits u (turned-lt (be 4 s i))) (unbiased-fits v (turned-lt (be 4 s (i + 4)))) (q .y) fy ∙
-      ap (wantsKey q) (ap₂ (λ (x y : ℕ). x * word + y) (biased-unbiased u) (biased-unbiased v))
+  parts-wants : wanted (placeOf k) (rankIn k) (q .x1) (q .x2) (q .y) ≡ wantsKey q k
+  unfolding query
+  parts-wants =
+      between (placeOf k) (rankIn k)
+      ∙ report-wants (q .x1) (q .x2) f1 f2 (placeOf k) (rankIn k) (place-fits k small) (rank-fits k) (q .y) fy
+      ∙ ap (wantsKey q) (key-of-parts k)
 
-  -- as the code asks it: each number comes back from its bits
-  pub read-wants : {b : Bool} (p r : ℤ) → Fits p → Fits r → p ≡ toZ w32 (be 4 s i) → r ≡ toZ w32 (be 4 s (i + 4))
+  pub key-wants : {b : Bool} (p r : ℤ) → Fits p → Fits r → p ≡ placeOf k → r ≡ rankIn k
       → b ≡ wanted (toZ w32 (ofZ w32 p)) (toZ w32 (ofZ w32 r)) (toZ w32 (ofZ w32 (q .x1))) (toZ w32 (ofZ w32 (q .x2))) (toZ w32 (ofZ w32 (q .y)))
-      → b ≡ wantsKey q (keyAt s i)
-  read-wants p r fp fr d e g =
+      → b ≡ wantsKey q k
+  key-wants p r fp fr d e g =
       g ∙ rw (toZ-ofZ w32 p fp, toZ-ofZ w32 r fr, toZ-ofZ w32 (q .x1) f1, toZ-ofZ w32 (q .x2) f2, toZ-ofZ w32 (q .y) fy)
-      (ap₂ (λ (x y : ℤ). wanted x y (q .x1) (q .x2) (q .y)) d e ∙ card-wants)
+      (ap₂ (λ (x y : ℤ). wanted x y (q .x1) (q .x2) (q .y)) d e ∙ parts-wants)

@@ -3,10 +3,10 @@
 use mathlib.Core.Path.{_≡_, refl, sym, ap, _∙_}
 use mathlib.Core.Logic.{⊎-elim}
 use mathlib.Core.Bool.{true}
-use Prim.Native.Nat.{ℕ, zero, suc, _+_, _-_, _≤_, _<_}
+use Prim.Native.Nat.{ℕ, suc, _+_, _-_, _≤_, _<_}
 use native.Mathlib.Omega.{arith}
-use lib.IntN.{ℤ, pos, negsuc, _+ℤ_, _-ℤ_, subℕ}
-use lib.Signed.{mag, leZ, ltZ}
+use lib.IntN.{ℤ, pos, negsuc, _+ℤ_, _-ℤ_}
+use lib.Signed.{leZ, ltZ}
 use lib.Dec.{leb, ltb}
 use borrow.Author.Tests.{leb-true, le-leb, lt-leb, le-ltb, lt-ltb}
 use mir.Syntax.{w32, w64}
@@ -42,11 +42,11 @@ biased-inj (pos a) (negsuc b) f g e = absurd (omega arith)
 biased-inj (negsuc a) (pos b) f g e = absurd (omega arith)
 biased-inj (negsuc a) (negsuc b) f g e = ap negsuc (omega (arith, f .sfits, g .sfits))
 
-unbiased-high : (u : ℕ) → half ≤ u → unbiased u ≡ pos (u - half)
+pub unbiased-high : (u : ℕ) → half ≤ u → unbiased u ≡ pos (u - half)
 unfolding unbiased
 unbiased-high u h = rw (le-leb half u h)
 
-unbiased-low : (u : ℕ) → u < half → unbiased u ≡ negsuc (half - suc u)
+pub unbiased-low : (u : ℕ) → u < half → unbiased u ≡ negsuc (half - suc u)
 unfolding unbiased
 unbiased-low u h = rw (lt-leb half u h)
 
@@ -107,7 +107,7 @@ pub wide64 : (z : ℤ) → Fits z → SFits w64 z
 wide64 z f = record { sfits = omega (arith, f .sfits) }
 
 -- a signed number of 32 bits comes back from its 64 bits
-pub wide-back : (z : ℤ) → Fits z → toZ w64 (ofZ w64 (toZ w32 (ofZ w32 z))) ≡ z
+wide-back : (z : ℤ) → Fits z → toZ w64 (ofZ w64 (toZ w32 (ofZ w32 z))) ≡ z
 wide-back z f = ap (λ (x : ℤ). toZ w64 (ofZ w64 x)) (toZ-ofZ w32 z f) ∙ toZ-ofZ w64 z (wide64 z f)
 
 sum64 : (z : ℤ) → Fits z → z +ℤ pos 2147483648 ≡ pos (biased z)
@@ -132,17 +132,3 @@ less64 u l =
 pub low64 : (u : ℕ) → u < 4294967296 → toZ w64 (ofZ w64 (toZ w64 u -ℤ pos 2147483648)) ≡ unbiased u
 low64 u l =
     ap (λ (x : ℤ). toZ w64 (ofZ w64 x)) (less64 u l) ∙ toZ-ofZ w64 (unbiased u) (wide64 (unbiased u) (unbiased-fits u l))
-
-diff-lt : (a b : ℕ) → a < 4294967296 → b < 4294967296 → mag (subℕ a b) < 4294967296
-diff-lt a b h k =
-    ⊎-elim (λ (l : b ≤ a). rw (le-ltb a b l) (omega arith)) (λ (l : a < b). rw (lt-ltb a b l) (omega arith)) (less-or-not b a)
-
--- a difference fits 64 bits
-pub gap-fits : (a b : ℤ) → Fits a → Fits b → SFits w64 (a -ℤ b)
-gap-fits (pos a) (pos zero) f g = record { sfits = omega (arith, f .sfits) }
-gap-fits (pos a) (pos (suc b)) f g = record { sfits = omega (arith, diff-lt a (suc b) (omega (arith, f .sfits)) (omega (arith, g .sfits))) }
-gap-fits (pos a) (negsuc b) f g = record { sfits = omega (arith, f .sfits, g .sfits) }
-gap-fits (negsuc a) (pos zero) f g = record { sfits = omega (arith, diff-lt 0 (suc a) (omega arith) (omega (arith, f .sfits))) }
-gap-fits (negsuc a) (pos (suc b)) f g = record { sfits = omega (arith, f .sfits, g .sfits) }
-gap-fits (negsuc a) (negsuc b) f g =
-    record { sfits = omega (arith, diff-lt (suc b) (suc a) (omega (arith, g .sfits)) (omega (arith, f .sfits))) }

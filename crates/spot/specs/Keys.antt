@@ -76,3 +76,18 @@ keyOfTop r = rankKey (turnLow r)
 -- "from its entry's lowest identity up to, and without, the next entry's"
 unfoldable pub within : ℕ → ℕ → ℕ → Bool
 within lo hi k = all (leb lo k ∷ ltb k hi ∷ [])
+
+-- request 2026-07: "A place read from a card or an argument must lie in −1,000,000 to 1,000,000 centimetres"
+unfoldable pub inLimits : ℤ → Bool
+inLimits place = leZ (negsuc 999999) place && leZ place (pos 1000000)
+
+-- a key with such a place
+unfoldable pub limited : ℕ → Bool
+limited k = inLimits (placeOf k)
+
+-- the first of those keys, and the first behind them (proofs/Limits)
+unfoldable pub startKey : ℕ
+startKey = 9219077069558775808
+
+unfoldable pub endKey : ℕ
+endKey = 9227667008445743104

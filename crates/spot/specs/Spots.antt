@@ -1,13 +1,13 @@
 -- Spots on the card, and lists of spots.
 -- Assumes nothing.
 use Prim.Native.Nat.{ℕ, _+_, _*_, _/_, _%_}
-use mathlib.Core.Bool.{cond, not}
+use mathlib.Core.Bool.{Bool, cond, not}
 use mathlib.Core.List.{List, [], _∷_, _++_}
 use mathlib.Core.Option.{Option, none, some}
 use lib.Dec.{ltb, leb, eqb}
-use Rattle.octets.specs.Lists.{keep, records}
+use Rattle.octets.specs.Lists.{every, keep, records}
 use Rattle.octets.specs.Bytes.{be, bytesOf, putBe}
-use Rattle.spot.specs.Keys.{word, turned, topKey}
+use Rattle.spot.specs.Keys.{word, turned, topKey, limited}
 use Rattle.spot.specs.declared.Spot.{Spot}
 
 -- the key in the 8 bytes from index i: "signed ones two's complement"
@@ -17,6 +17,10 @@ keyAt s i = turned (be 4 s i) * word + turned (be 4 s (i + 4))
 -- the keys of n records of w bytes from index at on
 abbrev pub keysFrom : List ℕ → ℕ → ℕ → ℕ → List ℕ
 keysFrom s w n at = records (keyAt s) w n at
+
+-- request 2026-07: their places are inside the limits
+unfoldable pub limitedFrom : List ℕ → ℕ → ℕ → ℕ → Bool
+limitedFrom s w n at = every limited (keysFrom s w n at)
 
 -- "spots of 12 bytes: place, rank, track"
 unfoldable pub spotAt : List ℕ → ℕ → Spot

@@ -1,12 +1,13 @@
 // Spots, their keys, and queries over them. The only crate that meets signed numbers.
 ghost use mathlib.Core.Path.{_≡_};
+ghost use mathlib.Core.Bool.{true};
 ghost use Prim.Native.Nat.{_+_, _≤_, _<_};
 ghost use lib.IntN.{_-ℤ_};
 ghost use lib.ListN.{length};
 ghost use mir.Syntax.{w32};
 ghost use mir.Val.{toZ};
 ghost use Rattle.octets.specs.Bytes.{be};
-ghost use Rattle.spot.specs.Keys.{biased, unbiased, turned, key, rankKey, turnLow, topKey, keyOfTop};
+ghost use Rattle.spot.specs.Keys.{biased, unbiased, turned, key, placeOf, rankIn, rankKey, turnLow, topKey, keyOfTop, inLimits, limited};
 ghost use Rattle.spot.specs.Spots.{keyAt, spotAt, putKey, putSpot};
 ghost use Rattle.spot.specs.Query.{query, topQuery, allPlaces, everything, fromOf, lastOf, leastOf, lowestOf, highestOf, isRing, ends, placed, wantsKey, wanted};
 
@@ -14,6 +15,11 @@ ghost use Rattle.spot.specs.Query.{query, topQuery, allPlaces, everythin
 pub const SPOT_BYTES: usize = 12;
 
 pub const KEY_BYTES: usize = 8;
+
+// The first key with a place inside the limits, and the first key behind them: places are -1,000,000 to 1,000,000.
+pub const START_KEY: u64 = 9219077069558775808;
+
+pub const END_KEY: u64 = 9227667008445743104;
 
 // A spot: its key, which stands for place and rank together, and its track number.
 pub struct Spot {
@@ -59,17 +65,38 @@ pub fn read_i32(s: &[u8], at: usize) -> i32
     unbias(turn(octets::read32(s, at)))
 }
 
-// The difference of two signed numbers, which 64 bits hold.
-pub fn gap(a: i32, b: i32) -> i64
+// The place is one that a spot may have.
+pub fn in_limits(place: i32) -> bool
+    ensures { λ r. ⌜ r ≡ inLimits place ⌝ }
+{
+    (-1000000 <= place) & (place <= 1000000)
+}
+
+// The difference of two such places: 32 bits hold it.
+pub fn gap(a: i32, b: i32) -> i32
+    requires { ⌜ (inLimits a ≡ true) × (inLimits b ≡ true) ⌝ }
     ensures { λ r. ⌜ r ≡ a -ℤ b ⌝ }
 {
-    (a as i64) - (b as i64)
+    a - b
 }
 
 pub fn key_of(place: i32, rank: i32) -> u64
     ensures { λ r. ⌜ r ≡ key place rank ⌝ }
 {
     bias(place) * 4294967296 + bias(rank)
+}
+
+// The place and the rank of a key.
+pub fn place_of(k: u64) -> i32
+    ensures { λ r. ⌜ r ≡ placeOf k ⌝ }
+{
+    unbias(k / 4294967296)
+}
+
+pub fn rank_in(k: u64) -> i32
+    ensures { λ r. ⌜ r ≡ rankIn k ⌝ }
+{
+    unbias(k % 4294967296)
 }
 
 // A key with its halves the other way round.
@@ -100,11 +127,20 @@ pub fn key_of_top(r: u64) -> u64
     rank_key(turn_low(r))
 }
 
-pub fn read_key(s: &[u8], at: usize) -> u64
+// The key of 8 bytes, whatever they hold: for those that find out whether it may stand there.
+pub fn raw_key(s: &[u8], at: usize) -> u64
     requires { ⌜ at + 8 ≤ length (now s) ⌝ }
     ensures { λ r. ⌜ r ≡ keyAt (now (s .entry)) at ⌝ }
 {
     turn(octets::read32(s, at)) * 4294967296 + turn(octets::read32(s, at + 4))
+}
+
+// The reader of an identity, for all that use one: its place is inside the limits.
+pub fn read_key(s: &[u8], at: usize) -> u64
+    requires { ⌜ (at + 8 ≤ length (now s)) × (limited (keyAt (now s) at) ≡ true) ⌝ }
+    ensures { λ r. ⌜ (r ≡ keyAt (now (s .entry)) at) × (limited r ≡ true) ⌝ }
+{
+    raw_key(s, at)
 }
 
 pub fn write_key(s: &mut [u8], at: usize, k: u64)
@@ -116,7 +152,7 @@ pub fn write_key(s: &mut [u8], at: usize, k: u64)
 }
 
 pub fn read_spot(s: &[u8], at: usize) -> Spot
-    requires { ⌜ at + 12 ≤ length (now s) ⌝ }
+    requires { ⌜ (at + 12 ≤ length (now s)) × (limited (keyAt (now s) at) ≡ true) ⌝ }
     ensures { λ r. ⌜ r ≡ spotAt (now (s .entry)) at ⌝ }
 {
     let key = read_key(s, at);

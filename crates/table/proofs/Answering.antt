@@ -25,11 +25,11 @@ use Rattle.query.specs.declared.Sum.{Sum}
 use Rattle.report.specs.Reports.{written}
 use Rattle.report.proofs.Reports.{report-blocks, report-whole, report-length}
 use Rattle.table.specs.Calls.{Call, format, report, count, check, kind, Lengths}
-use Rattle.table.specs.Answers.{ofTable, withOutput, lent, fewEnough, earlyNumber, unlessRefused, spotsAnswer, outputLeft, mapLeft}
+use Rattle.table.specs.Answers.{ofTable, withOutput, lent, fewEnough, placeInside, earlyNumber, unlessRefused, spotsAnswer, outputLeft, mapLeft}
 use Rattle.table.specs.Queries.{walkAnswer, WalkPost, ReportPost, countAnswer, CountPost, CheckPost}
 use Rattle.table.specs.Updates.{FormatPost}
 
--- refused by lengths and arguments: 1, then 2, then 6; else the call's own answer
+-- refused by lengths and arguments: 1, then 2, then 6, then 9; else the call's own answer
 module _ (l : Lengths) (c : Call) where
   pub number-short : tableSized (l .table) ≡ false → earlyNumber l c ≡ 1
   unfolding earlyNumber
@@ -43,17 +43,22 @@ module _ (l : Lengths) (c : Call) where
   unfolding earlyNumber
   number-over e f g = rw (e, f, g)
 
-  pub number-fine : tableSized (l .table) ≡ true → lent l (kind c) ≡ true → fewEnough (kind c) ≡ true → earlyNumber l c ≡ 0
+  pub number-outside : tableSized (l .table) ≡ true → lent l (kind c) ≡ true → fewEnough (kind c) ≡ true → placeInside c ≡ false → earlyNumber l c ≡ 9
   unfolding earlyNumber
-  number-fine e f g = rw (e, f, g)
+  number-outside e f g h = rw (e, f, g, h)
+
+  pub number-fine : tableSized (l .table) ≡ true → lent l (kind c) ≡ true → fewEnough (kind c) ≡ true → placeInside c ≡ true → earlyNumber l c ≡ 0
+  unfolding earlyNumber
+  number-fine e f g h = rw (e, f, g, h)
 
   pub short-table : (a : Answer) → tableSized (l .table) ≡ false → unlessRefused (earlyNumber l c) a ≡ answer 1 0
   unfolding unlessRefused
   short-table a e = ap (λ (n : ℕ). unlessRefused n a) (number-short e)
 
-  pub long-enough : (a : Answer) → tableSized (l .table) ≡ true → lent l (kind c) ≡ true → fewEnough (kind c) ≡ true → unlessRefused (earlyNumber l c) a ≡ a
+  pub long-enough : (a : Answer) → tableSized (l .table) ≡ true → lent l (kind c) ≡ true → fewEnough (kind c) ≡ true → placeInside c ≡ true
+      → unlessRefused (earlyNumber l c) a ≡ a
   unfolding unlessRefused
-  long-enough a e f g = ap (λ (n : ℕ). unlessRefused n a) (number-fine e f g)
+  long-enough a e f g h = ap (λ (n : ℕ). unlessRefused n a) (number-fine e f g h)
 
 -- Format
 pub formats : (t t′ : List ℕ) (r : Answer) → r ≡ cond (tableSized (length t)) (answer 0 0) (answer 1 0) → t′ ≡ cond (tableSized (length t)) (formatted (length t)) t
@@ -61,7 +66,7 @@ pub formats : (t t′ : List ℕ) (r : Answer) → r ≡ cond (tableSized (lengt
 formats t t′ r a w = record { answered = a ∙ go (tableSized (length t)) refl; written = w }
   where
     go : (b : Bool) → tableSized (length t) ≡ b → cond b (answer 0 0) (answer 1 0) ≡ unlessRefused (earlyNumber (ofTable t) format) (answer 0 0)
-    go true e = sym (long-enough (ofTable t) format (answer 0 0) e refl refl)
+    go true e = sym (long-enough (ofTable t) format (answer 0 0) e refl refl refl)
     go false e = sym (short-table (ofTable t) format (answer 0 0) e)
 
 -- Count
@@ -79,18 +84,18 @@ whole-count broken h = absurd (true≢false h)
 whole-count (walked found blocks) h = refl
 
 pub count-broken : (t : List ℕ) (r : Answer) → tableSized (length t) ≡ true → isBroken (walkTable t everything) ≡ true → r ≡ answer 3 0 → CountPost t r
-count-broken t r e b a = record { answered = a ∙ broken-count (walkTable t everything) b ∙ sym (long-enough (ofTable t) count _ e refl refl) }
+count-broken t r e b a = record { answered = a ∙ broken-count (walkTable t everything) b ∙ sym (long-enough (ofTable t) count _ e refl refl refl) }
 
 pub count-whole : (t : List ℕ) (r : Answer) → tableSized (length t) ≡ true → isBroken (walkTable t everything) ≡ false → r ≡ answer 0 (length (spots (walkTable t everything)))
     → CountPost t r
-count-whole t r e b a = record { answered = a ∙ whole-count (walkTable t everything) b ∙ sym (long-enough (ofTable t) count _ e refl refl) }
+count-whole t r e b a = record { answered = a ∙ whole-count (walkTable t everything) b ∙ sym (long-enough (ofTable t) count _ e refl refl refl) }
 
 -- Check
 pub check-short : (t : List ℕ) (r : Answer) → tableSized (length t) ≡ false → r ≡ answer 1 0 → CheckPost t r
 check-short t r e a = record { answered = a ∙ sym (short-table (ofTable t) check _ e) }
 
 pub check-says : (t : List ℕ) (r : Answer) (b : Bool) → tableSized (length t) ≡ true → sound t ≡ b → r ≡ answer 0 (cond b 1 0) → CheckPost t r
-check-says t r b e s a = record { answered = a ∙ ap (λ (x : Bool). answer 0 (cond x 1 0)) (sym s) ∙ sym (long-enough (ofTable t) check _ e refl refl) }
+check-says t r b e s a = record { answered = a ∙ ap (λ (x : Bool). answer 0 (cond x 1 0)) (sym s) ∙ sym (long-enough (ofTable t) check _ e refl refl refl) }
 
 -- a call that hands out the spots of a walk
 module _ (w : Walk) (out map : List ℕ) where
@@ -163,7 +168,7 @@ told-whole ok t q e h = not-true (isBroken (walkTable t q)) (sym e ∙ h)
 -- Report, counted
 module _ (x1 x2 y : ℤ) (t out map : List ℕ) {seen : List ℕ} {s : Sum} (e : tableSized (length t) ≡ true) (f : length map ≡ 512) (g : TableCounted t (query x1 x2 y) seen s) (r : Answer) where
   fine : earlyNumber (withOutput t out map) (report x1 x2 y) ≡ 0
-  fine = number-fine (withOutput t out map) (report x1 x2 y) e (eq-eqb (length map) 512 f) refl
+  fine = number-fine (withOutput t out map) (report x1 x2 y) e (eq-eqb (length map) 512 f) refl refl
 
   whole : s .ok ≡ true → isBroken (reportTable t x1 x2 y) ≡ false
   whole h = report-whole t x1 x2 y ∙ told-whole (s .ok) t (query x1 x2 y) (g .ok) h

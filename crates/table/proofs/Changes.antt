@@ -2,7 +2,7 @@
 -- Assumes nothing.
 use mathlib.Core.Path.{_≡_, refl, ap, ap₂, sym, subst, _∙_}
 use mathlib.Core.Logic.{_⊎_, ⊎-elim, _≢_}
-use mathlib.Core.Bool.{true, false}
+use mathlib.Core.Bool.{Bool, true, false}
 use mathlib.Core.List.{List, [], _∷_, _++_}
 use mathlib.Core.Option.{Option, none, some}
 use Prim.Native.Nat.{ℕ, _<_}
@@ -12,7 +12,9 @@ use lib.IntN.{ℤ}
 use lib.ListN.{length, drop, replicate}
 use borrow.Author.Tests.{ne-eqb, le-leb, lt-leb}
 use Rattle.octets.specs.Lists.{has}
-use Rattle.spot.specs.Keys.{key}
+use Rattle.spot.specs.Keys.{key, inLimits, limited}
+use Rattle.spot.proofs.Limits.{limited-key}
+use Rattle.spot.proofs.Signed.{Fits}
 use Rattle.block.specs.Answers.{answer}
 use Rattle.block.specs.declared.Answer.{Answer}
 use Rattle.block.specs.Table.{tableSized}
@@ -22,9 +24,9 @@ use Rattle.revise.specs.Numbers.{addNumber}
 use Rattle.revise.specs.Revising.{Lent, Revised}
 use Rattle.revise.proofs.Calls.{two-ways, header-breaks}
 use Rattle.table.specs.Calls.{Call, add, withdraw, kind}
-use Rattle.table.specs.Answers.{withScratch, lent, fewEnough, earlyNumber, outcomes}
+use Rattle.table.specs.Answers.{withScratch, lent, fewEnough, placeInside, earlyNumber, outcomes}
 use Rattle.table.specs.Updates.{scratchLeft, UpdatePost, ChangePost, AddPost, WithdrawPost}
-use Rattle.table.proofs.Answering.{number-short, number-lent, number-fine}
+use Rattle.table.proofs.Answering.{number-short, number-lent, number-outside, number-fine}
 
 -- ---- any call that changes the table
 
@@ -78,10 +80,18 @@ module _ (c : Call) (due : Answer) (after : ℕ → Option ℕ) (t w : List ℕ)
   pub change-lent : (j : ℕ) → tableSized (length t) ≡ true → lent (withScratch t w) (kind c) ≡ false → r ≡ answer 2 0 → ChangePost c j due after t w r t w
   change-lent j e h a = change-refused j 2 (λ x. omega arith) (λ x. omega arith) (number-lent (withScratch t w) c e h) a (update-lent e h a)
 
+  -- the place is outside the limits
+  pub change-outside : (j : ℕ) → tableSized (length t) ≡ true → lent (withScratch t w) (kind c) ≡ true → fewEnough (kind c) ≡ true → placeInside c ≡ false → r ≡ answer 9 0
+      → ChangePost c j due after t w r t w
+  unfolding scratchLeft
+  change-outside j e h f o a =
+      let early = number-outside (withScratch t w) c e h f o in
+      change-refused j 9 (λ x. omega arith) (λ x. omega arith) early a (update-refused 9 (λ x. omega arith) early refl a)
+
   -- the lengths are right
-  module _ {t′ w₁ : List ℕ} {j n : ℕ} (l : Lent t w) (asks : lent (withScratch t w) (kind c) ≡ leb (length t) (length w)) (few : fewEnough (kind c) ≡ true) (plain : due .detail ≡ 0) (g : Revised t t′ w w₁ j (due .number) (outcomes c) after n) (a : r ≡ answer n 0) where
+  module _ {t′ w₁ : List ℕ} {j n : ℕ} (l : Lent t w) (asks : lent (withScratch t w) (kind c) ≡ leb (length t) (length w)) (few : fewEnough (kind c) ≡ true) (inside : placeInside c ≡ true) (plain : due .detail ≡ 0) (g : Revised t t′ w w₁ j (due .number) (outcomes c) after n) (a : r ≡ answer n 0) where
     fine : earlyNumber (withScratch t w) c ≡ 0
-    fine = number-fine (withScratch t w) c (l .sized) (asks ∙ le-leb (length t) (length w) (l .room)) few
+    fine = number-fine (withScratch t w) c (l .sized) (asks ∙ le-leb (length t) (length w) (l .room)) few inside
 
     revised-post : {w′ : List ℕ} → w′ ≡ scratchLeft (length t) n w → ChangePost c j due after t w r t′ w′
     revised-post left =
@@ -126,6 +136,14 @@ three-ways n d h = two-ways n (rw (ne-eqb n 4 d) at h)
 pub key-is : (place rank a b : ℤ) {k : ℕ} → a ≡ place → b ≡ rank → k ≡ key a b → k ≡ key place rank
 key-is place rank a b p q e = e ∙ ap₂ key p q
 
+-- and the place's test
+pub inside-is : (place a : ℤ) {b : Bool} → a ≡ place → b ≡ inLimits a → inLimits place ≡ b
+inside-is place a p e = sym (e ∙ ap inLimits p)
+
+-- a key that is put in or taken out: its place passed the test
+pub key-limited : (place rank a b : ℤ) {k : ℕ} → Fits place → Fits rank → a ≡ place → b ≡ rank → k ≡ key a b → inLimits place ≡ true → limited k ≡ true
+key-limited place rank a b f g p q e h = ap limited (key-is place rank a b p q e) ∙ limited-key place rank f g ∙ h
+
 -- ---- Add
 
 module _ (place rank : ℤ) (track : ℕ) (t w : List ℕ) (r : Answer) where
@@ -135,16 +153,19 @@ module _ (place rank : ℤ) (track : ℕ) (t w : List ℕ) (r : Answer) where
   pub add-lent : tableSized (length t) ≡ true → length w < length t → r ≡ answer 2 0 → AddPost place rank track t w r t w
   add-lent e h a = change-lent (add place rank track) _ _ t w r (key place rank) e (lt-leb (length t) (length w) h) a
 
-  module _ {t′ w₁ : List ℕ} {n k : ℕ} (l : Lent t w) (e : k ≡ key place rank)
+  pub add-outside : Lent t w → inLimits place ≡ false → r ≡ answer 9 0 → AddPost place rank track t w r t w
+  add-outside l o a = change-outside (add place rank track) _ _ t w r (key place rank) (l .sized) (le-leb (length t) (length w) (l .room)) refl o a
+
+  module _ {t′ w₁ : List ℕ} {n k : ℕ} (l : Lent t w) (inside : inLimits place ≡ true) (e : k ≡ key place rank)
       (g : Revised t t′ w w₁ k (addNumber (length t) (liveCount t) (isLive (live t k))) (0 ∷ 3 ∷ 4 ∷ []) (withKey k (some track) (live t)) n) where
     of-key : Revised t t′ w w₁ (key place rank) (addNumber (length t) (liveCount t) (isLive (live t (key place rank)))) (0 ∷ 3 ∷ 4 ∷ []) (withKey (key place rank) (some track) (live t)) n
     of-key = subst (λ (i : ℕ). Revised t t′ w w₁ i (addNumber (length t) (liveCount t) (isLive (live t i))) (0 ∷ 3 ∷ 4 ∷ []) (withKey i (some track) (live t)) n) e g
 
     pub add-full : n ≡ 4 → r ≡ answer 4 0 → AddPost place rank track t w r t′ w₁
-    add-full f a = change-full (add place rank track) _ _ t w r l refl refl refl of-key (a ∙ ap (λ (i : ℕ). answer i 0) (sym f)) f
+    add-full f a = change-full (add place rank track) _ _ t w r l refl refl inside refl of-key (a ∙ ap (λ (i : ℕ). answer i 0) (sym f)) f
 
     pub add-ends : {w′ : List ℕ} → r ≡ answer n 0 → n ≢ 4 → w′ ≡ replicate (length t) 0 ++ drop (length t) w₁ → AddPost place rank track t w r t′ w′
-    add-ends a d cleared = change-ends (add place rank track) _ _ t w r l refl refl refl of-key a (three-ways n d (g .numbers)) cleared
+    add-ends a d cleared = change-ends (add place rank track) _ _ t w r l refl refl inside refl of-key a (three-ways n d (g .numbers)) cleared
 
 -- ---- Withdraw
 
@@ -155,7 +176,10 @@ module _ (place rank : ℤ) (t w : List ℕ) (r : Answer) where
   pub withdraw-lent : tableSized (length t) ≡ true → length w < length t → r ≡ answer 2 0 → WithdrawPost place rank t w r t w
   withdraw-lent e h a = change-lent (withdraw place rank) _ _ t w r (key place rank) e (lt-leb (length t) (length w) h) a
 
-  pub withdraw-ends : {t′ w₁ w′ : List ℕ} {n k : ℕ} → Lent t w → k ≡ key place rank → Revised t t′ w w₁ k 0 (0 ∷ 3 ∷ []) (withKey k none (live t)) n → r ≡ answer n 0
+  pub withdraw-outside : Lent t w → inLimits place ≡ false → r ≡ answer 9 0 → WithdrawPost place rank t w r t w
+  withdraw-outside l o a = change-outside (withdraw place rank) _ _ t w r (key place rank) (l .sized) (le-leb (length t) (length w) (l .room)) refl o a
+
+  pub withdraw-ends : {t′ w₁ w′ : List ℕ} {n k : ℕ} → Lent t w → inLimits place ≡ true → k ≡ key place rank → Revised t t′ w w₁ k 0 (0 ∷ 3 ∷ []) (withKey k none (live t)) n → r ≡ answer n 0
       → w′ ≡ replicate (length t) 0 ++ drop (length t) w₁ → WithdrawPost place rank t w r t′ w′
-  withdraw-ends {t′} {w₁} {w′} {n} {k} l e g a cleared =
-      change-ends (withdraw place rank) _ _ t w r l refl refl refl (subst (λ (i : ℕ). Revised t t′ w w₁ i 0 (0 ∷ 3 ∷ []) (withKey i none (live t)) n) e g) a (two-ways n (g .numbers)) cleared
+  withdraw-ends {t′} {w₁} {w′} {n} {k} l inside e g a cleared =
+      change-ends (withdraw place rank) _ _ t w r l refl refl inside refl (subst (λ (i : ℕ). Revised t t′ w w₁ i 0 (0 ∷ 3 ∷ []) (withKey i none (live t)) n) e g) a (two-ways n (g .numbers)) cleared

@@ -6,3 +6,4 @@ pub mod Topping
 pub mod Ranked
 pub mod Writing
 pub mod Sizing
+pub mod Given

@@ -268,6 +268,7 @@ module _ (t : List ℕ) (x1 x2 : ℤ) (k : ℕ) (given : List Spot) (whole : isB
           block = r .block;
           read = r .read;
           held = r .held;
+          limits = r .limits;
         }
 
     pub done-there : Done t x1 x2 k given (blocksRead (walkTable t (topQuery x1 x2 y)))

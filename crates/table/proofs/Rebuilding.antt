@@ -56,7 +56,7 @@ module _ (t w : List ℕ) (r : Answer) where
 module _ (t t′ w w′ w″ : List ℕ) (r : Answer) (ok : Bool) (e : tableSized (length t) ≡ true) (l : length t ≤ length w) (g : Renewed t t′ w w′ (liveSpots t) true ok)
     (cleared : w″ ≡ replicate (length t) 0 ++ drop (length t) w′) where
   fine : asked t w ≡ 0
-  fine = number-fine (withScratch t w) rebuild e (le-leb (length t) (length w) l) refl
+  fine = number-fine (withScratch t w) rebuild e (le-leb (length t) (length w) l) refl refl
 
   left : w″ ≡ replicate (length t) 0 ++ drop (length t) w
   left = cleared ∙ ap (λ (x : List ℕ). replicate (length t) 0 ++ x) (g .rest)

@@ -22,9 +22,9 @@ use Rattle.block.specs.Table.{tableSized, sizedFor, blocksOf}
 use Rattle.tree.specs.Walk.{Walk, isBroken, spots, blocksRead}
 use Rattle.tree.specs.ReadMap.{readMap}
 use Rattle.tree.proofs.Marks.{map-bit, read-mem, zero-marked}
-use Rattle.tree.proofs.Sources.{Source, InTable}
+use Rattle.tree.proofs.Sources.{Source, sources-limited, InTable}
 use Rattle.table.specs.Calls.{Call, queries, kind}
-use Rattle.table.specs.Answers.{withOutput, lent, fewEnough, earlyNumber, outputLeft, outcomes}
+use Rattle.table.specs.Answers.{withOutput, lent, fewEnough, placeInside, earlyNumber, outputLeft, outcomes}
 use Rattle.table.specs.Queries.{QueryPost, SearchPost}
 use Rattle.table.proofs.Answering.{number-short, number-lent, number-fine, walk-early, walk-broken, walk-many, walk-given}
 
@@ -37,7 +37,7 @@ pub record Serves (t : List ℕ) (x1 x2 : ℤ) (P : Type 0) (w : Walk) (given : 
   pub places : (b : ℕ) → List·Memᴰ b blocks → InTable t b
   pub map : readMap (blocksRead w) ≡ readMap blocks
 
-module _ (c : Call) (lends : kind c ≡ queries) (may : outcomes c ≡ 0 ∷ 3 ∷ 5 ∷ []) (x1 x2 : ℤ) (P : Type 0) (w : Walk) (t out map : List ℕ) (r : Answer) where
+module _ (c : Call) (lends : kind c ≡ queries) (inside : placeInside c ≡ true) (may : outcomes c ≡ 0 ∷ 3 ∷ 5 ∷ []) (x1 x2 : ℤ) (P : Type 0) (w : Walk) (t out map : List ℕ) (r : Answer) where
   abbrev Post : List ℕ → List ℕ → Type 0
   Post out′ map′ = SearchPost c x1 x2 (P → QueryPost c w t out map r out′ map′) t out map r out′ map′
 
@@ -67,7 +67,7 @@ module _ (c : Call) (lends : kind c ≡ queries) (may : outcomes c ≡ 0 ∷ 3 �
 
     module _ (f : eqb (length map) 512 ≡ true) where
       fine : earlyNumber (withOutput t out map) c ≡ 0
-      fine = number-fine (withOutput t out map) c e (lent-as f) (ap fewEnough lends)
+      fine = number-fine (withOutput t out map) c e (lent-as f) (ap fewEnough lends) inside
 
       outcome : (n d : ℕ) → r ≡ answer n d → has n (0 ∷ 3 ∷ 5 ∷ []) ≡ true → has (r .number) (outcomes c) ≡ true
       outcome n d a h = ap₂ (λ (x : Answer) (l : List ℕ). has (x .number) l) a may ∙ h
@@ -134,5 +134,6 @@ module _ (c : Call) (lends : kind c ≡ queries) (may : outcomes c ≡ 0 ∷ 3 �
                       let set : bit (readMap blocks) (u .block) ≡ true = map-bit blocks (u .block) (omega (arith, b .low, few-blocks)) ∙ read-mem blocks (u .block) (u .read) in
                       (u .block, ap (λ (x : List ℕ). bit x (u .block)) v ∙ set, u .held, λ y. omega (arith, b .some));
                   header = ap (λ (x : List ℕ). bit x 0) v ∙ zero-marked blocks;
+                  limits = sources-limited given (d .from);
                 };
           }

@@ -8,23 +8,27 @@ use native.Mathlib.Omega.{arith}
 use lib.IntN.{ℤ}
 use lib.ListN.{length, getD, take, drop, take-append-drop}
 use lib.Seq.{take-all, drop-at}
+use Rattle.octets.specs.Lists.{every}
 use Rattle.octets.proofs.Records.{length-records, records-more}
 use Rattle.spot.specs.declared.Spot.{Spot}
 use Rattle.spot.specs.declared.Query.{Query}
-use Rattle.spot.specs.Keys.{word, rankOf}
+use Rattle.spot.specs.Keys.{word, rankOf, limited}
 use Rattle.spot.specs.Query.{topQuery}
-use Rattle.spot.specs.Spots.{keyAt, spotAt, spotsIn, spotsBytes}
+use Rattle.spot.specs.Spots.{keyAt, spotAt, spotsIn, spotsBytes, keys, limitedFrom}
 use Rattle.spot.proofs.Card.{keyAt-lt}
 use Rattle.spot.proofs.Halves.{rank-of-low}
+use Rattle.spot.proofs.Limits.{limited-spots}
 use Rattle.spot.proofs.Stored.{length-spotsBytes, spotsBytes-records}
 use Rattle.tree.specs.Walk.{isBroken, spots, blocksRead, walkTable}
 use Rattle.tree.specs.Top.{topWalk}
 use Rattle.tree.specs.ReadMap.{readMap}
+use Rattle.tree.proofs.Limited.{walk-limited}
 use Rattle.tree.proofs.Sources.{read-in-table}
 use Rattle.tree.proofs.BestFirstSums.{sum, Same}
 use Rattle.query.specs.Walks.{TableCounted}
 use Rattle.query.specs.declared.Sum.{Sum}
 use Rattle.sort.specs.Sorting.{ByTop}
+use Rattle.sort.proofs.Limits.{limits-at, limits-permuted}
 use Rattle.top.specs.declared.TopTally.{TopTally}
 use Rattle.top.specs.Runs.{Based, TopFront, written}
 use Rattle.table.specs.TopSizes.{Gives, AllCounted, AllWritten, Written}
@@ -129,6 +133,17 @@ module _ (t : List ℕ) (k n r : ℕ) (seen out out1 out2 : List ℕ) (x1 x2 : �
         let query : q ≡ topQuery x1 x2 (rankOf (final .key)) = asks ∙ ap (topQuery x1 x2) rank-read in
         let ok : z .ok ≡ true = counted .ok ∙ ap (λ (p : Query). not (isBroken (walkTable t p))) query ∙ ap not whole in
         based (rankOf (final .key)) (omega arith) is ranks seen′ (counted .marks ok ∙ ap (λ (p : Query). readMap (blocksRead (walkTable t p))) query)
+
+-- .. and they have places inside the limits, before they are sorted and after
+pub found-limited : (t : List ℕ) (q : Query) (n r : ℕ) (out out1 : List ℕ) → n ≡ length (spots (walkTable t q)) → Found t q r out out1 → limitedFrom out1 12 n 0 ≡ true
+found-limited t q n r out out1 count found =
+    limited-spots out1 n 0 ∙ ap (λ (i : ℕ). every limited (keys (spotsIn out1 i))) (count ∙ sym (found .0)) ∙ ap (λ (ss : List Spot). every limited (keys ss)) (found .2)
+    ∙ walk-limited t q
+
+pub last-limited : (t : List ℕ) (q : Query) (n r : ℕ) (out out1 out2 : List ℕ) → n ≡ length (spots (walkTable t q)) → Found t q r out out1 → ByTop n out1 out2 → 0 < n
+    → limited (keyAt out2 (12 * (n - 1))) ≡ true
+last-limited t q n r out out1 out2 count found b some =
+    limits-at out2 n (limits-permuted n out1 out2 (b .permuted) (found-limited t q n r out out1 count found)) (n - 1) (omega arith)
 
 -- .. of a query that the code was handed
 module _ (t : List ℕ) (q : Query) (k n r : ℕ) (seen out out1 out2 : List ℕ) (g : AllCounted t q k seen n) (found : Found t q r out out1) (b : ByTop n out1 out2)

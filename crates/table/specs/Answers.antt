@@ -6,6 +6,7 @@ use mathlib.Core.List.{List, [], _∷_, _++_}
 use lib.ListN.{length, drop}
 use lib.Dec.{ltb, leb, eqb}
 use lib.IntN.{ℤ, pos}
+use Rattle.spot.specs.Keys.{inLimits}
 use Rattle.spot.specs.Spots.{spotsBytes}
 use Rattle.spot.specs.declared.Spot.{Spot}
 use Rattle.block.specs.declared.Answer.{Answer}
@@ -47,10 +48,23 @@ fewEnough queries = true
 fewEnough (queriesEach n) = leb n 64
 fewEnough tells = true
 
+-- 9, request 2026-07: "It refuses with 9 an addition, withdrawal or spot to be pressed outside the limits"; "Range ends may be any number"
+abbrev pub placeInside : Call → Bool
+placeInside format = true
+placeInside (add place rank track) = inLimits place
+placeInside (withdraw place rank) = inLimits place
+placeInside (report x1 x2 y) = true
+placeInside (top x1 x2 k) = true
+placeInside count = true
+placeInside check = true
+placeInside rebuild = true
+placeInside (reportMany rs) = true
+placeInside (topWithin x1 x2 k a) = true
+
 -- the number that lengths and arguments alone decide, before any byte of the table is read; "The order is that of the table": 1, "the table is not a whole
--- number of blocks, or has under 9 or over 4,096", then 2; "It refuses with 6, after 2 and before 3"; or 0
+-- number of blocks, or has under 9 or over 4,096", then 2; "It refuses with 6, after 2 and before 3"; 9 "before 3 and after all others that come before 3"; or 0
 unfoldable pub earlyNumber : Lengths → Call → ℕ
-earlyNumber l c = cond (tableSized (l .table)) (cond (lent l (kind c)) (cond (fewEnough (kind c)) 0 6) 2) 1
+earlyNumber l c = cond (tableSized (l .table)) (cond (lent l (kind c)) (cond (fewEnough (kind c)) (cond (placeInside c) 0 9) 6) 2) 1
 
 -- "1, detail 0", "2, detail 0", "6 and every later number .. where no more is said, have detail 0": an answer by that number where it refuses, else the other
 unfoldable pub unlessRefused : ℕ → Answer → Answer

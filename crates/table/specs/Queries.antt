@@ -2,14 +2,15 @@
 -- output, the read map and the counts as lent, out′, map′ and counts′ as left.
 -- Assumes nothing.
 use mathlib.Core.Path.{_≡_}
-use Prim.Native.Nat.{ℕ, _/_, _<_}
+use Prim.Native.Nat.{ℕ, _*_, _/_, _≤_, _<_}
 use mathlib.Core.Bool.{true, cond}
 use mathlib.Core.List.{List, _++_, List·Memᴰ}
 use lib.ListN.{length}
 use lib.IntN.{ℤ, pos}
 use Rattle.octets.specs.Lists.{has, every, rising}
 use Rattle.octets.specs.Bitmap.{bit}
-use Rattle.spot.specs.Spots.{keys}
+use Rattle.spot.specs.Keys.{limited}
+use Rattle.spot.specs.Spots.{keys, limitedFrom}
 use Rattle.spot.specs.Query.{query, topQuery, everything, wants}
 use Rattle.spot.specs.declared.Spot.{Spot}
 use Rattle.spot.specs.declared.Query.{Query}
@@ -63,6 +64,12 @@ pub record HandsOut (q : Query) (t out : List ℕ) (r : Answer) (out′ map′ :
   pub marked : (s : Spot) → List·Memᴰ s given
       → (b : ℕ) × (bit map′ b ≡ true) × List·Memᴰ s (storeOf t b .points ++ storeOf t b .inserts) × (b ≡ 0 → ⊥)
   pub header : bit map′ 0 ≡ true
+  -- "A stored place outside counts as a broken rule under 3": none is handed out
+  pub limits : every limited (keys given) ≡ true
+
+-- request 2026-07: the spots that an accepted call left at the front of an output are all in it and have places inside the limits, on every table (proofs/Given)
+abbrev pub GivenInside : Answer → List ℕ → Type 0
+GivenInside r out = r .number ≡ 0 → (12 * r .detail ≤ length out) × (limitedFrom out 12 (r .detail) 0 ≡ true)
 
 -- the same of many ranges: what is given for each is of that range
 pub record HandsOutEach (rs : List Range) (t out : List ℕ) (r : Answer) (counts′ out′ map′ : List ℕ) : Type 0 where
@@ -74,6 +81,7 @@ pub record HandsOutEach (rs : List Range) (t out : List ℕ) (r : Answer) (count
   pub marked : (x : Range) → List·Memᴰ x rs → (s : Spot) → List·Memᴰ s (given x)
       → (b : ℕ) × (bit map′ b ≡ true) × List·Memᴰ s (storeOf t b .points ++ storeOf t b .inserts) × (b ≡ 0 → ⊥)
   pub header : bit map′ 0 ≡ true
+  pub limits : (x : Range) → List·Memᴰ x rs → every limited (keys (given x)) ≡ true
 
 -- what the call c, a best-first search over these places, leaves on every table, beside what it promises `exactly`: 1 and 2 as the lengths give them, else 0, 3 with
 -- detail 0, or 5 with more spots than the output holds

@@ -287,6 +287,9 @@ pub fn add(table: &mut [u8], scratch: &mut [u8], place: i32, rank: i32, track: u
     if scratch.len() < bytes {
         return plain_answer(2);
     }
+    if !spot::in_limits(place) {
+        return plain_answer(9);
+    }
     let key = spot::key_of(place, rank);
     let number = revise::put_spot(table, scratch, spot::Spot { key, track });
     // Full: neither the table nor the scratch was touched.
@@ -307,6 +310,9 @@ pub fn withdraw(table: &mut [u8], scratch: &mut [u8], place: i32, rank: i32) -> 
     }
     if scratch.len() < size {
         return plain_answer(2);
+    }
+    if !spot::in_limits(place) {
+        return plain_answer(9);
     }
     let key = spot::key_of(place, rank);
     let number = revise::take_key(table, scratch, key);

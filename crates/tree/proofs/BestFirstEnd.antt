@@ -15,17 +15,19 @@ use Rattle.octets.proofs.Order.{less-or-not}
 use Rattle.octets.proofs.Tests.{all-at, keep-mem}
 use Rattle.octets.proofs.UpTo.{largest-hit, largest-le, largest-above}
 use Rattle.spot.specs.declared.Spot.{Spot}
-use Rattle.spot.specs.Keys.{word, allKeys, rankOf}
+use Rattle.spot.specs.Keys.{word, allKeys, rankOf, limited}
 use Rattle.spot.specs.Query.{topQuery}
 use Rattle.spot.proofs.Ranks.{tk, ofRank}
 use Rattle.block.specs.Node.{Store, storeOf}
+use Rattle.block.specs.NodeRules.{nodeOk}
+use Rattle.tree.specs.Part.{Part}
 use Rattle.tree.specs.Walk.{spots, takes, takesKey, finds, walkTable}
 use Rattle.tree.specs.Top.{enough, threshold, topWalk}
 use Rattle.tree.specs.BestFirst.{Pending, promised, shown}
-use Rattle.tree.proofs.Sources.{Source}
+use Rattle.tree.proofs.Sources.{Source, held-limited}
 use Rattle.tree.proofs.BestFirstSums.{sum, counted, one, counted-yes, counted-no, counted-le, sum-same, sum-le, sum-none, sum-length, mark, distinct-marks}
 use Rattle.tree.proofs.BestFirstSpots.{spotMark, spot-from, Descends}
-use Rattle.tree.proofs.BestFirstTree.{weighs, atNode, onBlock, onSpots, faultAt, fault, rootOf, Whole, walk-whole}
+use Rattle.tree.proofs.BestFirstTree.{weighs, atNode, onBlock, onSpots, faultAt, fault, no-digit, rootOf, Whole, walk-whole}
 use Rattle.tree.proofs.BestFirstParts.{due, finds-rank, held-small}
 use Rattle.tree.proofs.BestFirstSteps.{NoneRanks, numbers, Progress}
 
@@ -97,6 +99,11 @@ at-node m u h x = go (u .levels) h
     go zero e = let z : ⊥ = omega arith in absurd z
     go (suc n) e = refl
 
+-- its spots have places inside the limits
+fine-limited : (n : ℕ) (m : Store) (p : Part) → faultAt n m p ≡ 0 → {s : Spot} → List·Memᴰ s (m (p .block) .points ++ m (p .block) .inserts) → limited (s .key) ≡ true
+fine-limited zero m p e i = let z : ⊥ = omega arith in absurd z
+fine-limited (suc l) m p e i = held-limited l (p .asked) (m (p .block)) (no-digit (nodeOk l (p .asked) (m (p .block))) e) i
+
 -- a part with a level left counts
 pub at-some : (n x : ℕ) → 1 ≤ n → atNode n x ≡ x
 at-some zero x h = let z : ⊥ = omega arith in absurd z
@@ -154,6 +161,7 @@ module _ (t : List ℕ) (x1 x2 : ℤ) (k : ℕ) (unread : List Pending) (found g
         block = r .0 .part .block;
         read = subst (λ (bs : List ℕ). List·Memᴰ (r .0 .part .block) bs) (sym (g .stand)) (numbers-in (g .read) (r .1));
         held = h .0;
+        limits = fine-limited (r .0 .levels) (storeOf t) (r .0 .part) (g .fine (r .0) (r .1)) (h .0);
       }
 
   -- .. so its key is one of 8 bytes

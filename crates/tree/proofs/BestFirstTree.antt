@@ -98,7 +98,7 @@ faultAt (suc l) m p = digit (not (nodeOk l (p .asked) (m (p .block))))
 abbrev pub fault : Store → Pending → ℕ
 fault m u = faultAt (u .levels) m (u .part)
 
-no-digit : (b : Bool) → digit (not b) ≡ 0 → b ≡ true
+pub no-digit : (b : Bool) → digit (not b) ≡ 0 → b ≡ true
 no-digit true e = refl
 no-digit false e = let z : ⊥ = omega arith in absurd z
 

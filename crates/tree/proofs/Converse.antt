@@ -21,7 +21,7 @@ use Rattle.octets.proofs.Sets.{mem-has}
 use Rattle.octets.proofs.Once.{distinct-once}
 use Rattle.spot.specs.declared.Spot.{Spot}
 use Rattle.spot.specs.Spots.{keys}
-use Rattle.spot.specs.Keys.{rankKey, allKeys, within}
+use Rattle.spot.specs.Keys.{rankKey, allKeys, within, limited}
 use Rattle.spot.proofs.Buffers.{keys-length, keys-mem}
 use Rattle.spot.proofs.Places.{within-yes}
 use Rattle.block.specs.declared.Entry.{Entry}
@@ -31,8 +31,9 @@ use Rattle.block.specs.Table.{blocksOf, sizedFor, tableSized, block, blockOk}
 use Rattle.block.specs.Header.{headOf}
 use Rattle.block.specs.HeaderRules.{headerOk}
 use Rattle.block.specs.Node.{Node, Store, storeOf, nodeOf, nodeFrom, laidOut, entryAt, entryBlank}
-use Rattle.block.specs.NodeRules.{names, lows, zeroFirst, fewest, childCountOk, childBlocksOk, buffersRise, namedOnce, lowsRise, pointsAbove, filled, lowest, leafBuffersEmpty, tops, agrees, standsIn, nodeOk}
+use Rattle.block.specs.NodeRules.{names, lows, zeroFirst, fewest, childCountOk, childBlocksOk, buffersRise, namedOnce, lowsRise, pointsAbove, filled, lowest, leafBuffersEmpty, tops, agrees, standsIn, nodeOk, insideLimits}
 use Rattle.block.proofs.Facts.{head-made}
+use Rattle.block.proofs.Extremes.{extremes-inside, inside-limits}
 use Rattle.block.proofs.Views.{open-zero}
 use Rattle.tree.specs.Part.{Part, children, lowOf, Steps}
 use Rattle.tree.specs.Lookup.{isLive}
@@ -218,6 +219,7 @@ module _ (t : List ℕ) (k : Rules t) where
   -- an entry of a node leads to a child, with which it agrees
   record Led (c : Part) (e : Entry) : Type 0 where
     child : Part
+    node : IsNode t child
     below : Below m c child
     agree : Agrees e (at t child)
 
@@ -225,7 +227,7 @@ module _ (t : List ℕ) (k : Rules t) where
   led-to c e r j =
       let q = entry-child (c .lo) (c .hi) (at t c .entries) j in
       subst (λ (x : Entry). Led c x) (q .3)
-      (record { child = q .0; below = (q .1, [], step (q .2) (here refl)); agree = k .rule6 .entries c (q .0) (q .1) r (q .2) })
+      (record { child = q .0; node = child-node m r (q .2); below = (q .1, [], step (q .2) (here refl)); agree = k .rule6 .entries c (q .0) (q .1) r (q .2) })
 
   -- rule 4: of what is below, the children's tops show
   above-ok : (c : Part) → IsNode t c → pointsAbove (at t c) ≡ true
@@ -282,6 +284,21 @@ module _ (t : List ℕ) (k : Rules t) where
   unfolding reach
   apart l c one = distinct-once (reach (suc l) m c) (one-way-once m (suc l) c one)
 
+  -- the limits: what an entry shows of a child's P, the child names
+  inside-ok : (c : Part) → IsNode t c → insideLimits (at t c) ≡ true
+  inside-ok c r =
+      inside-limits (at t c) (every-make limited (names (at t c)) (λ j i. k .limits .named c j r i))
+      (every-make limited (rest (lows (at t c .entries))) (λ j i. k .limits .lowest c j r i))
+      (extremes-inside (at t c .entries)
+      (λ e i n.
+      let d = led-to c e r i in
+      let held : at t (d .child) .points ≡ [] → ⊥ = λ z. n (d .agree .size ∙ ap length z) in
+      let child = d .node in
+      record {
+        top = k .limits .named (d .child) (e .top) child (names-P (at t (d .child)) (d .agree .highest held .0));
+        bottom = k .limits .named (d .child) (e .bottom) child (names-P (at t (d .child)) (d .agree .lowest held .0));
+      }))
+
   -- over sound children, all of them
   node-ok : (l : ℕ) (c : Part) → Entered c → at t c .level ≡ l → every (soundAt l m) (children c (at t c)) ≡ true → nodeOk l (c .asked) (at t c) ≡ true
   unfolding nodeOk namedOnce
@@ -302,7 +319,7 @@ module _ (t : List ℕ) (k : Rules t) where
       (all-cons _ _ (blocks-ok c r)
       (all-cons _ _ (lows-not-below (c .asked) (c .lo) (c .hi) n (e .low) (every-make _ _ (low-inside c r)))
       (all-cons _ _ (children-apart l m (c .asked) (c .block) (c .lo) (c .hi) n (e .own) below (apart l c (e .one)))
-      (all-cons _ _ (entries-credible l m (c .asked) (c .lo) (c .hi) n (e .low) (e .high) (lows-ok c r) (steps c r (e .order)) below) all-nil))))))))))))))
+      (all-cons _ _ (entries-credible l m (c .asked) (c .lo) (c .hi) n (e .low) (e .high) (lows-ok c r) (steps c r (e .order)) below) (all-cons _ _ (inside-ok c r) all-nil)))))))))))))))
 
   -- ---- the whole tree, from the leaves up: rule 2 bounds the levels
 

@@ -17,7 +17,7 @@ use Rattle.block.specs.Header.{Header, headOf, headerOf}
 use Rattle.block.specs.Node.{storeOf, nodeOf, nodeFrom, laidOut, firstBlank}
 use Rattle.block.specs.Table.{blockOk, tableSized, capacity}
 use Rattle.block.specs.Fresh.{freshHeader, freshLeaf, formatted}
-use Rattle.block.specs.NodeRules.{nodeOk, childCountOk, buffersRise, namedOnce, names, lowsRise, pointsAbove, filled, lowest, leafBuffersEmpty, agrees, notBelow, childBlocksOk, lowsNotBelow, childrenApart, entriesCredible}
+use Rattle.block.specs.NodeRules.{nodeOk, childCountOk, buffersRise, namedOnce, names, lowsRise, pointsAbove, filled, lowest, leafBuffersEmpty, agrees, notBelow, childBlocksOk, lowsNotBelow, childrenApart, entriesCredible, insideLimits}
 use Rattle.block.specs.HeaderRules.{headerOk, mapShows}
 use Rattle.block.proofs.Making.{blocks-least, blocks-most}
 use Rattle.spot.specs.declared.Spot.{Spot}
@@ -68,11 +68,11 @@ module _ (n : ℕ) (z : tableSized n ≡ true) where
 
   -- what is done by computation once the header is known
   fresh-walked : (q : Query) → walkFrom (freshHead n) (storeOf (formatted n)) q ≡ walked [] (1 ∷ [])
-  unfolding all storeOf nodeOf nodeFrom laidOut freshHeader freshLeaf formatted nodeOk childCountOk buffersRise namedOnce names lowsRise pointsAbove filled lowest leafBuffersEmpty agrees notBelow childBlocksOk lowsNotBelow childrenApart entriesCredible firstBlank walkFrom walk enter finds be bytesOf once
+  unfolding all storeOf nodeOf nodeFrom laidOut freshHeader freshLeaf formatted nodeOk childCountOk buffersRise namedOnce names lowsRise pointsAbove filled lowest leafBuffersEmpty agrees notBelow childBlocksOk lowsNotBelow childrenApart entriesCredible insideLimits firstBlank walkFrom walk enter finds be bytesOf once
   fresh-walked q = refl
 
   fresh-tree : soundAt 1 (storeOf (formatted n)) (whole (freshHead n)) ≡ true
-  unfolding all storeOf nodeOf nodeFrom laidOut freshHeader freshLeaf formatted nodeOk childCountOk buffersRise namedOnce names lowsRise pointsAbove filled lowest leafBuffersEmpty agrees notBelow childBlocksOk lowsNotBelow childrenApart entriesCredible firstBlank soundAt inRange be bytesOf
+  unfolding all storeOf nodeOf nodeFrom laidOut freshHeader freshLeaf formatted nodeOk childCountOk buffersRise namedOnce names lowsRise pointsAbove filled lowest leafBuffersEmpty agrees notBelow childBlocksOk lowsNotBelow childrenApart entriesCredible insideLimits firstBlank soundAt inRange be bytesOf
   fresh-tree = refl
 
   fresh-exact : mapExact fresh-map (reach 1 (storeOf (formatted n)) (whole (freshHead n))) ≡ true

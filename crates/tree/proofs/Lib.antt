@@ -36,3 +36,5 @@ pub mod TopMarks
 pub mod Ways
 pub mod Converse
 pub mod TopCounts
+pub mod Limited
+pub mod Legal

@@ -19,7 +19,7 @@ use Rattle.octets.proofs.Records.{tests-at}
 use Rattle.octets.proofs.Sets.{has-mem}
 use Rattle.octets.proofs.Once.{once-distinct, fewer}
 use Rattle.spot.specs.Spots.{keys}
-use Rattle.spot.specs.Keys.{rankKey, within}
+use Rattle.spot.specs.Keys.{rankKey, within, limited}
 use Rattle.spot.proofs.Buffers.{keys-length}
 use Rattle.spot.proofs.Places.{within-from, within-to}
 use Rattle.block.specs.declared.Entry.{Entry}
@@ -29,7 +29,7 @@ use Rattle.block.specs.Table.{block}
 use Rattle.block.specs.Header.{headOf}
 use Rattle.block.specs.Node.{Node, Store, storeOf, nodeOf, nodeFrom, laidOut, entryBlank}
 use Rattle.block.specs.NodeRules.{names, lows, fewest, childCountOk, buffersRise, namedOnce, lowsRise, pointsAbove, filled, lowest, leafBuffersEmpty, tops, agrees, nodeOk}
-use Rattle.block.proofs.Facts.{HeadFacts, head-facts}
+use Rattle.block.proofs.Facts.{HeadFacts, head-facts, node-facts}
 use Rattle.block.proofs.Heads.{map-part}
 use Rattle.block.proofs.Making.{blocks-whole}
 use Rattle.tree.specs.Part.{Part}
@@ -37,7 +37,7 @@ use Rattle.tree.specs.Lookup.{isLive, live}
 use Rattle.tree.specs.Reach.{reach}
 use Rattle.tree.specs.Walk.{liveSpots}
 use Rattle.tree.specs.Sound.{inRange, soundAt, mapExact, sound}
-use Rattle.tree.specs.Rules.{ChildOf, Leads, here, step, Below, Laid, Agrees, Filled, Lowest, top, at, IsNode, Reached, Rule1, Rule2, Rule3, Rule4, Rule5, Rule6, Rules}
+use Rattle.tree.specs.Rules.{ChildOf, Leads, here, step, Below, Laid, Agrees, Filled, Lowest, top, at, IsNode, Reached, Rule1, Rule2, Rule3, Rule4, Rule5, Rule6, Limits, Rules}
 use Rattle.tree.proofs.Marks.{read-mem, read-in, exact-once, exact-bit}
 use Rattle.tree.proofs.Says.{has-keys}
 use Rattle.tree.proofs.Sources.{InTable, header-least, header-few, table-reach}
@@ -331,5 +331,14 @@ module _ (t : List ℕ) (s : sound t ≡ true) where
 
   -- ---- all six
 
+  -- ---- the limits
+
+  pub limits : Limits t
+  limits =
+      record {
+        named = λ c k r j. every-mem limited (names (at t c)) (node-facts _ _ (at t c) (stands r .ok) .names-limited) j;
+        lowest = λ c k r j. every-mem limited (rest (lows (at t c .entries))) (node-facts _ _ (at t c) (stands r .ok) .lows-limited) j;
+      }
+
   pub rules-of : Rules t
-  rules-of = record { rule1 = rule1; rule2 = rule2; rule3 = rule3; rule4 = rule4; rule5 = rule5; rule6 = rule6 }
+  rules-of = record { rule1 = rule1; rule2 = rule2; rule3 = rule3; rule4 = rule4; rule5 = rule5; rule6 = rule6; limits = limits }

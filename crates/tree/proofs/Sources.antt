@@ -1,30 +1,31 @@
--- Where a walk's spots and blocks come from, on every table: each spot found is wanted and stands in P or I of a block read, and where every node read keeps
--- the rules, each block read is a node block of the table.
+-- Where a walk's spots and blocks come from, on every table: each spot found is wanted, stands in P or I of a block read and has a place inside the limits, and
+-- where every node read keeps the rules, each block read is a node block of the table.
 -- Assumes nothing.
-use mathlib.Core.Path.{_≡_, refl, sym, _∙_, subst}
+use mathlib.Core.Path.{_≡_, refl, sym, ap, _∙_, subst}
 use mathlib.Core.Logic.{_⊎_, inl, inr, ⊎-elim}
 use mathlib.Core.Bool.{Bool, true, false, _&&_}
-use mathlib.Core.List.{List, [], _∷_, _++_, List·Memᴰ, List·Memᴰ·head, List·Memᴰ·tail, List·Memᴰ·not-nil, List·Memᴰ·cases-cons}
+use mathlib.Core.List.{List, [], _∷_, _++_, List·Memᴰ, List·Memᴰ·head, List·Memᴰ·tail, List·Memᴰ·not-nil, List·Memᴰ·cases-cons, List·Memᴰ·append-cases}
 use Prim.Native.Nat.{ℕ, zero, suc, _≤_, _<_}
 use native.Mathlib.Omega.{arith}
 use lib.ListN.{length}
 use borrow.Author.Tests.{leb-true, ltb-true}
 use Rattle.octets.specs.Lists.{every, distinct}
 use Rattle.octets.specs.Bitmap.{bit}
-use Rattle.octets.proofs.Tests.{and-left, and-right, all-at, every-mem, keep-mem, keep-in}
-use Rattle.spot.specs.Spots.{putAll}
+use Rattle.octets.proofs.Tests.{and-left, and-right, all-at, every-mem, every-make, keep-mem, keep-in}
+use Rattle.spot.specs.Keys.{limited}
+use Rattle.spot.specs.Spots.{keys, putAll}
 use Rattle.spot.specs.Query.{wants}
 use Rattle.spot.specs.declared.Spot.{Spot}
 use Rattle.spot.specs.declared.Query.{Query}
-use Rattle.spot.proofs.Buffers.{putAll-from}
+use Rattle.spot.proofs.Buffers.{keys-mem, keys-from, putAll-from}
 use Rattle.block.specs.declared.Asked.{Asked}
 use Rattle.block.specs.Table.{blockOk, blocksOf}
-use Rattle.block.specs.Node.{Store, storeOf, nodeOf, nodeFrom}
+use Rattle.block.specs.Node.{Node, Store, storeOf, nodeOf, nodeFrom}
 use Rattle.block.specs.NodeRules.{names, nodeOk, childBlocksOk}
 use Rattle.block.specs.Header.{headOf}
 use Rattle.block.specs.HeaderRules.{headerOk}
 use Rattle.block.proofs.Making.{blocks-least}
-use Rattle.block.proofs.Facts.{head-facts}
+use Rattle.block.proofs.Facts.{node-facts, head-facts}
 use Rattle.tree.specs.Part.{Part, whole, children}
 use Rattle.tree.specs.Reach.{reach}
 use Rattle.tree.specs.Sound.{soundAt}
@@ -39,12 +40,20 @@ use Rattle.tree.proofs.Traces.{wholeIf, table-trace}
 
 -- ---- spots
 
--- a spot that is wanted, and stands in a node of these blocks
+-- a spot that is wanted, stands in a node of these blocks, and has a place inside the limits, as that node keeps the rules
 pub record Source (m : Store) (q : Query) (bs : List ℕ) (s : Spot) : Type 0 where
   pub wanted : wants q s ≡ true
   pub block : ℕ
   pub read : List·Memᴰ block bs
   pub held : List·Memᴰ s (m block .points ++ m block .inserts)
+  pub limits : limited (s .key) ≡ true
+
+pub held-limited : (l : ℕ) (a : Asked) (n : Node) → nodeOk l a n ≡ true → {s : Spot} → List·Memᴰ s (n .points ++ n .inserts) → limited (s .key) ≡ true
+held-limited l a n ok i =
+    let f = node-facts l a n ok in
+    ⊎-elim (λ j. every-mem limited (keys (n .points)) (f .points-limited) (keys-mem (n .points) j))
+    (λ j. every-mem limited (keys (n .inserts)) (f .inserts-limited) (keys-mem (n .inserts) j))
+    (List·Memᴰ·append-cases (n .points) i)
 
 pour-from : (Q : Spot → Type 0) (g : Part → List Spot → List Spot) (ps : List Part)
     → ((c : Part) → List·Memᴰ c ps → (found : List Spot) (s : Spot) → List·Memᴰ s (g c found) → Q s ⊎ List·Memᴰ s found)
@@ -53,37 +62,43 @@ pour-from Q g [] h found s k = inr k
 pour-from Q g (p ∷ ps) h found s k =
     ⊎-elim inl (λ j. h p (List·Memᴰ·head refl) found s j) (pour-from Q g ps (λ c i. h c (List·Memᴰ·tail i)) (g p found) s k)
 
-finds-source : (m : Store) (q : Query) (named : List ℕ) (b : ℕ) (bs : List ℕ) (s : Spot) → List·Memᴰ b bs → List·Memᴰ s (finds q named (m b)) → Source m q bs s
+finds-source : (m : Store) (q : Query) (named : List ℕ) (b : ℕ) (bs : List ℕ) (s : Spot) (l : ℕ) (a : Asked) → nodeOk l a (m b) ≡ true → List·Memᴰ b bs
+    → List·Memᴰ s (finds q named (m b))
+    → Source m q bs s
 unfolding finds takesKey
-finds-source m q named b bs s i k =
+finds-source m q named b bs s l a ok i k =
     let r = keep-mem (takes q named) (m b .points ++ m b .inserts) k in
-    record { wanted = all-at _ (r .1) 0; block = b; read = i; held = r .0 }
+    record { wanted = all-at _ (r .1) 0; block = b; read = i; held = r .0; limits = held-limited l a (m b) ok (r .0) }
 
--- every spot of a walk comes from a block that it visits, or was there before
-gains-from : (l : ℕ) (m : Store) (q : Query) (named : List ℕ) (p : Part) (found : List Spot) (s : Spot) → List·Memᴰ s (gains l m q named p found)
+-- every spot of a walk that keeps the rules comes from a block that it visits, or was there before
+gains-from : (l : ℕ) (m : Store) (q : Query) (named : List ℕ) (p : Part) (found : List Spot) (s : Spot) → obeys l m q p ≡ true → List·Memᴰ s (gains l m q named p found)
     → Source m q (visits l m q p) s ⊎ List·Memᴰ s found
-unfolding gains visits
-gains-from zero m q named p found s k = inr k
-gains-from (suc l) m q named p found s k =
+unfolding gains visits obeys
+gains-from zero m q named p found s h k = inr k
+gains-from (suc l) m q named p found s h k =
+    let n = nodeOk l (p .asked) (m (p .block)) in
+    let ok = and-left n (every (obeys l m q) (admitted q m p)) h in
     ⊎-elim inl
-    (λ j. ⊎-elim (λ i. inl (finds-source m q named (p .block) (visits (suc l) m q p) s (List·Memᴰ·head refl) i)) inr (putAll-from (finds q named (m (p .block))) found j))
+    (λ j.
+    ⊎-elim (λ i. inl (finds-source m q named (p .block) (visits (suc l) m q p) s l (p .asked) ok (List·Memᴰ·head refl) i)) inr
+    (putAll-from (finds q named (m (p .block))) found j))
     (pour-from (Source m q (visits (suc l) m q p)) _ (admitted q m p)
     (λ c i ss x j.
     ⊎-elim
     (λ (r : Source m q (visits l m q c) x).
-    inl (record { wanted = r .wanted; block = r .block; read = List·Memᴰ·tail (gather-in (visits l m q) (admitted q m p) c i (r .read)); held = r .held }))
+    inl (record { wanted = r .wanted; block = r .block; read = List·Memᴰ·tail (gather-in (visits l m q) (admitted q m p) c i (r .read)); held = r .held; limits = r .limits }))
     inr
-    (gains-from l m q (names (m (p .block)) ++ named) c ss x j))
+    (gains-from l m q (names (m (p .block)) ++ named) c ss x (every-mem (obeys l m q) (admitted q m p) (and-right n (every (obeys l m q) (admitted q m p)) h) i) j))
     (putAll (finds q named (m (p .block))) found)
     s
     k)
 
-if-source : (ok : Bool) (m : Store) (q : Query) (found : List Spot) (bs : List ℕ) (s : Spot) → (List·Memᴰ s found → Source m q bs s)
+if-source : (ok : Bool) (m : Store) (q : Query) (found : List Spot) (bs : List ℕ) (s : Spot) → (ok ≡ true → List·Memᴰ s found → Source m q bs s)
     → List·Memᴰ s (spots (wholeIf ok found (onto bs [])))
     → Source m q (blocksRead (wholeIf ok found (onto bs []))) s
 if-source true m q found bs s h k =
-    let r = h k in
-    record { wanted = r .wanted; block = r .block; read = onto-mem bs (r .read); held = r .held }
+    let r = h refl k in
+    record { wanted = r .wanted; block = r .block; read = onto-mem bs (r .read); held = r .held; limits = r .limits }
 if-source false m q found bs s h k = absurd (List·Memᴰ·not-nil k)
 
 -- "hands out only spots of its range", and from blocks that it reads
@@ -91,15 +106,23 @@ pub table-source : (t : List ℕ) (q : Query) (s : Spot) → List·Memᴰ s (spo
 table-source t q s k =
     let L = headOf t .levels in
     let W = whole (headOf t) in
+    let good = obeys L (storeOf t) q W in
+    let apart = distinct (visits L (storeOf t) q W) in
     rw (table-trace t q)
-    (if-source (headerOk (length t) (headOf t) && (obeys L (storeOf t) q W && distinct (visits L (storeOf t) q W))) (storeOf t) q (gains L (storeOf t) q [] W []) (visits L (storeOf t) q W) s
-    (λ i. ⊎-elim (λ r. r) (λ j. absurd (List·Memᴰ·not-nil j)) (gains-from L (storeOf t) q [] W [] s i))
+    (if-source (headerOk (length t) (headOf t) && (good && apart)) (storeOf t) q (gains L (storeOf t) q [] W []) (visits L (storeOf t) q W) s
+    (λ h i.
+    ⊎-elim (λ r. r) (λ j. absurd (List·Memᴰ·not-nil j))
+    (gains-from L (storeOf t) q [] W [] s (and-left good apart (and-right (headerOk (length t) (headOf t)) (good && apart) h)) i))
     (rw (table-trace t q) at k))
 
 -- the same with the block named
 pub walk-sources : (t : List ℕ) (q : Query) (s : Spot) → List·Memᴰ s (spots (walkTable t q))
     → (wants q s ≡ true) × ((b : ℕ) × List·Memᴰ b (blocksRead (walkTable t q)) × List·Memᴰ s (storeOf t b .points ++ storeOf t b .inserts))
 walk-sources t q s k = let r = table-source t q s k in (r .wanted, (r .block, r .read, r .held))
+
+-- spots that come from such blocks have places inside the limits
+pub sources-limited : {m : Store} {q : Query} {bs : List ℕ} (ss : List Spot) → ((s : Spot) → List·Memᴰ s ss → Source m q bs s) → every limited (keys ss) ≡ true
+sources-limited ss from = every-make limited (keys ss) (λ k i. let r = keys-from ss i in ap limited (r .2) ∙ from (r .0) (r .1) .limits)
 
 -- ---- blocks
 

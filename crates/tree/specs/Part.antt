@@ -2,7 +2,7 @@
 -- Assumes nothing.
 use Prim.Native.Nat.{ℕ, _≤_}
 use mathlib.Core.List.{List, [], _∷_}
-use Rattle.spot.specs.Keys.{allKeys}
+use Rattle.spot.specs.Keys.{allKeys, startKey, endKey}
 use Rattle.block.specs.declared.Entry.{Entry}
 use Rattle.block.specs.declared.Asked.{Asked}
 use Rattle.block.specs.declared.Asked.the-variants.{Root, Child}
@@ -38,3 +38,9 @@ children p n = parts (p .lo) (p .hi) (n .entries)
 abbrev pub Steps : ℕ → ℕ → List Entry → Type 0
 Steps lo hi [] = Unit {0}
 Steps lo hi (e ∷ es) = (lo ≤ nextLow es hi) × Steps (nextLow es hi) hi es
+
+-- request 2026-07: a range inside the limits. The root's range has no ends, but no key of a sound table lies outside (proofs/Legal): what an update promises, it
+-- promises of such ranges.
+pub record Legal (lo hi : ℕ) : Type 0 where
+  pub low : startKey ≤ lo
+  pub high : hi ≤ endKey

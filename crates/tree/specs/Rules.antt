@@ -8,6 +8,7 @@
 --   4    | Rule4 t    | rule4
 --   5    | Rule5 t    | rule5
 --   6    | Rule6 t    | rule6
+--   07   | Limits t   | limits
 --   all  | Rules t    | rules-of; and a table that keeps all is sound, sound-by. "Check says yes exactly if the table is sound": sound-exactly.
 --
 -- From the rules: the blocks named lie in 1 to n − 1 (root-inside, entry-inside), and bits of the map past the table are clear (past-clear).
@@ -21,7 +22,7 @@ use lib.ListN.{length, drop}
 use Rattle.octets.specs.Lists.{rest, rising, distinct}
 use Rattle.octets.specs.Bitmap.{bit}
 use Rattle.octets.specs.Bytes.{be}
-use Rattle.spot.specs.Keys.{rankKey}
+use Rattle.spot.specs.Keys.{rankKey, limited}
 use Rattle.spot.specs.Spots.{keys}
 use Rattle.block.specs.declared.Entry.{Entry}
 use Rattle.block.specs.declared.Asked.the-variants.{Child}
@@ -183,7 +184,13 @@ module _ (t : List ℕ) where
     -- .. and nodes
     pub laid : (c : Part) → IsNode c → Laid (block t (c .block))
 
-  -- a table that keeps 01's rules
+  -- request 2026-07: "A place read from a card or an argument must lie in −1,000,000 to 1,000,000 centimetres". The highest and the lowest of a child's P are
+  -- identities that the child names (rule 6).
+  pub record Limits : Type 0 where
+    pub named : (c : Part) (k : ℕ) → IsNode c → List·Memᴰ k (names (at c)) → limited k ≡ true
+    pub lowest : (c : Part) (k : ℕ) → IsNode c → List·Memᴰ k (rest (lows (at c .entries))) → limited k ≡ true
+
+  -- a table that keeps 01's rules and has its places inside the limits
   pub record Rules : Type 0 where
     pub rule1 : Rule1
     pub rule2 : Rule2
@@ -191,3 +198,4 @@ module _ (t : List ℕ) where
     pub rule4 : Rule4
     pub rule5 : Rule5
     pub rule6 : Rule6
+    pub limits : Limits

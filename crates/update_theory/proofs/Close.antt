@@ -9,26 +9,28 @@ use Prim.Native.Nat.{ℕ, suc, _<_, _≤_}
 use native.Mathlib.Omega.{arith}
 use lib.Dec.{eqb}
 use Rattle.octets.specs.Lists.{every, distinct, rest}
-use Rattle.octets.proofs.Tests.{all-cons, all-nil, and-both, every-make}
+use Rattle.octets.proofs.Tests.{all-cons, all-nil, and-both, every-make, every-imp}
 use Rattle.octets.proofs.Sets.{distinct-cons}
-use Rattle.spot.specs.Keys.{rankKey, allKeys, within}
+use Rattle.spot.specs.Keys.{rankKey, within, limited}
 use Rattle.block.specs.declared.Entry.{Entry}
 use Rattle.block.specs.Node.{Node, Store}
 use Rattle.block.specs.declared.Asked.{Asked}
 use Rattle.block.specs.NodeRules.{names, nodeOk, lowsRise, filled, lowest, lows, agrees, leafBuffersEmpty, childCountOk, childBlocksOk, standsIn}
-use Rattle.tree.specs.Part.{Part, parts, children, Steps, lowOf}
+use Rattle.block.proofs.Extremes.{inside-limits}
+use Rattle.tree.specs.Part.{Part, parts, children, Steps, Legal, lowOf}
 use Rattle.tree.specs.Lookup.{lookup}
 use Rattle.tree.specs.Reach.{reach}
 use Rattle.tree.specs.Sound.{soundAt, inRange}
 use Rattle.tree.proofs.Entries.{not-below}
 use Rattle.tree.proofs.Credible.{lows-not-below, entries-credible, children-apart}
 use Rattle.tree.proofs.Below.{live-top}
+use Rattle.tree.proofs.Legal.{legal-full, legal-limited}
 use Rattle.tree.proofs.Frame.{Same}
 use Rattle.update_theory.specs.Change.{part, reaches, Sound, Changed}
 use Rattle.update_theory.specs.Open.{under, Open}
 use Rattle.update_theory.proofs.Change.{led-one}
 use Rattle.update_theory.proofs.Loose.{stored-reach, stored-lookup, stored-sound, off-block, node-changed, off-old, off-new, node-split}
-use Rattle.update_theory.proofs.Node.{rules-back}
+use Rattle.update_theory.proofs.Node.{rules-back, shown-limited}
 use Rattle.update_theory.proofs.Open.{heldOf}
 
 -- what a node in memory must have beside ready buffers to be stored in block b, read at level l with a in the range [lo, hi)
@@ -44,7 +46,7 @@ pub record Shape (l b : ℕ) (a : Asked) (lo hi : ℕ) (n : Node) : Type 0 where
   pub low : lowOf a ≤ lo
   pub blocks : childBlocksOk n ≡ true
   pub own : standsIn a ≡ b
-  pub full : hi ≤ allKeys
+  pub legal : Legal lo hi
 
 -- then it keeps the rules, if its block is none of those below it
 closed-node : (l : ℕ) (m : Store) (b : ℕ) (a : Asked) (lo hi r : ℕ) (n : Node) (f : ℕ → Option ℕ) → Open l m lo hi r (n .entries) (heldOf n) f → Shape l b a lo hi n
@@ -56,7 +58,10 @@ closed-node l m b a lo hi r n f o s off =
       all-cons _ _ (s .laid) (all-cons _ _ (s .level) (all-cons _ _ (s .count) (all-cons _ _ (u .rises) (all-cons _ _ (u .once) (all-cons _ _ (s .lowsUp) (all-cons _ _ (u .above) (all-cons _ _ (s .sizes) (all-cons _ _ (s .leaf) (all-cons _ _ (s .agree)
           (all-cons _ _ (not-below a lo hi n (s .low) (u .inside)) (all-cons _ _ (s .blocks)
           (all-cons _ _ (lows-not-below a lo hi n (s .low) (s .lowsIn)) (all-cons _ _ (children-apart l m a b lo hi n (s .own) (o .kids .each) (distinct-cons b (reaches l m (parts lo hi (n .entries))) off (o .kids .once)))
-          (all-cons _ _ (entries-credible l m a lo hi n (s .low) (s .full) (s .lowsUp) (o .steps) (o .kids .each)) all-nil)))))))))))))),
+          (all-cons _ _ (entries-credible l m a lo hi n (s .low) (legal-full lo hi (s .legal)) (s .lowsUp) (o .steps) (o .kids .each))
+          (all-cons _ _ (inside-limits n (every-make limited (names n) (λ k i. legal-limited lo hi k (s .legal) (u .inside k i)))
+          (every-imp (within lo hi) limited (rest (lows (n .entries))) (λ k w. legal-limited lo hi k (s .legal) w) (s .lowsIn))
+          (shown-limited l m lo hi (n .entries) (o .kids .each))) all-nil))))))))))))))),
       all-cons _ _ (every-make _ (names n) (u .inside)) (all-cons _ _ (s .lowsIn) all-nil),
     )
 

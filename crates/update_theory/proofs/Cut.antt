@@ -93,7 +93,7 @@ unfolding nodeOk agrees notBelow childCountOk fewest lowsNotBelow standsIn child
 relow-node l n e e′ o a b c d h =
     all-cons _ _ (all-at _ h 0) (all-cons _ _ (all-at _ h 1) (all-cons _ _ (all-at _ h 2) (all-cons _ _ (all-at _ h 3) (all-cons _ _ (all-at _ h 4) (all-cons _ _ (all-at _ h 5) (all-cons _ _ (all-at _ h 6) (all-cons _ _ (all-at _ h 7) (all-cons _ _ (all-at _ h 8)
     (all-cons _ _ (rw (a, b, c) (all-at _ h 9)) (all-cons _ _ (lower (names n) (all-at _ h 10)) (all-cons _ _ (all-at _ h 11)
-    (all-cons _ _ (lower (rest (lows (n .entries))) (all-at _ h 12)) (all-cons _ _ (rw o (all-at _ h 13)) (all-cons _ _ (all-lower (e .low) (e′ .low) (n .entries) d (all-at _ h 14)) all-nil))))))))))))))
+    (all-cons _ _ (lower (rest (lows (n .entries))) (all-at _ h 12)) (all-cons _ _ (rw o (all-at _ h 13)) (all-cons _ _ (all-lower (e .low) (e′ .low) (n .entries) d (all-at _ h 14)) (all-cons _ _ (all-at _ h 15) all-nil)))))))))))))))
   where
     lower : (ks : List ℕ) → every (λ k. leb (e .low) k) ks ≡ true → every (λ k. leb (e′ .low) k) ks ≡ true
     lower ks q = every-imp _ _ ks (λ k i. le-leb (e′ .low) k (let z = leb-true (e .low) k i in omega arith)) q

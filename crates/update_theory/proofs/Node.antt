@@ -13,17 +13,19 @@ use Rattle.octets.proofs.Tests.{all-at, all-cons, all-nil, every-mem, every-mak
 use Rattle.octets.proofs.Sets.{distinct-split, distinct-join}
 use Rattle.octets.proofs.Rising.{rising-distinct}
 use Rattle.spot.specs.Spots.{keys}
-use Rattle.spot.specs.Keys.{rankKey, within}
+use Rattle.spot.specs.Keys.{rankKey, within, limited}
 use Rattle.spot.proofs.Buffers.{mem-find}
 use Rattle.block.specs.declared.Entry.{Entry}
 use Rattle.block.specs.Node.{Node, Store}
 use Rattle.block.specs.declared.Asked.the-variants.{Child}
-use Rattle.block.specs.NodeRules.{names, nodeOk, buffersRise, namedOnce, pointsAbove, lowest, tops, agrees}
+use Rattle.block.specs.NodeRules.{names, nodeOk, buffersRise, namedOnce, pointsAbove, lowest, tops, agrees, extremes}
+use Rattle.block.proofs.Facts.{node-facts}
+use Rattle.block.proofs.Extremes.{Shows, extremes-inside}
 use Rattle.tree.specs.Part.{Part, nextLow, parts, children, Steps}
 use Rattle.tree.specs.Lookup.{down, lookup}
 use Rattle.tree.specs.Sound.{soundAt, inRange}
 use Rattle.tree.proofs.Says.{names-P, names-I, names-D}
-use Rattle.tree.proofs.Entries.{agree-held, agree-top}
+use Rattle.tree.proofs.Entries.{agree-held, agree-top, agree-bottom}
 use Rattle.tree.proofs.Below.{node-sound, tops-mem, tops-from, live-top, sizes-none, has-insert, has-delete}
 use Rattle.tree.proofs.Ranges.{down-at}
 use Rattle.update_theory.specs.Change.{part}
@@ -78,6 +80,26 @@ top-of l m c e a s z =
     let i = agree-top e n g (agree-held e n g z) .0 in
     let v = point-live l m c s (e .top) i in
     record { point = i; inside = v .1; track = v .0 .0; live = v .0 .1 }
+
+-- what an entry shows of a sound part's P, the part names, so it lies inside the limits
+shows : (l : ℕ) (m : Store) (c : Part) (e : Entry) → c .asked ≡ Child e → soundAt l m c ≡ true → (e .size ≡ 0 → ⊥) → Shows e
+unfolding soundAt
+shows zero m c e a s z = absurd (false≢true s)
+shows (suc l) m c e a s z =
+    let n = m (c .block) in
+    let f = node-facts l (c .asked) n (all-at _ s 0) in
+    let g : agrees (Child e) n ≡ true = rw a at (f .agreed) in
+    let held = agree-held e n g z in
+    record {
+      top = every-mem limited (keys (n .points)) (f .points-limited) (agree-top e n g held .0);
+      bottom = every-mem limited (keys (n .points)) (f .points-limited) (agree-bottom e n g held .0);
+    }
+
+-- of all entries over sound parts
+pub shown-limited : (l : ℕ) (m : Store) (lo hi : ℕ) (es : List Entry) → every (soundAt l m) (parts lo hi es) ≡ true → every limited (extremes es) ≡ true
+shown-limited l m lo hi es s =
+    extremes-inside es
+    (λ e i z. let c = entry-part lo hi es i in shows l m (c .0) e (c .2) (every-mem (soundAt l m) (parts lo hi es) s (c .1)) z)
 
 -- the top of an entry with points is live below
 top-live : (l : ℕ) (m : Store) (p : Part) (n : Node) → Steps (p .lo) (p .hi) (n .entries) → every (soundAt l m) (children p n) ≡ true

@@ -22,7 +22,7 @@ use Rattle.block.specs.Node.{Node, Store}
 use Rattle.block.specs.Table.{blockOk}
 use Rattle.block.specs.declared.Asked.the-variants.{Child}
 use Rattle.block.specs.NodeRules.{nodeOk, lows, lowsRise, agrees, filled, lowest, fewest, childCountOk, childBlocksOk, leafBuffersEmpty, standsIn, childBlocks}
-use Rattle.tree.specs.Part.{Part}
+use Rattle.tree.specs.Part.{Part, Legal}
 use Rattle.tree.specs.Lookup.{lookup}
 use Rattle.tree.specs.Sound.{soundAt, inRange}
 use Rattle.tree.proofs.Below.{node-sound, sizes-filled, sizes-lowest}
@@ -60,10 +60,10 @@ after n es b = record { level = n .level; entries = es; points = b .points; inse
 shape-of : (l : ℕ) (c : Part) (e e′ : Entry) (n : Node) (es : List Entry) (b : Held) → c .asked ≡ Child e → nodeOk l (c .asked) n ≡ true → inRange c n ≡ true
     → lows es ≡ lows (n .entries) → childBlocks es ≡ childBlocks (n .entries) → length (b .points) ≤ 64 → length (b .inserts) ≤ length (n .inserts) → length (b .deletes) ≤ length (n .deletes)
     → length (n .inserts) ≤ 64 → length (n .deletes) ≤ 16 → FilledUp es b
-    → e′ .low ≤ c .lo → agrees (Child e′) (after n es b) ≡ true → e′ .block ≡ c .block → c .hi ≤ allKeys
+    → e′ .low ≤ c .lo → agrees (Child e′) (after n es b) ≡ true → e′ .block ≡ c .block → Legal (c .lo) (c .hi)
     → Shape l (c .block) (Child e′) (c .lo) (c .hi) (after n es b)
 unfolding nodeOk inRange childCountOk fewest lowsRise leafBuffersEmpty childBlocksOk standsIn
-shape-of l c e e′ n es b asks ok inside same-lows same-blocks np ni nd ni₀ nd₀ full low agree own most =
+shape-of l c e e′ n es b asks ok inside same-lows same-blocks np ni nd ni₀ nd₀ full low agree own legal =
     record {
       laid = all-at _ ok 0;
       level = all-at _ ok 1;
@@ -76,7 +76,7 @@ shape-of l c e e′ n es b asks ok inside same-lows same-blocks np ni nd ni₀ n
       low = low;
       blocks = every-blocks (n .room) es ∙ ap (every (blockOk (n .room))) same-blocks ∙ sym (every-blocks (n .room) (n .entries)) ∙ all-at _ ok 11;
       own = own;
-      full = most;
+      legal = legal;
     }
   where
     same-length : length es ≡ length (n .entries)
@@ -99,16 +99,16 @@ shape-of l c e e′ n es b asks ok inside same-lows same-blocks np ni nd ni₀ n
     sizes (inr h) = sizes-lowest (after n es b) (h .0) (h .1) (h .2) (h .3)
 
 -- STORED, once it is filled: w is the store y of the loop's end with the node in its block, and e′ the entry made of it
-pub take-finish : (ni nd l : ℕ) (x y w : Store) (c : Part) (e e′ : Entry) → c .asked ≡ Child e → e′ .block ≡ c .block → e′ .low ≡ e .low → e .low ≤ c .lo → c .hi ≤ allKeys → Sound (suc l) x (c ∷ [])
+pub take-finish : (ni nd l : ℕ) (x y w : Store) (c : Part) (e e′ : Entry) → c .asked ≡ Child e → e′ .block ≡ c .block → e′ .low ≡ e .low → e .low ≤ c .lo → Legal (c .lo) (c .hi) → Sound (suc l) x (c ∷ [])
     → ni ≤ length (x (c .block) .inserts) → nd ≤ length (x (c .block) .deletes) → length (x (c .block) .inserts) ≤ 64 → length (x (c .block) .deletes) ≤ 16
     → (r : ℕ) (es : List Entry) (b : Held) (f : ℕ → Option ℕ) → Loop ni nd l (c .lo) (c .hi) x (x (c .block) .entries) y r es b f → FilledUp es b
     → agrees (Child e′) (after (x (c .block)) es b) ≡ true
     → w (c .block) ≡ after (x (c .block)) es b → ((z : ℕ) → (z ≡ c .block → ⊥) → w z ≡ y z)
     → Changed (suc l) (Taken [] []) x (c ∷ []) w (part (c .block) (Child e′) (c .lo) (c .hi) ∷ []) f
-take-finish ni nd l x y w c e e′ asks own same low most s ni₁ nd₁ ni₀ nd₀ r es b f p full agree at-block else =
+take-finish ni nd l x y w c e e′ asks own same low legal s ni₁ nd₁ ni₀ nd₀ r es b f p full agree at-block else =
     let o = opened l x c s in
     going-done l x y w c (Child e′) [] [] r (after (x (c .block)) es b) f s (λ z i. absurd (List·Memᴰ·not-nil i)) (p .going)
-    (shape-of l c e e′ (x (c .block)) es b asks (o .ok) (o .inside) (p .sameLows) (p .sameBlocks) (p .fewP) (omega (arith, p .fewI, ni₁)) (omega (arith, p .fewD, nd₁)) ni₀ nd₀ full (omega arith) agree own most)
+    (shape-of l c e e′ (x (c .block)) es b asks (o .ok) (o .inside) (p .sameLows) (p .sameBlocks) (p .fewP) (omega (arith, p .fewI, ni₁)) (omega (arith, p .fewD, nd₁)) ni₀ nd₀ full (omega arith) agree own legal)
     at-block else
 
 -- OPENED: the node without its top

@@ -1,4 +1,5 @@
 // Top with an allowance of node blocks.
+ghost use Rattle.table.specs.Queries.{GivenInside};
 use crate::Row;
 use crate::batches::BYTE;
 use crate::batches::changed_bytes;
@@ -37,7 +38,9 @@ pub fn allow(l: Allowed, r: Row) -> Allowed {
     }
 }
 
-fn asked(table: &[u8], l: Allowed, r: Row, output: &mut [u8], map: &mut [u8]) -> within::Said {
+fn asked(table: &[u8], l: Allowed, r: Row, output: &mut [u8], map: &mut [u8]) -> within::Said
+    ensures { λ s. ⌜ GivenInside (s .answer) (now (output .exit)) ⌝ }
+{
     let mut ceiling = 77;
     let o = smaller(l.room, output.len());
     let m = smaller(l.map, map.len());
@@ -82,7 +85,9 @@ fn show_ceiling(ceiling: i32, output: &[u8; 4096], end: usize, map: &[u8; 513], 
     say(b"\n");
 }
 
-fn show_said(said: within::Said, output: &[u8; 4096], map: &[u8; 513]) {
+fn show_said(said: within::Said, output: &[u8; 4096], map: &[u8; 513])
+    requires { ⌜ GivenInside (said .answer) (now output) ⌝ }
+{
     let a = said.answer;
     show(a);
     if a.number != 0 {

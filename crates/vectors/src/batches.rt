@@ -1,5 +1,6 @@
 // Many ranges in one call.
 ghost use Prim.Native.Nat.{_≤_};
+ghost use Rattle.table.specs.Queries.{GivenInside};
 use crate::Row;
 use crate::plain;
 use crate::shown::say;
@@ -61,7 +62,9 @@ fn asked(
     counts: &mut [u32],
     output: &mut [u8],
     map: &mut [u8],
-) -> block::Answer {
+) -> block::Answer
+    ensures { λ a. ⌜ GivenInside a (now (output .exit)) ⌝ }
+{
     let c = smaller(plain(r.x), counts.len());
     let o = smaller(plain(r.y), output.len());
     let m = smaller(plain(r.z), map.len());
@@ -118,7 +121,9 @@ fn show_changed(counts: &[u32; 66], n: usize, output: &[u8; 4096], end: usize) {
     say(b"\n");
 }
 
-fn show_left(a: block::Answer, n: usize, counts: &[u32; 66], output: &[u8; 4096]) {
+fn show_left(a: block::Answer, n: usize, counts: &[u32; 66], output: &[u8; 4096])
+    requires { ⌜ GivenInside a (now output) ⌝ }
+{
     if a.number != 0 {
         show_changed(counts, 0, output, 0);
         return;

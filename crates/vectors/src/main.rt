@@ -3,6 +3,7 @@
 // line with no bar is a remark. Each function says the letters and signs that it knows.
 ghost use Prim.Native.Nat.{_+_, _≤_, _<_};
 ghost use lib.ListN.{length};
+ghost use Rattle.table.specs.Queries.{GivenInside};
 
 mod allowances;
 mod batches;
@@ -89,7 +90,9 @@ fn make_call(table: &mut [u8], scratch: &mut [u8], r: Row) {
 
 // r reports and t gives the top, with room for 2 spots; v and w do so with room for 10, o and p for 1. a reports with room for 341 and prints none of them, x with room for
 // none, s with a map of 511 bytes, l of 513.
-fn asked(table: &[u8], r: Row, output: &mut [u8], map: &mut [u8]) -> block::Answer {
+fn asked(table: &[u8], r: Row, output: &mut [u8], map: &mut [u8]) -> block::Answer
+    ensures { λ a. ⌜ GivenInside a (now (output .exit)) ⌝ }
+{
     if (r.op == b't') | (r.op == b'w') | (r.op == b'p') {
         return table::top(table, r.x, r.y, r.n, output, map);
     }
@@ -129,13 +132,16 @@ fn map_length(op: u8) -> usize
 
 fn ask_within(table: &[u8], r: Row, output: &mut [u8], map: &mut [u8]) -> block::Answer
     requires { ⌜ (4096 ≤ length (now output)) × (513 ≤ length (now map)) ⌝ }
+    ensures { λ a. ⌜ GivenInside a (now (output .exit)) ⌝ }
 {
     let most = room(r.op);
     let long = map_length(r.op);
     asked(table, r, &mut output[0..most], &mut map[0..long])
 }
 
-fn show_found(a: block::Answer, output: &[u8; 4096], op: u8) {
+fn show_found(a: block::Answer, output: &[u8; 4096], op: u8)
+    requires { ⌜ GivenInside a (now output) ⌝ }
+{
     if op != b'a' {
         shown::show_spots(a, output);
     }

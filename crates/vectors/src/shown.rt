@@ -1,4 +1,9 @@
 // What is printed behind a label.
+ghost use mathlib.Core.Path.{_≡_};
+ghost use mathlib.Core.Bool.{true};
+ghost use Rattle.spot.specs.Keys.{limited};
+ghost use Rattle.spot.specs.Spots.{keyAt};
+ghost use Rattle.table.specs.Queries.{GivenInside};
 ghost use Prim.Native.Nat.{_+_, _≤_};
 ghost use lib.ListN.{length};
 
@@ -39,26 +44,29 @@ fn print(out: &[u8], end: usize)
 }
 
 fn show_spot(output: &[u8], at: usize)
-    requires { ⌜ at + 12 ≤ length (now output) ⌝ }
+    requires { ⌜ (at + 12 ≤ length (now output)) × (limited (keyAt (now output) at) ≡ true) ⌝ }
 {
     let mut line = [0u8; 40];
-    let place = spot::read_i32(output, at);
-    let rank = spot::read_i32(output, at + 4);
-    let track = octets::read32(output, at + 8) as u32;
+    let s = spot::read_spot(output, at);
     say(b"    ");
-    let end = text::write_spot_line(&mut line, 0, place, rank, track);
+    let end = text::write_spot_line(
+        &mut line,
+        0,
+        spot::place_of(s.key),
+        spot::rank_in(s.key),
+        s.track,
+    );
     print(&line, end);
 }
 
 // The spots of an answer, where it has any.
-pub fn show_spots(a: block::Answer, output: &[u8]) {
+pub fn show_spots(a: block::Answer, output: &[u8])
+    requires { ⌜ GivenInside a (now output) ⌝ }
+{
     if a.number != 0 {
         return;
     }
     let n = a.detail as usize;
-    if output.len() / 12 < n {
-        return;
-    }
     let mut i = 0;
     while i < n {
         show_spot(output, 12 * i);

@@ -8,12 +8,13 @@ use native.Mathlib.Omega.{arith}
 use lib.Dec.{eqb}
 use lib.ListN.{length, take, drop}
 use borrow.Author.Tests.{eqb-true}
-use Rattle.octets.specs.Lists.{records, rising}
+use Rattle.octets.specs.Lists.{every, records, rising}
 use Rattle.octets.specs.Bytes.{be}
 use Rattle.octets.proofs.Order.{stride}
 use Rattle.octets.proofs.Records.{records-cong}
 use Rattle.octets.proofs.Tests.{and-left, and-right}
-use Rattle.spot.specs.Spots.{keyAt, spotAt, keys}
+use Rattle.spot.specs.Keys.{limited}
+use Rattle.spot.specs.Spots.{keyAt, spotAt, keys, limitedFrom}
 use Rattle.spot.proofs.Buffers.{keys-records}
 use Rattle.spot.proofs.Card.{keyAt-part, spotAt-part}
 use Rattle.block.specs.declared.Front.{Front}
@@ -55,6 +56,9 @@ pub record Runs (t : List ℕ) (b : ℕ) (h : Front) : Type 0 where
   pub points-rise : rising (keys (storeOf t b .points)) ≡ true
   pub inserts-rise : rising (keys (storeOf t b .inserts)) ≡ true
   pub deletes-rise : rising (storeOf t b .deletes) ≡ true
+  pub points-limited : every limited (keys (storeOf t b .points)) ≡ true
+  pub inserts-limited : every limited (keys (storeOf t b .inserts)) ≡ true
+  pub deletes-limited : every limited (storeOf t b .deletes) ≡ true
 
 module _ (t : List ℕ) (b : ℕ) (v : ValidBlock t b) where
   facts : BlockFacts (blocksOf (length t)) (v .level) (v .asked) (block t b)
@@ -75,12 +79,21 @@ module _ (t : List ℕ) (b : ℕ) (v : ValidBlock t b) where
         points-rise = facts .node .points-rise;
         inserts-rise = facts .node .inserts-rise;
         deletes-rise = facts .node .deletes-rise;
+        points-limited = facts .node .points-limited;
+        inserts-limited = facts .node .inserts-limited;
+        deletes-limited = facts .node .deletes-limited;
       }
 
   pub runs-of : {h : Front} → h ≡ frontOf (block t b) → Runs t b h
   runs-of e = subst (λ (h : Front). Runs t b h) (sym e) front-runs
 
 -- ---- what a reader of a run asks
+
+-- records whose keys are those of a buffer
+run-ready : {t : List ℕ} {at w n : ℕ} {ks : List ℕ} → 8 ≤ w → w ≤ 12 → n ≤ 64 → at + w * n ≤ length t → keysFrom t w n at ≡ ks → rising ks ≡ true → every limited ks ≡ true → Ready t at w n
+unfolding limitedFrom
+run-ready wide near few inside e rise limits =
+    record { wide = wide; near = near; few = few; inside = inside; rise = ap rising e ∙ rise; limits = ap (every limited) e ∙ limits }
 
 module _ (t : List ℕ) (b : ℕ) (h : Front) (r : Runs t b h) (inside : b * 2048 + 2048 ≤ length t) where
   points-keys : {x : ℕ} → x ≡ pointsFrom version1 (h .c) → keysFrom t 12 (h .p) (b * 2048 + x) ≡ keys (storeOf t b .points)
@@ -97,16 +110,13 @@ module _ (t : List ℕ) (b : ℕ) (h : Front) (r : Runs t b h) (inside : b * 204
   deletes-keys {x} e = ap (λ (y : ℕ). keysFrom t 8 (h .d) (b * 2048 + y)) e ∙ r .deletes
 
   pub points-ready : {x : ℕ} → x ≡ pointsFrom version1 (h .c) → Ready t (b * 2048 + x) 12 (h .p)
-  points-ready {x} e =
-      (omega arith, omega arith, r .p-most, omega (arith, r .used), ap rising (points-keys e) ∙ r .points-rise)
+  points-ready {x} e = run-ready (omega arith) (omega arith) (r .p-most) (omega (arith, r .used)) (points-keys e) (r .points-rise) (r .points-limited)
 
   pub inserts-ready : {x : ℕ} → x ≡ insertsFrom version1 (h .c) (h .p) → Ready t (b * 2048 + x) 12 (h .i)
-  inserts-ready {x} e =
-      (omega arith, omega arith, r .i-most, omega (arith, r .used), ap rising (inserts-keys e) ∙ r .inserts-rise)
+  inserts-ready {x} e = run-ready (omega arith) (omega arith) (r .i-most) (omega (arith, r .used)) (inserts-keys e) (r .inserts-rise) (r .inserts-limited)
 
   pub deletes-ready : {x : ℕ} → x ≡ deletesFrom version1 (h .c) (h .p) (h .i) → Ready t (b * 2048 + x) 8 (h .d)
-  deletes-ready {x} e =
-      (omega arith, omega arith, omega (arith, r .d-most), omega (arith, r .used), ap rising (deletes-keys e) ∙ r .deletes-rise)
+  deletes-ready {x} e = run-ready (omega arith) (omega arith) (omega (arith, r .d-most)) (omega (arith, r .used)) (deletes-keys e) (r .deletes-rise) (r .deletes-limited)
 
   pub waiting-is : {x y : ℕ} → x ≡ insertsFrom version1 (h .c) (h .p) → y ≡ deletesFrom version1 (h .c) (h .p) (h .i)
       → keysFrom t 12 (h .i) (b * 2048 + x) ++ keysFrom t 8 (h .d) (b * 2048 + y) ≡ waiting (storeOf t b)

@@ -1,10 +1,11 @@
 -- Rising keys: how many are below a key, by halving, and whether the first that is not below is it.
 -- Assumes nothing.
-use mathlib.Core.Path.{_≡_, refl, sym, ap, _∙_}
+use mathlib.Core.Path.{_≡_, refl, sym, ap, subst, _∙_}
 use mathlib.Core.Logic.{_⊎_, inl, inr, ⊎-elim}
 use mathlib.Core.Bool.{Bool, true, false, _||_, or-false}
 use mathlib.Core.List.{List, [], _∷_}
 use Prim.Native.Nat.{ℕ, zero, suc, _+_, _*_, _≤_, _<_}
+use native.Mathlib.Nat.{mul-zero}
 use native.Mathlib.Omega.{arith}
 use lib.Dec.{ltb, leb, eqb}
 use lib.ListN.{length, getD}
@@ -16,8 +17,10 @@ use Rattle.octets.proofs.Tests.{every-at, keep-length}
 use Rattle.octets.proofs.Rising.{rising-first, rising-rest, rising-from, rising-least}
 use Rattle.octets.proofs.Sets.{has-not}
 use Rattle.octets.proofs.Records.{length-records, records-at}
+use Rattle.spot.specs.Keys.{limited}
 use Rattle.spot.specs.Spots.{keyAt}
-use Rattle.visit.specs.Visit.{belowIn, keysFrom}
+use Rattle.spot.proofs.Limits.{limited-each}
+use Rattle.visit.specs.Visit.{Ready, belowIn, keysFrom}
 
 rising-at : (a : ℕ) (ks : List ℕ) (i d : ℕ) → risingFrom a ks ≡ true → i < length ks → a ≤ getD ks i d
 rising-at a ks i d p h = leb-true a (getD ks i d) (every-at (leb a) ks d (rising-from a ks p) i h)
@@ -127,9 +130,19 @@ near-turn m r i x k s up down =
 
 -- ---- keys as records
 
--- the key of the i-th of n records stands before their end
-pub key-room : (w at l : ℕ) {i n : ℕ} → i < n → 8 ≤ w → at + w * n ≤ l → at + w * i + 8 ≤ l
-key-room w at l h g e = omega (arith, stride w h)
+-- what the reader of a key asks
+abbrev pub Reads : List ℕ → ℕ → Type 0
+Reads t at = (at + 8 ≤ length t) × (limited (keyAt t at) ≡ true)
+
+module _ {t : List ℕ} {at w n : ℕ} (r : Ready t at w n) where
+  -- the key of the i-th of n records stands before their end
+  pub key-reads : (i : ℕ) → i < n → Reads t (at + w * i)
+  key-reads i h = (omega (arith, r .wide, r .inside, stride w h), limited-each t w n at (r .limits) i h)
+
+  pub first-reads : 0 < n → Reads t at
+  first-reads h =
+      let e : at + w * 0 ≡ at = omega (arith, mul-zero w) in
+      subst (Reads t) e (key-reads 0 h)
 
 module _ (s : List ℕ) (w n at : ℕ) where
   abbrev run : List ℕ

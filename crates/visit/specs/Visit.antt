@@ -10,7 +10,7 @@ use lib.Dec.{ltb}
 use Rattle.octets.specs.Lists.{has, keep, records, rising, isEmpty}
 use Rattle.octets.specs.Bytes.{be}
 use Rattle.spot.specs.Keys.{rankKey, allKeys}
-use Rattle.spot.specs.Spots.{keys, keyAt, spotAt}
+use Rattle.spot.specs.Spots.{keys, keyAt, spotAt, limitedFrom}
 pub use Rattle.spot.specs.Spots.{keysFrom}
 use Rattle.spot.specs.Query.{wantsKey}
 use Rattle.spot.specs.declared.Spot.{Spot}
@@ -79,9 +79,14 @@ pub record Ancestors (t : List ℕ) (p : Path) (top : ℕ) : Type 0 where
   pub path : ValidPath t p
   pub over : (b : ℕ) → List·Memᴰ b (above p) → (k : ℕ) → List·Memᴰ k (keys (storeOf t b .points)) → top < rankKey k
 
--- n records of w bytes from at on whose keys rise
-abbrev pub Ready : List ℕ → ℕ → ℕ → ℕ → Type 0
-Ready t at w n = (8 ≤ w) × (w ≤ 12) × (n ≤ 64) × (at + w * n ≤ length t) × (rising (keysFrom t w n at) ≡ true)
+-- n records of w bytes from at on whose keys rise and have places inside the limits
+pub record Ready (t : List ℕ) (at w n : ℕ) : Type 0 where
+  pub wide : 8 ≤ w
+  pub near : w ≤ 12
+  pub few : n ≤ 64
+  pub inside : at + w * n ≤ length t
+  pub rise : rising (keysFrom t w n at) ≡ true
+  pub limits : limitedFrom t w n at ≡ true
 
 -- how many of the keys are below k
 abbrev pub belowIn : ℕ → List ℕ → ℕ

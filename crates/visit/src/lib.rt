@@ -5,11 +5,11 @@ ghost use mathlib.Core.Logic.{_⊎_};
 ghost use mathlib.Core.List.{_∷_, [], _++_};
 ghost use Prim.Native.Nat.{_+_, _*_, _≤_, _<_};
 ghost use lib.ListN.{length, take};
-ghost use Rattle.octets.specs.Lists.{has, rising};
+ghost use Rattle.octets.specs.Lists.{has};
 ghost use Rattle.octets.specs.Bytes.{be};
 ghost use Rattle.spot.specs.Query.{meets, leastOf, isRing, allPlaces};
 ghost use Rattle.block.specs.Node.{storeOf};
-ghost use Rattle.block.specs.NodeRules.{ValidBlock};
+ghost use Rattle.block.specs.NodeRules.{ValidBlock, ValidBytes};
 ghost use Rattle.block.specs.declared.Asked.the-variants.{Child};
 ghost use Rattle.tree.specs.Walk.{admits};
 ghost use Rattle.visit.specs.Visit.{endOf, partOf, above, waiting, waitingAbove, ValidPath, WaitsGathered, KeysKept, keysFrom, Ready, AllWanted, RangeMarks, Unmarked, Through, Wanted, Blank, Struck, Marks, marksIn, belowIn, taken, childSpan, entriesIn};
@@ -79,7 +79,7 @@ fn near(t: &[u8], at: usize, w: usize, n: usize, k: u64, a: usize, e: usize) -> 
 
 // How many of the n keys, w bytes apart from at on, are below k; they rise.
 pub fn below(t: &[u8], at: usize, w: usize, n: usize, k: u64) -> usize
-    requires { ⌜ (8 ≤ w) × (w ≤ 12) × (n ≤ 64) × (at + w * n ≤ length (now t)) × (rising (keysFrom (now t) w n at) ≡ true) ⌝ }
+    requires { ⌜ Ready (now t) at w n ⌝ }
     ensures { λ r. ⌜ (r ≡ belowIn k (keysFrom (now (t .entry)) w n at)) × (r ≤ n) ⌝ }
 {
     let a = 8 * eighths(t, at, w, n, k);
@@ -91,7 +91,7 @@ pub fn below(t: &[u8], at: usize, w: usize, n: usize, k: u64) -> usize
 
 // One of those keys is k.
 pub fn has_key(t: &[u8], at: usize, w: usize, n: usize, k: u64) -> bool
-    requires { ⌜ (8 ≤ w) × (w ≤ 12) × (n ≤ 64) × (at + w * n ≤ length (now t)) × (rising (keysFrom (now t) w n at) ≡ true) ⌝ }
+    requires { ⌜ Ready (now t) at w n ⌝ }
     ensures { λ r. ⌜ r ≡ has k (keysFrom (now (t .entry)) w n at) ⌝ }
 {
     let i = below(t, at, w, n, k);
@@ -145,15 +145,14 @@ fn unmarked(m: [bool; 64], a: usize, e: usize) -> [bool; 64]
 
 // Marks those of the n spots from at on that the query wants, each tested; it is no ring.
 fn wanted_each(t: &[u8], at: usize, n: usize, q: spot::Query) -> [bool; 64]
-    requires { ⌜ (n ≤ 64) × (at + 12 * n ≤ length (now t)) × (isRing q ≡ false) ⌝ }
+    requires { ⌜ Ready (now t) at 12 n × (isRing q ≡ false) ⌝ }
     ensures { λ r. ⌜ Wanted (now (t .entry)) at n q r ⌝ }
 {
     let mut m = [false; 64];
     let mut i = 0;
     while i < n {
-        let place = spot::read_i32(t, at + 12 * i);
-        let rank = spot::read_i32(t, at + 12 * i + 4);
-        m[i] = spot::wanted(place, rank, q.x1, q.x2, q.y);
+        let k = spot::read_key(t, at + 12 * i);
+        m[i] = spot::wanted(spot::place_of(k), spot::rank_in(k), q.x1, q.x2, q.y);
         i += 1;
     }
     m
@@ -185,7 +184,7 @@ fn placed_marks(t: &[u8], at: usize, n: usize, q: spot::Query) -> [bool; 64]
 
 // Marks those of the n spots from at on that have a rank of at least y.
 fn ranked_marks(t: &[u8], at: usize, n: usize, y: i32) -> [bool; 64]
-    requires { ⌜ (n ≤ 64) × (at + 12 * n ≤ length (now t)) ⌝ }
+    requires { ⌜ Ready (now t) at 12 n ⌝ }
     ensures { λ r. ⌜ Wanted (now (t .entry)) at n (allPlaces y) r ⌝ }
 {
     let q = spot::all_places(y);
@@ -358,7 +357,7 @@ fn strike_keys(t: &[u8], at: usize, n: usize, m: &mut [bool], ws: &[u64], c: usi
 // Marks those of the n spots from at on that the query takes: the wanted ones, but for those of which a change waits above. Where the spots leave the range
 // that is gathered, the nodes above are asked.
 pub fn marks(t: &[u8], at: usize, n: usize, q: spot::Query, p: Path, ws: &[u64]) -> [bool; 64]
-    requires { ⌜ (n ≤ 64) × (at + 12 * n ≤ length (now t)) × ValidPath (now t) p × (rising (keysFrom (now t) 12 n at) ≡ true) × WaitsGathered (now t) p (now ws) ⌝ }
+    requires { ⌜ Ready (now t) at 12 n × ValidPath (now t) p × WaitsGathered (now t) p (now ws) ⌝ }
     ensures { λ r. ⌜ Marks (now (t .entry)) at n q p r ⌝ }
 {
     let mut m = wanted(t, at, n, q);
@@ -406,7 +405,7 @@ fn takes_all(t: &[u8], at: usize, n: usize, q: spot::Query, p: Path, ws: &[u64])
 
 // How many of the n spots from at on, which rise, the query takes.
 pub fn count_run(t: &[u8], at: usize, n: usize, q: spot::Query, p: Path, ws: &[u64]) -> usize
-    requires { ⌜ (n ≤ 64) × (at + 12 * n ≤ length (now t)) × ValidPath (now t) p × (rising (keysFrom (now t) 12 n at) ≡ true) × WaitsGathered (now t) p (now ws) ⌝ }
+    requires { ⌜ Ready (now t) at 12 n × ValidPath (now t) p × WaitsGathered (now t) p (now ws) ⌝ }
     ensures { λ r. ⌜ (r ≡ length (taken (now (t .entry)) at n q p)) × (r ≤ n) ⌝ }
 {
     if n == 0 {
@@ -421,7 +420,7 @@ pub fn count_run(t: &[u8], at: usize, n: usize, q: spot::Query, p: Path, ws: &[u
 
 // The span of the i-th of the c children of the node in s, which begins at lo.
 pub fn child_span(s: &[u8], i: usize, c: usize, lo: u64, span: Span) -> Span
-    requires { ⌜ (length (now s) ≡ 2048) × (i < c) × (c ≤ 8) × (c ≡ be 1 (now s) 7) ⌝ }
+    requires { ⌜ ValidBytes (now s) × (i < c) × (c ≡ be 1 (now s) 7) ⌝ }
     ensures { λ r. ⌜ r ≡ childSpan (entriesIn (now (s .entry))) i lo span ⌝ }
 {
     if i + 1 < c {

@@ -87,11 +87,11 @@ module _ (x1 x2 : ℤ) (k a : ℕ) (t out map : List ℕ) where
       subst (λ (z : Said). Saying x1 x2 k a t out map z out map) (sym e) (record { search = v; ceiling = λ h. refl; refused = λ h. refl })
 
   pub within-short : (s : Said) → tableSized (length t) ≡ false → s ≡ saidOf 1 0 (pos 0) → Saying x1 x2 k a t out map s out map
-  within-short s e h = refused-as 0 0 s h (search-short call refl refl x1 x2 once gives t out map (answer 1 0) e refl)
+  within-short s e h = refused-as 0 0 s h (search-short call refl refl refl x1 x2 once gives t out map (answer 1 0) e refl)
 
   module _ (e : tableSized (length t) ≡ true) where
     pub within-lent : (s : Said) → eqb (length map) 512 ≡ false → s ≡ saidOf 2 0 (pos 0) → Saying x1 x2 k a t out map s out map
-    within-lent s f h = refused-as 1 0 s h (search-lent call refl refl x1 x2 once gives t out map (answer 2 0) e f refl)
+    within-lent s f h = refused-as 1 0 s h (search-lent call refl refl refl x1 x2 once gives t out map (answer 2 0) e f refl)
 
     module _ (f : eqb (length map) 512 ≡ true) where
       walk-of : (b : Bool) → ended .whole ≡ b → gives ≡ cond b (walked (givenOf k ended) (ended .blocks)) broken
@@ -101,7 +101,7 @@ module _ (x1 x2 : ℤ) (k a : ℕ) (t out map : List ℕ) where
       -- a rule is broken
       pub within-broken : (s : Said) → ended .whole ≡ false → s ≡ saidOf 3 0 (pos 0) → Saying x1 x2 k a t out map s out map
       within-broken s w h =
-          refused-as 2 0 s h (search-broken call refl refl x1 x2 once gives t out map (answer 3 0) e f (ap isBroken (walk-of false w)) refl)
+          refused-as 2 0 s h (search-broken call refl refl refl x1 x2 once gives t out map (answer 3 0) e f (ap isBroken (walk-of false w)) refl)
 
       -- more spots than the output holds
       pub within-many : (s : Said) (n : ℕ) → ended .whole ≡ true → n ≡ length (givenOf k ended) → length out / 12 < n → s ≡ saidOf 5 n (pos 0)
@@ -109,7 +109,7 @@ module _ (x1 x2 : ℤ) (k a : ℕ) (t out map : List ℕ) where
       within-many s n w m l h =
           let is = walk-of true w in
           refused-as 4 n s h
-          (search-many call refl refl x1 x2 once gives t out map (answer 5 n) e f n (ap isBroken is) (m ∙ sym (ap (λ (v : Walk). length (spots v)) is)) l refl)
+          (search-many call refl refl refl x1 x2 once gives t out map (answer 5 n) e f n (ap isBroken is) (m ∙ sym (ap (λ (v : Walk). length (spots v)) is)) l refl)
 
       serves : {n : ℕ} {seen′ out′ : List ℕ} (g : GivenOut t x1 x2 k a n out seen′ out′) → Serves t x1 x2 once gives (g .given) (g .blocks)
       serves g =
@@ -132,7 +132,7 @@ module _ (x1 x2 : ℤ) (k a : ℕ) (t out map : List ℕ) where
           subst (λ (z : Said). Saying x1 x2 k a t out map z out′ map′) (sym h)
           (record {
             search =
-                search-given call refl refl x1 x2 once gives t out map (answer 0 n) e f n out′ map′ (serves g) (g .counted) l refl
+                search-given call refl refl refl x1 x2 once gives t out map (answer 0 n) e f n out′ map′ (serves g) (g .counted) l refl
                 (g .output ∙ ap (λ (i : ℕ). spotsBytes (g .given) ++ drop (12 * i) out) (g .counted))
                 (m ∙ g .map);
             ceiling = λ z. ap unbiased (sure .ceiling z);

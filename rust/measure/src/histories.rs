@@ -1,7 +1,7 @@
 //! Add and Withdraw over four kinds of histories, beside zeroing the work area, which the scope paper makes each of them do. A second pass counts the blocks written
 //! and how often the table was laid out anew. Prints times and ratios; tests nothing.
 
-use spot_reference::histories::{next, Change, Kind, Live, KINDS};
+use spot_reference::histories::{anywhere, next, Change, Kind, Live, KINDS};
 use spot_reference::{Key, Random};
 use spot_table::*;
 use std::hint::black_box;
@@ -64,10 +64,9 @@ fn run(blocks: usize, kind: Kind, full: bool) {
     let mut step = 0;
     let target = if kind == Kind::AtCapacity { capacity } else { fill };
     while live.spots.len() < target {
-        let k =
-            if kind == Kind::Rising { (step as i32, random.draw() as i32) } else { (random.draw() as i32, (random.draw() >> 20) as i32) };
+        let k = if kind == Kind::Rising { (step as i32, random.draw() as i32) } else { anywhere(&mut random) };
         assert_eq!(add(&mut table, &mut work, spot(k, 1)).number, 0);
-        live.apply(Change::Add(k, 1), capacity);
+        assert_eq!(live.apply(Change::Add(k, 1), table.len(), work.len()), 0);
         step += 1;
     }
     let mut s = Sums { adds: 0.0, add_ns: 0.0, drops: 0.0, drop_ns: 0.0, zero_ns: 0.0, zeros: 0.0 };
@@ -81,7 +80,7 @@ fn run(blocks: usize, kind: Kind, full: bool) {
             Change::Withdraw(k) => withdraw(black_box(&mut table), &mut work, k.0, k.1),
         };
         let ns = start.elapsed().as_nanos() as f64;
-        let accepted = live.apply(c, capacity);
+        let accepted = live.apply(c, table.len(), work.len()) == 0;
         assert_eq!(a.number == 0, accepted);
         match c {
             Change::Add(..) if accepted => {
@@ -107,7 +106,7 @@ fn run(blocks: usize, kind: Kind, full: bool) {
         let c = next(kind, step, &live, capacity, fill, &mut random);
         step += 1;
         let waited = waiting(&table);
-        let accepted = live.apply(c, capacity);
+        let accepted = live.apply(c, table.len(), work.len()) == 0;
         let _ = match c {
             Change::Add(k, t) => add(&mut table, &mut work, spot(k, t)),
             Change::Withdraw(k) => withdraw(&mut table, &mut work, k.0, k.1),

@@ -11,10 +11,21 @@ pub const MOST_BLOCKS: usize = 4096;
 /// Capacity: spots for each block after block 0.
 pub const SPOTS_A_BLOCK: usize = 16;
 
+/// The limits of places, in centimetres; both are places.
+pub const LOWEST_PLACE: i32 = -1_000_000;
+pub const HIGHEST_PLACE: i32 = 1_000_000;
+
+/// Whether a spot can have this place.
+pub fn in_limits(place: i32) -> bool {
+    (LOWEST_PLACE..=HIGHEST_PLACE).contains(&place)
+}
+
 pub const HEAD: usize = 8;
 pub const ENTRY: usize = 28;
 pub const SPOT: usize = 12;
 pub const KEY: usize = 8;
+/// The first bytes of an identity.
+pub const PLACE: usize = 4;
 
 pub fn by_rank(k: Key) -> (i32, i32) {
     (k.1, k.0)

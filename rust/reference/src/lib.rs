@@ -12,7 +12,7 @@ mod within;
 pub mod words;
 
 pub use explain::{faults, sound, Fault, Way, MOST_FAULTS, RULES};
-pub use layout::{top_order, Key};
+pub use layout::{in_limits, top_order, Key, HIGHEST_PLACE, LOWEST_PLACE};
 pub use range::{holds, reported, reported_many, stretches};
 pub use tables::{make, read_by_many, read_by_report, some_spots, Entry, Made, Node, Random};
 pub use tree::{nodes, Placed};

@@ -46,8 +46,10 @@ pub fn reported_many(live: &BTreeMap<Key, u32>, ranges: &[(i32, i32, i32)]) -> (
 #[cfg(test)]
 mod tests {
     use super::*;
+    use crate::{HIGHEST_PLACE, LOWEST_PLACE};
 
     const ENDS: (i32, i32) = (i32::MIN, i32::MAX);
+    const LIMITS: (i32, i32) = (LOWEST_PLACE, HIGHEST_PLACE);
 
     #[test]
     fn stretches_from_the_first_place_on() {
@@ -61,16 +63,20 @@ mod tests {
         assert!(holds(5, 3, 5) && holds(5, 3, 3) && !holds(5, 3, 4) && holds(4, 3, 4) && !holds(ENDS.1, ENDS.0, 0));
     }
 
-    /// Case M5 of the scope paper, as request 2026-05 has it, and spots at both ends of the places.
+    /// Case M5 of the scope paper, as request 2026-05 has it, and spots at both limits of the places; the ends of a range may lie beyond them.
     #[test]
     fn reports_past_the_door() {
-        let keys = [(ENDS.0, 7), (-3, 7), (0, 7), (240, 5), (240, 7), (ENDS.1, 7)];
+        let keys = [(LIMITS.0, 7), (-3, 7), (0, 7), (240, 5), (240, 7), (LIMITS.1, 7)];
         let live = BTreeMap::from(keys.map(|k| (k, 0)));
         let given = |x1, x2, y| reported(&live, x1, x2, y).into_iter().map(|s| s.0).collect::<Vec<_>>();
-        assert_eq!(given(240, 0, 7), [(240, 7), (ENDS.1, 7), (ENDS.0, 7), (-3, 7), (0, 7)]);
-        assert_eq!(given(240, -4, 0), [(240, 5), (240, 7), (ENDS.1, 7), (ENDS.0, 7)]);
-        assert_eq!(given(ENDS.1, ENDS.0, 0), [(ENDS.1, 7), (ENDS.0, 7)]);
-        assert_eq!(given(1, 0, 6), [(240, 7), (ENDS.1, 7), (ENDS.0, 7), (-3, 7), (0, 7)]);
+        assert_eq!(given(240, 0, 7), [(240, 7), (LIMITS.1, 7), (LIMITS.0, 7), (-3, 7), (0, 7)]);
+        assert_eq!(given(240, -4, 0), [(240, 5), (240, 7), (LIMITS.1, 7), (LIMITS.0, 7)]);
+        assert_eq!(given(LIMITS.1, LIMITS.0, 0), [(LIMITS.1, 7), (LIMITS.0, 7)]);
+        assert_eq!(given(LIMITS.1 + 1, LIMITS.0, 0), [(LIMITS.0, 7)]);
+        assert_eq!(given(LIMITS.1, LIMITS.0 - 1, 0), [(LIMITS.1, 7)]);
+        assert_eq!(given(ENDS.1, ENDS.0, 0), []);
+        assert_eq!(given(LIMITS.1, ENDS.1, 0), [(LIMITS.1, 7)]);
+        assert_eq!(given(1, 0, 6), [(240, 7), (LIMITS.1, 7), (LIMITS.0, 7), (-3, 7), (0, 7)]);
         assert_eq!(given(240, 240, 0), [(240, 5), (240, 7)]);
         let two = BTreeMap::from([((0, 7), 1), ((240, 7), 2)]);
         assert_eq!(reported(&two, 240, 0, 7), [((240, 7), 2), ((0, 7), 1)]);

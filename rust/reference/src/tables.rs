@@ -1,6 +1,6 @@
 //! Tables made in many arrangements, with changes waiting in every inner node, and what a Report reads of them by the scope paper's words.
 
-use crate::layout::{block, by_rank, key, root, track, Key};
+use crate::layout::{block, by_rank, key, root, track, Key, HIGHEST_PLACE, LOWEST_PLACE};
 use crate::range::meets;
 use std::collections::{BTreeMap, BTreeSet};
 
@@ -34,6 +34,16 @@ impl Random {
 
     pub fn below(&mut self, n: usize) -> usize {
         (self.draw() % n as u64) as usize
+    }
+
+    /// A place inside the limits, now and then one of them.
+    pub fn place(&mut self) -> i32 {
+        let places = (HIGHEST_PLACE - LOWEST_PLACE + 1) as usize;
+        match self.below(400) {
+            0 => LOWEST_PLACE,
+            1 => HIGHEST_PLACE,
+            _ => LOWEST_PLACE + self.below(places) as i32,
+        }
     }
 }
 
@@ -257,20 +267,20 @@ pub fn make(blocks: usize, spots: &BTreeMap<Key, u32>, waiting: bool, random: &m
     Made { table, live, levels: fans.len() + 1 }
 }
 
-/// Random spots: places and ranks from small ranges, so that both repeat, and now and then an end of the range.
+/// Random spots: places and ranks from small ranges, so that both repeat, and now and then a limit of the places or an end of the ranks.
 pub fn some_spots(n: usize, places: usize, ranks: usize, random: &mut Random) -> BTreeMap<Key, u32> {
     let mut out = BTreeMap::new();
     let mut tries = 0;
     while out.len() < n && tries < 20 * n + 100 {
         tries += 1;
-        let end = |r: &mut Random, v: i32| match r.below(400) {
-            0 => i32::MIN,
-            1 => i32::MAX,
+        let end = |r: &mut Random, v: i32, lowest: i32, highest: i32| match r.below(400) {
+            0 => lowest,
+            1 => highest,
             _ => v,
         };
         let place = random.below(places) as i32 - (places / 2) as i32;
         let rank = random.below(ranks) as i32 - (ranks / 2) as i32;
-        let k = (end(random, place), end(random, rank));
+        let k = (end(random, place, LOWEST_PLACE, HIGHEST_PLACE), end(random, rank, i32::MIN, i32::MAX));
         out.insert(k, random.draw() as u32);
     }
     out

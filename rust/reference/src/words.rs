@@ -1,5 +1,6 @@
 //! Numbers, bytes and identities as people read them.
 
+use crate::layout::{HIGHEST_PLACE, LOWEST_PLACE};
 use crate::Key;
 use std::ops::Range;
 
@@ -34,6 +35,11 @@ pub fn identity(k: Key) -> String {
     format!("place {} rank {}", k.0, k.1)
 }
 
+/// Of a place that no spot can have: "outside the limits of places, -1,000,000 to 1,000,000 cm".
+pub fn outside() -> String {
+    format!("outside the limits of places, {} to {} cm", number(LOWEST_PLACE), number(HIGHEST_PLACE))
+}
+
 #[cfg(test)]
 mod tests {
     use super::*;
@@ -44,6 +50,11 @@ mod tests {
         for (n, text) in rows {
             assert_eq!(number(n), text);
         }
+    }
+
+    #[test]
+    fn limits_of_places() {
+        assert_eq!(outside(), "outside the limits of places, -1,000,000 to 1,000,000 cm");
     }
 
     #[test]

@@ -1,6 +1,6 @@
 //! Each rule broken in one place: the rule, the block, the bytes and the entry that leads there are named.
 
-use spot_reference::{faults, make, some_spots, sound, Fault, Random, Way, MOST_FAULTS};
+use spot_reference::{faults, make, some_spots, sound, Fault, Random, Way, HIGHEST_PLACE, LOWEST_PLACE, MOST_FAULTS};
 use std::ops::Range;
 
 /// A table with three levels and changes waiting; block 1 is the root, block 2 its first child, block 3 the first leaf.
@@ -113,6 +113,45 @@ fn orders() {
     let second = t[2048 + 37] as usize;
     let p = 8 + 28 * t[2048 * second + 7] as usize;
     set(second, p, 0x80, 3, second, p..p + 8, by_entry(1, 2));
+}
+
+/// A place outside the limits in each field that stores one: rule 7, with the four bytes of the place.
+#[test]
+fn limits() {
+    let t = table();
+    let [p, i, d, c] = [4, 5, 6, 7].map(|at| t[2048 + at] as usize);
+    assert!(p > 0 && i > 0 && d > 0);
+    let points = 8 + 28 * c;
+    let (inserts, deletes) = (points + 12 * p, points + 12 * (p + i));
+    let far = |at: usize, place: i32| {
+        let change = |t: &mut [u8]| t[2048 + at..][..4].copy_from_slice(&place.to_be_bytes());
+        let fault = shown(change, 7, 1, at..at + 4, Way::Root);
+        assert!(fault.what.contains(&format!("place {place} rank ")), "{fault}");
+        assert!(fault.what.ends_with("outside the limits of places, -1,000,000 to 1,000,000 cm"), "{fault}");
+        fault.what
+    };
+    for place in [HIGHEST_PLACE + 1, i32::MAX] {
+        assert!(far(inserts - 12, place).contains(" in P lies outside"));
+        assert!(far(deletes - 12, place).contains(" in I lies outside"));
+        assert!(far(deletes + 8 * (d - 1), place).contains(" in D lies outside"));
+        assert!(far(8 + 28 * (c - 1) + 4, place).starts_with(&format!("the lowest identity of entry {c} is ")));
+        assert!(far(8 + 28 * (c - 1) + 12, place).starts_with(&format!("entry {c} says that the highest of P is ")));
+        assert!(far(8 + 28 * (c - 1) + 20, place).starts_with(&format!("entry {c} says that the lowest of P is ")));
+    }
+    for place in [LOWEST_PLACE - 1, i32::MIN] {
+        assert!(far(points, place).contains(" in P lies outside"));
+        assert!(far(inserts, place).contains(" in I lies outside"));
+        assert!(far(deletes, place).contains(" in D lies outside"));
+        assert!(far(36 + 4, place).starts_with("the lowest identity of entry 2 is "));
+        assert!(far(8 + 12, place).starts_with("entry 1 says that the highest of P is "));
+        assert!(far(8 + 20, place).starts_with("entry 1 says that the lowest of P is "));
+    }
+    // the limits themselves are places; the first entry's range field is unused, and only has to be zero
+    for (at, place) in [(inserts - 12, HIGHEST_PLACE), (points, LOWEST_PLACE), (8 + 4, i32::MAX)] {
+        let mut t = table();
+        t[2048 + at..][..4].copy_from_slice(&place.to_be_bytes());
+        assert!(faults(&t).iter().all(|f| f.rule != 7), "{at} {place}");
+    }
 }
 
 #[test]

@@ -18,14 +18,14 @@ loop-holds c =
     let a = c .before .args in
     (omega arith, omega arith, apart-start (now (a .s)) (a .n) (a .at) (a .d) (a .ad) (c .before .pre .2) (c .before .pre .3))
 
-mul-read-key : tie.Need-mul-read-key Inv-loop μ-loop
-mul-read-key c = omega arith
+mul-raw-key : tie.Need-mul-raw-key Inv-loop μ-loop
+mul-raw-key c = omega arith
 
-add-read-key : tie.Need-add-read-key Inv-loop μ-loop
-add-read-key c = omega arith
+add-raw-key : tie.Need-add-raw-key Inv-loop μ-loop
+add-raw-key c = omega arith
 
-read-key-requires : tie.Need-read-key-requires Inv-loop μ-loop
-read-key-requires c κs = omega arith
+raw-key-requires : tie.Need-raw-key-requires Inv-loop μ-loop
+raw-key-requires c κs = omega arith
 
 past-requires : tie.Need-past-requires Inv-loop μ-loop
 past-requires c κs = omega arith
@@ -35,25 +35,25 @@ returns c =
     let a = c .before .before .before .before .before .before .args in
     let l = c .before .before .before .before .loop in
     let r = c .before .past .result in
-    let v = apart-past (now (a .s)) (a .n) (a .at) (a .d) (a .ad) (l .i) (l .j) r (l .inv .2) (c .before .past .ensures) (omega arith) (c .before .before .read-key .ensures) in
+    let v = apart-past (now (a .s)) (a .n) (a .at) (a .d) (a .ad) (l .i) (l .j) r (l .inv .2) (c .before .past .ensures) (omega arith) (c .before .before .raw-key .ensures) in
     apart-many (now (a .s)) (a .n) (a .at) (a .d) (a .ad) r (l .j) v (omega arith)
 
-mul-read-key-2 : tie.Need-mul-read-key-2 Inv-loop μ-loop
-mul-read-key-2 c = omega arith
+mul-raw-key-2 : tie.Need-mul-raw-key-2 Inv-loop μ-loop
+mul-raw-key-2 c = omega arith
 
-add-read-key-2 : tie.Need-add-read-key-2 Inv-loop μ-loop
-add-read-key-2 c = omega arith
+add-raw-key-2 : tie.Need-add-raw-key-2 Inv-loop μ-loop
+add-raw-key-2 c = omega arith
 
-read-key-requires-2 : tie.Need-read-key-requires-2 Inv-loop μ-loop
-read-key-requires-2 c κs = omega arith
+raw-key-requires-2 : tie.Need-raw-key-requires-2 Inv-loop μ-loop
+raw-key-requires-2 c κs = omega arith
 
 returns-2 : tie.Need-returns-2 Inv-loop μ-loop
 returns-2 c =
     let a = c .before .before .before .before .before .before .before .before .args in
     let l = c .before .before .before .before .before .before .loop in
     let r = c .before .before .before .past .result in
-    let v = apart-past (now (a .s)) (a .n) (a .at) (a .d) (a .ad) (l .i) (l .j) r (l .inv .2) (c .before .before .before .past .ensures) (omega arith) (c .before .before .before .before .read-key .ensures) in
-    apart-stop (now (a .s)) (a .n) (a .at) (a .d) (a .ad) r (l .j) v (omega arith) (omega arith) (c .before .read-key2 .ensures) (c .before .before .before .before .read-key .ensures) (c .if2 .taken)
+    let v = apart-past (now (a .s)) (a .n) (a .at) (a .d) (a .ad) (l .i) (l .j) r (l .inv .2) (c .before .before .before .past .ensures) (omega arith) (c .before .before .before .before .raw-key .ensures) in
+    apart-stop (now (a .s)) (a .n) (a .at) (a .d) (a .ad) r (l .j) v (omega arith) (omega arith) (c .before .raw-key2 .ensures) (c .before .before .before .before .raw-key .ensures) (c .if2 .taken)
 
 add-j : tie.Need-add-j Inv-loop μ-loop
 add-j c = omega arith
@@ -66,11 +66,11 @@ loop-again c =
     let a = c .before .before .before .before .before .before .before .before .args in
     let l = c .before .before .before .before .before .before .loop in
     let r = c .before .before .before .past .result in
-    let v = apart-past (now (a .s)) (a .n) (a .at) (a .d) (a .ad) (l .i) (l .j) r (l .inv .2) (c .before .before .before .past .ensures) (omega arith) (c .before .before .before .before .read-key .ensures) in (
+    let v = apart-past (now (a .s)) (a .n) (a .at) (a .d) (a .ad) (l .i) (l .j) r (l .inv .2) (c .before .before .before .past .ensures) (omega arith) (c .before .before .before .before .raw-key .ensures) in (
       omega arith,
       omega arith,
-      apart-next2 (now (a .s)) (a .n) (a .at) (a .d) (a .ad) r (l .j) v (omega arith) (omega arith) (c .before .read-key2 .ensures) (c .before .before .before .before .read-key .ensures)
-          (omega (arith, c .before .before .before .past .ensures .reached (omega arith), c .before .read-key2 .ensures)),
+      apart-next2 (now (a .s)) (a .n) (a .at) (a .d) (a .ad) r (l .j) v (omega arith) (omega arith) (c .before .raw-key2 .ensures) (c .before .before .before .before .raw-key .ensures)
+          (omega (arith, c .before .before .before .past .ensures .reached (omega arith), c .before .raw-key2 .ensures)),
     )
 
 returns-3 : tie.Need-returns-3 Inv-loop μ-loop
@@ -86,14 +86,14 @@ apart-ok-spec =
     Inv-loop
     μ-loop
     loop-holds
-    mul-read-key
-    add-read-key
-    read-key-requires
+    mul-raw-key
+    add-raw-key
+    raw-key-requires
     past-requires
     returns
-    mul-read-key-2
-    add-read-key-2
-    read-key-requires-2
+    mul-raw-key-2
+    add-raw-key-2
+    raw-key-requires-2
     returns-2
     add-j
     loop-less

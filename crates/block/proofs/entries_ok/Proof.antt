@@ -1,17 +1,19 @@
 -- `block::entries_ok` meets its contract: the loop goes from the last entry to the second, and the first comes after it; the invariant is `EntriesInv`.
 -- Assumes nothing.
+use mathlib.Core.Path.{refl}
 use Prim.Native.Nat.{_<_}
 use native.Mathlib.Omega.{arith}
 use denote.Ref.{now}
+use Rattle.spot.specs.Keys.{endKey}
 use Rattle.block.proofs.Passes.{EntriesInv, entries-none, entries-start, entries-next, entries-end}
 use Rattle.block.proofs.entries_ok.Statement.{statement}
 use Rattle.block.proofs.entries_ok.Tie as tie
 
 abbrev Inv-loop : tie.InvT-loop
-Inv-loop s c blocks own low floor ok₀ last₀ next₀ i₀ ok last next i = (i < c) × EntriesInv s c blocks own low floor ok last next i
+Inv-loop s c blocks own low floor ok₀ next₀ i₀ ok next i = (i < c) × EntriesInv s c blocks own low floor ok next i
 
 abbrev μ-loop : tie.MeasureT-loop
-μ-loop s c blocks own low floor ok₀ last₀ next₀ i₀ ok last next i = i
+μ-loop s c blocks own low floor ok₀ next₀ i₀ ok next i = i
 
 returns : tie.Need-returns Inv-loop μ-loop
 returns c =
@@ -22,18 +24,19 @@ sub-i : tie.Need-sub-i Inv-loop μ-loop
 sub-i c = omega arith
 
 loop-holds : tie.Need-loop-holds Inv-loop μ-loop
+unfolding endKey
 loop-holds c =
     let a = c .before .before .args in
-    (omega arith, entries-start (now (a .s)) (a .c) (a .blocks) (a .own) (a .low) (a .floor) (omega arith))
+    (omega arith, entries-start (now (a .s)) (a .c) (a .blocks) (a .own) (a .low) (a .floor) refl (omega arith))
 
-mul-read-key : tie.Need-mul-read-key Inv-loop μ-loop
-mul-read-key c = omega arith
+mul-raw-key : tie.Need-mul-raw-key Inv-loop μ-loop
+mul-raw-key c = omega arith
 
-add-read-key : tie.Need-add-read-key Inv-loop μ-loop
-add-read-key c = omega arith
+add-raw-key : tie.Need-add-raw-key Inv-loop μ-loop
+add-raw-key c = omega arith
 
-read-key-requires : tie.Need-read-key-requires Inv-loop μ-loop
-read-key-requires c κs = omega arith
+raw-key-requires : tie.Need-raw-key-requires Inv-loop μ-loop
+raw-key-requires c κs = omega arith
 
 mul-entry-ok : tie.Need-mul-entry-ok Inv-loop μ-loop
 mul-entry-ok c = omega arith
@@ -55,7 +58,7 @@ loop-again c =
     let l = c .before .before .before .loop in
     let a = c .before .before .before .before .before .before .args in (
       omega arith,
-      entries-next (now (a .s)) (a .c) (a .blocks) (a .own) (a .low) (a .floor) (l .ok) (l .last) (l .next) (l .i) (l .inv .1) (omega arith) (omega arith) (c .before .read-key .ensures) (c .entry-ok .ensures),
+      entries-next (now (a .s)) (a .c) (a .blocks) (a .own) (a .low) (a .floor) (l .ok) (l .next) (l .i) (l .inv .1) (omega arith) (omega arith) (c .before .raw-key .ensures) (c .entry-ok .ensures),
     )
 
 read64-requires : tie.Need-read64-requires Inv-loop μ-loop
@@ -68,7 +71,7 @@ returns-2 : tie.Need-returns-2 Inv-loop μ-loop
 returns-2 c =
     let l = c .before .before .before .loop in
     let a = c .before .before .before .before .before .before .args in
-    entries-end (now (a .s)) (a .c) (a .blocks) (a .own) (a .low) (a .floor) (l .ok) (l .last) (l .next) (l .i) (l .inv .1) (omega arith) (omega arith) (c .before .read64 .ensures .0) (c .entry-ok2 .ensures)
+    entries-end (now (a .s)) (a .c) (a .blocks) (a .own) (a .low) (a .floor) (l .ok) (l .next) (l .i) (l .inv .1) (omega arith) (omega arith) (c .before .read64 .ensures .0) (c .entry-ok2 .ensures)
 
 pub entries-ok-spec : {M : Type 1} → statement M
 entries-ok-spec =
@@ -79,9 +82,9 @@ entries-ok-spec =
     returns
     sub-i
     loop-holds
-    mul-read-key
-    add-read-key
-    read-key-requires
+    mul-raw-key
+    add-raw-key
+    raw-key-requires
     mul-entry-ok
     add-entry-ok
     entry-ok-requires

@@ -11,8 +11,8 @@ returns c =
     let at-read64 = c .before .before .before in
     let at-count = at-read64 .before .before .before in
     let a = at-count .before .before .before .before .args in
-    entry-made (a .blocks) (a .own) (a .low) (a .from) (a .last) (a .next) (now (a .s)) (a .a) (at-count .before .before .read16 .ensures .0) (at-count .before .count-at .ensures .0) (at-count .count-at2 .ensures .0)
-    (at-read64 .before .before .read-key .ensures) (at-read64 .before .read-key2 .ensures) (at-read64 .read64 .ensures .0) (c .before .before .read642 .ensures .0) (c .before .rank-key .ensures) (c .credible .ensures)
+    entry-made (a .blocks) (a .own) (a .low) (a .from) (a .next) (now (a .s)) (a .a) (at-count .before .before .read16 .ensures .0) (at-count .before .count-at .ensures .0) (at-count .count-at2 .ensures .0)
+    (at-read64 .before .before .raw-key .ensures) (at-read64 .before .raw-key2 .ensures) (at-read64 .read64 .ensures .0) (c .before .before .read642 .ensures .0) (c .before .rank-key .ensures) (c .credible .ensures)
 
 pub entry-ok-spec : {M : Type 1} → statement M
 entry-ok-spec =

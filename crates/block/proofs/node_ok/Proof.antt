@@ -5,7 +5,7 @@ use native.Mathlib.Omega.{arith}
 use denote.Ref.{now}
 use borrow.Author.Tests.{not-false}
 use borrow.Author.Needs.{needs}
-use Rattle.block.proofs.Bridge.{node-stop, node-go, used-fits, used-is}
+use Rattle.block.proofs.Verdict.{node-stop, node-go, used-fits, used-is}
 use Rattle.block.proofs.node_ok.Statement.{statement}
 use Rattle.block.proofs.node_ok.Tie as tie
 

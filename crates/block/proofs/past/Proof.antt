@@ -17,19 +17,19 @@ abbrev μ-loop : tie.MeasureT-loop
 loop-holds : tie.Need-loop-holds Inv-loop μ-loop
 loop-holds c = (omega arith, omega arith, λ q h l. absurd (omega arith))
 
-mul-read-key : tie.Need-mul-read-key Inv-loop μ-loop
-mul-read-key c = omega arith
+mul-raw-key : tie.Need-mul-raw-key Inv-loop μ-loop
+mul-raw-key c = omega arith
 
-add-read-key : tie.Need-add-read-key Inv-loop μ-loop
-add-read-key c = omega arith
+add-raw-key : tie.Need-add-raw-key Inv-loop μ-loop
+add-raw-key c = omega arith
 
-read-key-requires : tie.Need-read-key-requires Inv-loop μ-loop
-read-key-requires c κs = omega arith
+raw-key-requires : tie.Need-raw-key-requires Inv-loop μ-loop
+raw-key-requires c κs = omega arith
 
 returns : tie.Need-returns Inv-loop μ-loop
 returns c =
     let l = c .before .before .before .loop in
-    record { start = l .inv .0; within = omega arith; below = l .inv .2; reached = λ h. omega (arith, c .before .read-key .ensures) }
+    record { start = l .inv .0; within = omega arith; below = l .inv .2; reached = λ h. omega (arith, c .before .raw-key .ensures) }
 
 add-i : tie.Need-add-i Inv-loop μ-loop
 add-i c = omega arith
@@ -41,7 +41,7 @@ loop-again : tie.Need-loop-again Inv-loop μ-loop
 loop-again c =
     let a = c .before .before .before .before .before .args in
     let l = c .before .before .before .loop in
-    (omega arith, omega arith, below-next (now (a .s)) (a .at) (a .from) (a .k) (l .i) (l .inv .2) (omega (arith, c .before .read-key .ensures)))
+    (omega arith, omega arith, below-next (now (a .s)) (a .at) (a .from) (a .k) (l .i) (l .inv .2) (omega (arith, c .before .raw-key .ensures)))
 
 returns-2 : tie.Need-returns-2 Inv-loop μ-loop
 returns-2 c =
@@ -55,9 +55,9 @@ past-spec =
     Inv-loop
     μ-loop
     loop-holds
-    mul-read-key
-    add-read-key
-    read-key-requires
+    mul-raw-key
+    add-raw-key
+    raw-key-requires
     returns
     add-i
     loop-less

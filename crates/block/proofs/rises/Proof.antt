@@ -17,22 +17,22 @@ abbrev μ-loop : tie.MeasureT-loop
 returns : tie.Need-returns Inv-loop μ-loop
 returns c = let a = c .before .before .args in rise-none (now (a .s)) (a .w) (a .n) (a .at) (a .floor) (c .if1 .taken)
 
-read-key-requires : tie.Need-read-key-requires Inv-loop μ-loop
-read-key-requires c κs = let a = c .before .before .args in omega (arith, stride (a .w) {i = 0} {n = a .n} (omega arith))
+raw-key-requires : tie.Need-raw-key-requires Inv-loop μ-loop
+raw-key-requires c κs = let a = c .before .before .args in omega (arith, stride (a .w) {i = 0} {n = a .n} (omega arith))
 
 loop-holds : tie.Need-loop-holds Inv-loop μ-loop
 loop-holds c =
     let a = c .before .before .before .args in
-    (omega arith, omega arith, rise-start (now (a .s)) (a .w) (a .n) (a .at) (a .floor) (omega arith) (c .read-key .ensures))
+    (omega arith, omega arith, rise-start (now (a .s)) (a .w) (a .n) (a .at) (a .floor) (omega arith) (c .raw-key .ensures))
 
-mul-read-key : tie.Need-mul-read-key Inv-loop μ-loop
-mul-read-key c = omega (arith, stride (c .before .before .before .before .before .args .w) {i = c .before .loop .i} {n = c .before .before .before .before .before .args .n} (omega arith))
+mul-raw-key : tie.Need-mul-raw-key Inv-loop μ-loop
+mul-raw-key c = omega (arith, stride (c .before .before .before .before .before .args .w) {i = c .before .loop .i} {n = c .before .before .before .before .before .args .n} (omega arith))
 
-add-read-key : tie.Need-add-read-key Inv-loop μ-loop
-add-read-key c = omega (arith, stride (c .before .before .before .before .before .args .w) {i = c .before .loop .i} {n = c .before .before .before .before .before .args .n} (omega arith))
+add-raw-key : tie.Need-add-raw-key Inv-loop μ-loop
+add-raw-key c = omega (arith, stride (c .before .before .before .before .before .args .w) {i = c .before .loop .i} {n = c .before .before .before .before .before .args .n} (omega arith))
 
-read-key-requires-2 : tie.Need-read-key-requires-2 Inv-loop μ-loop
-read-key-requires-2 c κs = omega (arith, stride (c .before .before .before .before .before .args .w) {i = c .before .loop .i} {n = c .before .before .before .before .before .args .n} (omega arith))
+raw-key-requires-2 : tie.Need-raw-key-requires-2 Inv-loop μ-loop
+raw-key-requires-2 c κs = omega (arith, stride (c .before .before .before .before .before .args .w) {i = c .before .loop .i} {n = c .before .before .before .before .before .args .n} (omega arith))
 
 add-i : tie.Need-add-i Inv-loop μ-loop
 add-i c = omega arith
@@ -44,7 +44,7 @@ loop-again : tie.Need-loop-again Inv-loop μ-loop
 loop-again c =
     let a = c .before .before .before .before .before .before .args in
     let l = c .before .before .loop in
-    (omega arith, omega arith, rise-next (now (a .s)) (a .w) (a .n) (a .at) (a .floor) (l .ok) (l .prev) (l .i) (l .inv .2) (omega arith) (c .read-key2 .ensures))
+    (omega arith, omega arith, rise-next (now (a .s)) (a .w) (a .n) (a .at) (a .floor) (l .ok) (l .prev) (l .i) (l .inv .2) (omega arith) (c .raw-key2 .ensures))
 
 returns-2 : tie.Need-returns-2 Inv-loop μ-loop
 returns-2 c =
@@ -59,11 +59,11 @@ rises-spec =
     Inv-loop
     μ-loop
     returns
-    read-key-requires
+    raw-key-requires
     loop-holds
-    mul-read-key
-    add-read-key
-    read-key-requires-2
+    mul-raw-key
+    add-raw-key
+    raw-key-requires-2
     add-i
     loop-less
     loop-again

@@ -6,6 +6,7 @@ use Prim.Native.Nat.{_-_, _≤_}
 use lib.ListN.{length}
 use borrow.Author.Needs.{needs}
 use native.Mathlib.Omega.{arith}
+use Rattle.build.proofs.Segments.{segment-limited}
 use Rattle.build.proofs.likely_cut.Statement.{statement}
 use Rattle.build.proofs.likely_cut.Tie as tie
 
@@ -14,6 +15,11 @@ Inv-loop list from n limit top₀ all₀ i₀ top all i = (i ≤ n) × (all ≤ 
 
 abbrev μ-loop : tie.MeasureT-loop
 μ-loop list from n limit top₀ all₀ i₀ top all i = n - i
+
+read-key-requires : tie.Need-read-key-requires Inv-loop μ-loop
+read-key-requires c κs =
+    let s = c .before .before .before in
+    (omega arith, segment-limited (s .args .list .now) (s .args .from) (s .args .n) (c .before .loop .i) (s .pre) (c .loop-test .taken))
 
 loop-again : tie.Need-loop-again Inv-loop μ-loop
 loop-again c = (
@@ -24,6 +30,6 @@ loop-again c = (
 
 pub likely-cut-spec : {M : Type 1} → statement M
 likely-cut-spec = tie.close (tie.spec
-    Inv-loop μ-loop (λ c. search needs) (λ c. omega arith) (λ c. omega arith) (λ c κs. omega arith) (λ c κs. omega arith) (λ c. omega arith)
+    Inv-loop μ-loop (λ c. search needs) (λ c. omega arith) (λ c. omega arith) read-key-requires (λ c κs. omega arith) (λ c. omega arith)
     (λ c. search needs) (λ c κs. omega arith) (λ c κs. omega arith) (λ c. omega arith) (λ c. omega arith) loop-again (λ c. search needs)
     (λ c. omega arith) (λ c. search needs))

@@ -1,6 +1,7 @@
 -- `build::take_band` meets its contract. The loop's invariant: what is taken and what is left of the band make the whole band.
 -- Assumes nothing.
 use Rattle.build.proofs.Bands.{Taken, taken-none, taken-room, taken-in, taken-out, taken-all}
+use Rattle.build.proofs.Segments.{segment-limited}
 use Rattle.build.specs.Building.{limitOf}
 use Prim.Native.Nat.{_-_, _<_}
 use mathlib.Core.Logic.{⊎-elim}
@@ -18,6 +19,11 @@ abbrev μ-loop : tie.MeasureT-loop
 
 loop-holds : tie.Need-loop-holds Inv-loop μ-loop
 loop-holds c = taken-none _ _ _ _ _ (search (needs, length-image)) (c .empty .ensures .0) (c .empty .ensures .1)
+
+read-spot-requires : tie.Need-read-spot-requires Inv-loop μ-loop
+read-spot-requires c κs =
+    let s = c .before .before .before .before in
+    (omega arith, segment-limited (s .args .list .now) (s .args .from) (s .args .n) (c .before .loop .i) (s .pre .0) (c .loop-test .taken))
 
 -- there is room for one more
 room : (c : tie.Then1 Inv-loop μ-loop) → c .before .before .before .before .loop .out .n < 64
@@ -43,6 +49,6 @@ returns c = taken-all _ _ _ _ _ (c .before .before .before .before .pre .0 .rise
 
 pub take-band-spec : {M : Type 1} → statement M
 take-band-spec = tie.close (tie.spec
-    Inv-loop μ-loop (λ c κs. search needs) loop-holds (λ c. omega arith) (λ c. omega arith) (λ c κs. omega arith) (λ c κs. omega arith)
+    Inv-loop μ-loop (λ c κs. search needs) loop-holds (λ c. omega arith) (λ c. omega arith) read-spot-requires (λ c κs. omega arith)
     (λ c. let m = room c in omega arith) element-set-from-s (λ c. let m = room c in omega arith) (λ c. omega arith) (λ c. omega arith) loop-again
     returns)

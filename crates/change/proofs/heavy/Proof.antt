@@ -7,47 +7,38 @@ use borrow.Author.Tests.{not-false}
 use borrow.Author.Needs.{needs}
 use mathlib.Core.List.{List·Memᴰ}
 use Prim.Native.Nat.{ℕ}
-use Rattle.octets.specs.Lists.{every}
-use Rattle.spot.specs.Keys.{allKeys, within}
+use Rattle.spot.specs.Keys.{startKey, endKey, within}
 use Rattle.spot.specs.Spots.{keys}
 use Rattle.buffer.specs.Buffer.{held, named}
-use Rattle.node.proofs.Fits.{all-fit, keys-fit}
-use Rattle.node.specs.Bytes.{spotFits, keyFits}
 use Rattle.journal.proofs.Kept.{kept-trans, undoable-kept}
 use Rattle.change.proofs.Deep.{nine-blocks, heavy-starts, heavy-settles, heavy-undone, heavy-finishes, heavy-done}
-use Rattle.change.proofs.Roomy.{spots-within, keys-within}
+use Rattle.change.proofs.Roomy.{limited-in}
 use Rattle.change.proofs.heavy.Statement.{statement}
 use Rattle.change.proofs.heavy.Tie as tie
 
-fit-spots : (c : tie.Start) → every spotFits (c .args .inserts .spots) ≡ true
-fit-spots c = search (needs, all-fit)
+-- the batch lies in the root's range
+all-spots : (c : tie.Start) (k : ℕ) → List·Memᴰ k (keys (held (c .args .inserts))) → within startKey endKey k ≡ true
+all-spots c = limited-in (keys (held (c .args .inserts))) (c .pre .1)
 
-fit-keys : (c : tie.Start) → every keyFits (c .args .deletes .keys) ≡ true
-fit-keys c = keys-fit (c .args .deletes .keys) (λ i. search needs)
-
--- so they lie in the root's range
-all-spots : (c : tie.Start) (k : ℕ) → List·Memᴰ k (keys (held (c .args .inserts))) → within 0 allKeys k ≡ true
-all-spots c = spots-within (c .args .inserts .n) (c .args .inserts .spots) (fit-spots c)
-
-all-keys : (c : tie.Start) (k : ℕ) → List·Memᴰ k (named (c .args .deletes)) → within 0 allKeys k ≡ true
-all-keys c = keys-within (c .args .deletes .n) (c .args .deletes .keys) (fit-keys c)
+all-keys : (c : tie.Start) (k : ℕ) → List·Memᴰ k (named (c .args .deletes)) → within startKey endKey k ≡ true
+all-keys c = limited-in (named (c .args .deletes)) (c .pre .2)
 
 save-requires : tie.Need-save-requires
 save-requires c κs =
     let start = c .before .before .before .before .before in
-    (heavy-starts (start .pre), let z = nine-blocks (start .args .t .now) (start .pre .start .header) in omega (arith, z))
+    (heavy-starts (start .pre .0), let z = nine-blocks (start .args .t .now) (start .pre .0 .start .header) in omega (arith, z))
 
 grow-requires : tie.Need-grow-requires
 grow-requires c κs =
     let at-save = c .before .before .before .before .before .before .before .before in
     let s = at-save .save .ensures in
-    heavy-settles (at-save .before .before .before .before .before .before .pre) (s .0) (s .1) (c .before .before .before .spare-blocks .ensures)
+    heavy-settles (at-save .before .before .before .before .before .before .pre .0) (s .0) (s .1) (c .before .before .before .spare-blocks .ensures)
 
 undo-requires : tie.Need-undo-requires
 undo-requires c κs =
     let at-grow = c .before .before .before .before .before .before .before .before .before .before in
     let at-save = at-grow .before .before .before .before .before .before .before .before .before in
-    undoable-kept (kept-trans (at-save .save .ensures .0) (at-grow .grow .ensures .0)) (heavy-starts (at-save .before .before .before .before .before .before .pre))
+    undoable-kept (kept-trans (at-save .save .ensures .0) (at-grow .grow .ensures .0)) (heavy-starts (at-save .before .before .before .before .before .before .pre .0))
 
 returns : tie.Need-returns
 returns c =
@@ -56,7 +47,7 @@ returns c =
     let start = at-save .before .before .before .before .before .before in
     let s = at-save .save .ensures in
     let g = at-grow .grow .ensures in
-    heavy-undone (start .pre) (s .0) (s .1) (at-grow .before .before .before .before .spare-blocks .ensures) (g .0) (g .1) (c .refused .ensures) (c .before .before .before .undo .ensures) (all-spots start) (all-keys start)
+    heavy-undone (start .pre .0) (s .0) (s .1) (at-grow .before .before .before .before .spare-blocks .ensures) (g .0) (g .1) (c .refused .ensures) (c .before .before .before .undo .ensures) (all-spots start) (all-keys start)
 
 finish-requires : tie.Need-finish-requires
 finish-requires c κs =
@@ -65,7 +56,7 @@ finish-requires c κs =
     let start = at-save .before .before .before .before .before .before in
     let s = at-save .save .ensures in
     let g = at-grow .grow .ensures in
-    heavy-finishes (start .pre) (s .0) (s .1) (at-grow .before .before .before .before .spare-blocks .ensures) (g .0) (g .1) (not-false _ (c .before .before .if1 .left))
+    heavy-finishes (start .pre .0) (s .0) (s .1) (at-grow .before .before .before .before .spare-blocks .ensures) (g .0) (g .1) (not-false _ (c .before .before .if1 .left))
 
 returns-2 : tie.Need-returns-2
 returns-2 c =
@@ -74,7 +65,7 @@ returns-2 c =
     let start = at-save .before .before .before .before .before .before in
     let s = at-save .save .ensures in
     let g = at-grow .grow .ensures in
-    heavy-done (start .pre) (s .0) (s .1) (at-grow .before .before .before .before .spare-blocks .ensures) (g .0) (g .1) (not-false _ (c .before .before .before .before .before .if1 .left)) (c .before .before .finish .ensures) (all-spots start) (all-keys start)
+    heavy-done (start .pre .0) (s .0) (s .1) (at-grow .before .before .before .before .spare-blocks .ensures) (g .0) (g .1) (not-false _ (c .before .before .before .before .before .if1 .left)) (c .before .before .finish .ensures) (all-spots start) (all-keys start)
 
 pub heavy-spec : {M : Type 1} → statement M
 heavy-spec = tie.close (tie.spec

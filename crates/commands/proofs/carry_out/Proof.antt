@@ -3,7 +3,8 @@
 use mir.Syntax.{w32}
 use mir.ValLaws.{toZ-ofZ}
 use borrow.Author.Needs.{needs}
-use Rattle.commands.proofs.Telling.{walk-shown, top-shown, told-add, told-withdraw, told-report, told-top, told-bad}
+use Rattle.table.proofs.Given.{report-inside, top-inside}
+use Rattle.commands.proofs.Telling.{inside-shown, told-add, told-withdraw, told-report, told-top, told-bad}
 use Rattle.commands.proofs.carry_out.Statement.{statement}
 use Rattle.commands.proofs.carry_out.Tie as tie
 
@@ -34,7 +35,9 @@ returns-2 c =
 show-requires : tie.Need-show-requires
 show-requires c κs =
     let p = c .before .before .before .before .before .before in
-    walk-shown _ _ _ (p .report .result) (p .before .before .before .before .before .before .before .before .before .before .before .before .pre) (p .report .kept .1 .1 .1 .1 .0) _ _ _ _ (p .report .ensures)
+    let start = p .before .before .before .before .before .before .before .before .before .before .before .before in
+    let inside = report-inside _ _ _ _ _ _ (p .report .result) _ _ (p .report .ensures) in
+    (inside-shown _ _ _ (p .report .result) (start .pre) (p .report .kept .1 .1 .1 .1 .0) inside, inside)
 
 returns-3 : tie.Need-returns-3
 returns-3 c =
@@ -53,7 +56,9 @@ returns-3 c =
 show-requires-2 : tie.Need-show-requires-2
 show-requires-2 c κs =
     let p = c .before .before .before .before .before .before in
-    top-shown _ _ _ (p .top .result) (p .before .before .before .before .before .before .before .before .before .before .before .before .pre) (p .top .kept .1 .1 .1 .1 .0) _ _ _ _ _ _ (p .top .ensures)
+    let start = p .before .before .before .before .before .before .before .before .before .before .before .before in
+    let inside = top-inside _ _ _ _ _ _ (p .top .result) _ _ (p .top .ensures) in
+    (inside-shown _ _ _ (p .top .result) (start .pre) (p .top .kept .1 .1 .1 .1 .0) inside, inside)
 
 returns-4 : tie.Need-returns-4
 returns-4 c =

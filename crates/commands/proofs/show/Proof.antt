@@ -12,21 +12,21 @@ write-spots-requires : tie.Need-write-spots-requires
 write-spots-requires c κs =
     let p = c .before .before .before .before .before .before .pre in
     let e = c .before .before .if1 .taken in
-    (search needs, p .held e, p .room e)
+    (search needs, p .1 e .0, p .1 e .1, p .0 .room e)
 
 returns : tie.Need-returns
 returns c =
     let p = c .before .before .before .before .before in
     let s = p .before .before .before .before .args in
     let e = p .if1 .taken in
-    wrote-within (length (s .out .now)) (spotsText (s .a) (s .output .now)) (p .before .before .before .before .pre .room e) (lists-spots (s .a) (s .output .now) e)
+    wrote-within (length (s .out .now)) (spotsText (s .a) (s .output .now)) (p .before .before .before .before .pre .0 .room e) (lists-spots (s .a) (s .output .now) e)
     (c .before .before .write-spots .ensures)
 
 returns-2 : tie.Need-returns-2
 returns-2 c =
     let p = c .before .before .before .before in
     let s = p .before .before .before .before .args in
-    wrote-within (length (s .out .now)) (spotsText (s .a) (s .output .now)) (p .before .before .before .before .pre .refusal) (lists-none (s .a) (s .output .now) (p .if1 .left))
+    wrote-within (length (s .out .now)) (spotsText (s .a) (s .output .now)) (p .before .before .before .before .pre .0 .refusal) (lists-none (s .a) (s .output .now) (p .if1 .left))
     (c .before .before .write-refusal-line .ensures)
 
 pub show-spec : {M : Type 1} → statement M

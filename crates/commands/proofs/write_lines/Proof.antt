@@ -5,6 +5,8 @@ use mir.Syntax.{w32}
 use mir.ValLaws.{toZ-ofZ}
 use Prim.Native.Nat.{ℕ, _-_, _*_, _≤_}
 use native.Mathlib.Omega.{arith}
+use borrow.Author.Needs.{needs}
+use Rattle.sort.proofs.Limits.{limits-at}
 use Rattle.text.specs.Written.{Wrote}
 use Rattle.commands.specs.Printed.{linesOf}
 use Rattle.commands.proofs.Lines.{start, next}
@@ -18,39 +20,20 @@ abbrev μ-loop : tie.MeasureT-loop
 μ-loop out₀ at output n end₀ i₀ out end i = n - i
 
 loop-holds : tie.Need-loop-holds Inv-loop μ-loop
-loop-holds c = (omega arith, start (c .before .before .args .out .now) (c .before .before .args .output .now) (c .before .before .args .at) (omega (arith, c .before .before .pre .1)))
+loop-holds c = (omega arith, start (c .before .before .args .out .now) (c .before .before .args .output .now) (c .before .before .args .at) (omega (arith, c .before .before .pre .2)))
 
-mul-read-i32 : tie.Need-mul-read-i32 Inv-loop μ-loop
-mul-read-i32 c = omega arith
+mul-read-spot : tie.Need-mul-read-spot Inv-loop μ-loop
+mul-read-spot c = omega arith
 
-read-i32-requires : tie.Need-read-i32-requires Inv-loop μ-loop
-read-i32-requires c κs = omega arith
-
-mul-read-i32-2 : tie.Need-mul-read-i32-2 Inv-loop μ-loop
-mul-read-i32-2 c = omega arith
-
-add-read-i32 : tie.Need-add-read-i32 Inv-loop μ-loop
-add-read-i32 c = omega arith
-
-read-i32-requires-2 : tie.Need-read-i32-requires-2 Inv-loop μ-loop
-read-i32-requires-2 c κs = omega arith
-
-mul-read32 : tie.Need-mul-read32 Inv-loop μ-loop
-mul-read32 c = omega arith
-
-add-read32 : tie.Need-add-read32 Inv-loop μ-loop
-add-read32 c = omega arith
-
-read32-requires : tie.Need-read32-requires Inv-loop μ-loop
-read32-requires c κs = omega arith
-
-cast-track : tie.Need-cast-track Inv-loop μ-loop
-cast-track c = omega arith
+read-spot-requires : tie.Need-read-spot-requires Inv-loop μ-loop
+read-spot-requires c κs =
+    let start = c .before .before .before .before in
+    (omega arith, limits-at (start .args .output .now) (start .args .n) (start .pre .1) (c .before .loop .i) (c .loop-test .taken))
 
 write-spot-line-requires : tie.Need-write-spot-line-requires Inv-loop μ-loop
 write-spot-line-requires c κs =
     let p = c .before .before .before .before .before in
-    omega (arith, p .loop .inv .1 .near, p .loop .inv .1 .sized, p .before .before .before .pre .1)
+    omega (arith, p .loop .inv .1 .near, p .loop .inv .1 .sized, p .before .before .before .pre .2)
 
 add-i : tie.Need-add-i Inv-loop μ-loop
 add-i c = omega arith
@@ -60,15 +43,16 @@ loop-less c = omega arith
 
 loop-again : tie.Need-loop-again Inv-loop μ-loop
 loop-again c =
-    let place = c .before .before .before .before .before .before .read-i32 in
-    let rank = c .before .before .before .before .before .read-i322 in
+    let spot = c .before .before .before .before .before .before .read-spot in
+    let place = c .before .before .before .before .before .place-of in
+    let rank = c .before .before .before .before .rank-in in
     let p = c .before .before .before .before .before .before .before .before in
     let o = p .before .before .before .args .output .now in (
       omega arith,
-      next o (p .loop .i) (p .loop .inv .1) (c .before .before .write-spot-line .ensures)
+      next (spot .result) o (p .loop .i) (p .loop .inv .1) (c .before .before .write-spot-line .ensures)
           (toZ-ofZ w32 (place .result) (record { sfits = place .ok }) ∙ place .ensures)
           (toZ-ofZ w32 (rank .result) (record { sfits = rank .ok }) ∙ rank .ensures)
-          (c .before .before .before .before .read32 .ensures .0),
+          (spot .ensures),
     )
 
 same-length : tie.Need-same-length Inv-loop μ-loop
@@ -88,15 +72,10 @@ write-lines-spec =
     Inv-loop
     μ-loop
     loop-holds
-    mul-read-i32
-    read-i32-requires
-    mul-read-i32-2
-    add-read-i32
-    read-i32-requires-2
-    mul-read32
-    add-read32
-    read32-requires
-    cast-track
+    mul-read-spot
+    read-spot-requires
+    (λ c κs. search needs)
+    (λ c κs. search needs)
     write-spot-line-requires
     add-i
     loop-less

@@ -163,7 +163,7 @@ fill-returns-3 : (t : ℕ) → fill-lts.Need-returns-3 (fill-claims t) (fill-at 
 fill-returns-3 t c =
     let p = c .before .before .before .loop .inv .0 in
     let b = c .before .before .before .loop .node .points in
-    (p .kept, fill-ends p _ (λ e lo hi rank f full z o. inl (omega (arith, leb-true 32 (b .n) e, held-length b (c .before .before .before .loop .inv .2) (p .works .tidy .points .fits)))))
+    (p .kept, fill-ends p _ (λ e lo hi rank f legal z o. inl (omega (arith, leb-true 32 (b .n) e, held-length b (c .before .before .before .loop .inv .2) (p .works .tidy .points .fits)))))
 
 abbrev take-top-claims : ℕ → take-top-lts.Claims
 take-top-claims t = (block-ok-reads.Asked, block-ok-reads.Learnt, not-taken-reads.Asked, not-taken-reads.Learnt, load-reads.Asked, load-reads.Learnt, highest-reads.Asked, highest-reads.Learnt, without-point-reads.Asked, without-point-reads.Learnt, fill-below t, fill.Post, write-node-reads.Asked, write-node-reads.Learnt, entry-for-reads.Asked, entry-for-reads.Learnt)
@@ -187,7 +187,7 @@ take-top-load-requires t c κs =
     record { level = a .level; asked = Child (a .e); ok = sym (c .before .before .block-ok .ensures) ∙ not-false _ (c .before .if1 .left); inside = omega (arith, w .0 .whole, w .2) }
 
 take-top-returns-2 : (t : ℕ) → take-top-lts.Need-returns-2 (take-top-claims t) (take-top-at t) take-top.Post
-take-top-returns-2 t c = let w = c .before .before .before .before .before .before .before .before .before .before .pre .1 in (kept-refl, take-fails (w .0) kept-refl (c .not-taken2 .ensures) (λ lo hi order full low sound. refl))
+take-top-returns-2 t c = let w = c .before .before .before .before .before .before .before .before .before .before .pre .1 in (kept-refl, take-fails (w .0) kept-refl (c .not-taken2 .ensures) (λ lo hi order legal low sound. refl))
 
 take-top-without-point-requires : (t : ℕ) → take-top-lts.Need-without-point-requires (take-top-claims t) (take-top-at t) take-top.Post
 take-top-without-point-requires t c κs = let l = c .before .before .load .ensures in record { points = l .points; inserts = l .inserts; deletes = l .deletes }

@@ -5,6 +5,7 @@ use mathlib.Core.Path.{_≡_, refl, sym, subst, _∙_}
 use Prim.Native.Nat.{ℕ, _-_, _≤_, _<_}
 use lib.ListN.{length}
 use denote.Ref.{now}
+use Rattle.spot.proofs.Limits.{limited-each}
 use Rattle.frontier.specs.Picks.{Few}
 use Rattle.frontier.proofs.Fews.{Passed, passed-skip, passed-taken}
 use Rattle.octets.proofs.Order.{less-or-not}
@@ -20,10 +21,10 @@ abbrev μ-loop : tie.MeasureT-loop
 μ-loop t at from to q most few₀ m n₀ floor₀ i₀ few n floor i = to - i
 
 floor-few-requires : tie.Need-floor-few-requires Inv-loop μ-loop
-floor-few-requires c κs = let p = c .before .before .pre in (p .0, p .5 .room)
+floor-few-requires c κs = let p = c .before .before .pre in (p .0, p .6 .room)
 
 loop-holds : tie.Need-loop-holds Inv-loop μ-loop
-loop-holds c = let p = c .before .before .before .pre in (p .1, record { long = refl; floor-is = c .floor-few .ensures; best = p .5 })
+loop-holds c = let p = c .before .before .before .pre in (p .1, record { long = refl; floor-is = c .floor-few .ensures; best = p .6 })
 
 mul-read-key : tie.Need-mul-read-key Inv-loop μ-loop
 mul-read-key c = omega arith
@@ -32,7 +33,9 @@ add-read-key : tie.Need-add-read-key Inv-loop μ-loop
 add-read-key c = omega arith
 
 read-key-requires : tie.Need-read-key-requires Inv-loop μ-loop
-read-key-requires c κs = omega arith
+read-key-requires c κs =
+    let s = c .before .before .before .before .before in
+    (omega arith, limited-each (now (s .args .t)) 12 (s .args .to) (s .args .at) (s .pre .4) (c .before .loop .i) (omega arith))
 
 is-taken-requires : tie.Need-is-taken-requires Inv-loop μ-loop
 is-taken-requires c κs = search needs
@@ -70,8 +73,8 @@ loop-again c =
     let on : l .i < start .args .to = at-key .before .loop-test .taken in (
       omega arith,
       ⊎-elim
-          (λ w. passed-taken (l .inv .1) (at-key .read-key .ensures) (start .pre .0) (start .args .to) (start .pre .4) on (sym (c .before .is-taken .ensures) ∙ w .0 .taken) (w .2 .ensures) (w .3 .ensures) (w .6 .ensures) (w .7) (w .8) (w .9))
-          (λ w. passed-skip (l .inv .1) (at-key .read-key .ensures) (sym (c .before .is-taken .ensures) ∙ w .0 .left) (w .1) (w .2) (w .3))
+          (λ w. passed-taken (l .inv .1) (at-key .read-key .ensures .0) (start .pre .0) (start .args .to) (start .pre .5) on (sym (c .before .is-taken .ensures) ∙ w .0 .taken) (w .2 .ensures) (w .3 .ensures) (w .6 .ensures) (w .7) (w .8) (w .9))
+          (λ w. passed-skip (l .inv .1) (at-key .read-key .ensures .0) (sym (c .before .is-taken .ensures) ∙ w .0 .left) (w .1) (w .2) (w .3))
           (c .if1 .came),
     )
 

@@ -1,12 +1,13 @@
 -- `frontier::spot_by` meets its contract.
 -- Assumes nothing.
-use Rattle.frontier.proofs.Spots.{Sizes, part-sizes, spots-fit}
+use Rattle.frontier.proofs.Spots.{Sizes, part-sizes, spots-fit, spots-limited, spot-at, key-by}
 use Rattle.frontier.specs.Picks.{spotsAt}
-use Rattle.spot.specs.Spots.{spotAt}
+use Rattle.spot.specs.Keys.{limited}
+use Rattle.spot.specs.Spots.{keyAt, spotAt}
 use denote.Ref.{now}
 use lib.ListN.{length}
 use Prim.Native.Nat.{ℕ, _+_, _*_, _≤_}
-use mathlib.Core.Path.{_≡_, ap, _∙_}
+use mathlib.Core.Path.{_≡_, sym, ap, _∙_}
 use borrow.Author.Needs.{needs}
 use native.Mathlib.Omega.{arith}
 use Rattle.frontier.proofs.spot_by.Statement.{statement}
@@ -34,7 +35,13 @@ add-read-spot-2 : tie.Need-add-read-spot-2
 add-read-spot-2 c = omega (arith, few c, start c)
 
 read-spot-requires : tie.Need-read-spot-requires
-read-spot-requires c κs = omega (arith, few c, start c)
+read-spot-requires c κs =
+    let s = c .before .before .before .before in
+    let t = now (s .args .t) in (
+      omega (arith, few c, start c),
+      ap (λ (x : ℕ). limited (keyAt t (x + 12 * s .args .j))) (start c) ∙ sym (ap limited (key-by t (s .args .b) (s .args .j)))
+          ∙ spots-limited t (s .args .b) (s .pre .0) (spot-at t (s .args .b) (s .pre .0) (s .args .j) (s .pre .1)),
+    )
 
 returns : tie.Need-returns
 returns c =

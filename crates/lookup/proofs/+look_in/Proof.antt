@@ -13,7 +13,7 @@ use Rattle.block.specs.NodeRules.{nodeOk}
 use Rattle.block.specs.declared.Front.{Front}
 use Rattle.block.specs.Access.{frontOf}
 use Rattle.block.specs.Node.{storeOf}
-use Rattle.visit.proofs.Children.{lent, lent-length, few-children}
+use Rattle.visit.proofs.Children.{lent, lent-valid, few-children}
 use Rattle.lookup.proofs.Steps.{Going, going-start, broken-node, named-live, named-gone, no-child, Kid, kid-level, kid-asks, kid-next, kid-says}
 use Rattle.lookup.proofs.look_in.Reads as look-in
 use Rattle.lookup.proofs.look_in.Kinds as look-in-kinds
@@ -136,7 +136,7 @@ entry-at-requires : (t : ℕ) → lts.Need-entry-at-requires (cs t) (at t) look-
 entry-at-requires t c κs =
     let s = c .before .before .before .before .before .before .before .before .before .before .before in
     let a = s .args in
-    omega (arith, lent-length (now (a .t)) (a .b) (s .pre .1 .inside), few-children (now (a .t)) (a .b) (a .level) (a .asked) (node t (c .before .before .before)), count t (c .before .before .before), c .before .loop-test .taken)
+    (lent-valid (now (a .t)) (a .b) (a .level) (a .asked) (node t (c .before .before .before)) (s .pre .1 .inside), omega (arith, count t (c .before .before .before), c .before .loop-test .taken))
 
 sub-child-span : (t : ℕ) → lts.Need-sub-child-span (cs t) (at t) look-in.Post Inv μ
 sub-child-span t c = search needs
@@ -152,9 +152,8 @@ unfolding frontOf
 child-span-requires t c κs =
     let s = c .before .before .before .before .before .before .before .before .before .before .before .before .before in
     let a = s .args in (
-      lent-length (now (a .t)) (a .b) (s .pre .1 .inside),
+      lent-valid (now (a .t)) (a .b) (a .level) (a .asked) (node t (c .before .before .before .before .before)) (s .pre .1 .inside),
       c .before .before .before .loop-test .taken,
-      omega (arith, few-children (now (a .t)) (a .b) (a .level) (a .asked) (node t (c .before .before .before .before .before)), count t (c .before .before .before .before .before)),
       count t (c .before .before .before .before .before),
     )
 

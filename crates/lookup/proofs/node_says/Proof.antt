@@ -31,8 +31,7 @@ deletes-from-requires c κs = omega (arith, runs (c .before .before) .used)
 find-run-requires : tie.Need-find-run-requires
 find-run-requires c κs =
     let s = c .before .before .before .before .before .before in
-    let r = points-ready (now (s .args .t)) (s .args .b) (c .before .before .before .front-of .result) (runs (c .before .before .before)) (s .pre .inside) (c .before .before .points-from .ensures) in
-    (r .2, r .3, r .4)
+    points-ready (now (s .args .t)) (s .args .b) (c .before .before .before .front-of .result) (runs (c .before .before .before)) (s .pre .inside) (c .before .before .points-from .ensures)
 
 returns : tie.Need-returns
 returns c =
@@ -49,8 +48,7 @@ returns c =
 find-run-requires-2 : tie.Need-find-run-requires-2
 find-run-requires-2 c κs =
     let s = c .before .before .before .before .before .before .before .before in
-    let r = inserts-ready (now (s .args .t)) (s .args .b) (c .before .before .before .before .before .front-of .result) (runs (c .before .before .before .before .before)) (s .pre .inside) (c .before .before .before .inserts-from .ensures) in
-    (r .2, r .3, r .4)
+    inserts-ready (now (s .args .t)) (s .args .b) (c .before .before .before .before .before .front-of .result) (runs (c .before .before .before .before .before)) (s .pre .inside) (c .before .before .before .inserts-from .ensures)
 
 has-key-requires : tie.Need-has-key-requires
 has-key-requires c κs =

@@ -7,7 +7,7 @@ use denote.Ref.{now}
 use Rattle.octets.specs.Lists.{records}
 use Rattle.spot.specs.Spots.{keyAt, spotAt}
 use Rattle.block.specs.declared.Front.{Front}
-use Rattle.node.proofs.Loads.{Counts, counts, loaded-in}
+use Rattle.node.proofs.Loads.{Counts, counts, points-limited, inserts-limited, deletes-limited, loaded-in}
 use Rattle.node.proofs.load_block.Statement.{statement}
 use Rattle.node.proofs.load_block.Tie as tie
 
@@ -15,24 +15,37 @@ counted : (c : tie.After-front-of) → Counts (c .front-of .result)
 counted c = let s = c .before .before in counts (now (s .args .s)) (s .pre) (c .front-of .result) (c .front-of .ensures .0)
 
 load-entries-requires : tie.Need-load-entries-requires
-load-entries-requires c κs =
-    let q = counted (c .before) in
-    (ap (λ (x : Front). x .c) (c .before .front-of .ensures .0), omega (arith, q), omega (arith, q, c .before .before .before .pre .sized))
+load-entries-requires c κs = (c .before .before .before .pre, ap (λ (x : Front). x .c) (c .before .front-of .ensures .0))
 
 load-spots-requires : tie.Need-load-spots-requires
 load-spots-requires c κs =
-    let q = counted (c .before .before .before) in
-    (omega (arith, q), omega (arith, q, c .before .before .before .before .before .pre .sized, c .points-from .ensures))
+    let f = c .before .before .before in
+    let s = f .before .before in
+    let q = counted f in (
+      omega (arith, q),
+      omega (arith, q, s .pre .sized, c .points-from .ensures),
+      points-limited (now (s .args .s)) (s .pre) (f .front-of .result) (f .front-of .ensures .0) (c .points-from .result) (c .points-from .ensures),
+    )
 
 load-spots-requires-2 : tie.Need-load-spots-requires-2
 load-spots-requires-2 c κs =
-    let q = counted (c .before .before .before .before .before) in
-    (omega (arith, q), omega (arith, q, c .before .before .before .before .before .before .before .pre .sized, c .inserts-from .ensures))
+    let f = c .before .before .before .before .before in
+    let s = f .before .before in
+    let q = counted f in (
+      omega (arith, q),
+      omega (arith, q, s .pre .sized, c .inserts-from .ensures),
+      inserts-limited (now (s .args .s)) (s .pre) (f .front-of .result) (f .front-of .ensures .0) (c .inserts-from .result) (c .inserts-from .ensures),
+    )
 
 load-keys-requires : tie.Need-load-keys-requires
 load-keys-requires c κs =
-    let q = counted (c .before .before .before .before .before .before .before) in
-    (omega (arith, q), omega (arith, q, c .before .before .before .before .before .before .before .before .before .pre .sized, c .deletes-from .ensures))
+    let f = c .before .before .before .before .before .before .before in
+    let s = f .before .before in
+    let q = counted f in (
+      omega (arith, q),
+      omega (arith, q, s .pre .sized, c .deletes-from .ensures),
+      deletes-limited (now (s .args .s)) (s .pre) (f .front-of .result) (f .front-of .ensures .0) (c .deletes-from .result) (c .deletes-from .ensures),
+    )
 
 returns : tie.Need-returns
 returns c =

@@ -8,6 +8,7 @@ use lib.ListN.{length, take, length-set}
 use denote.Ref.{now}
 use Rattle.octets.specs.Lists.{records}
 use Rattle.spot.specs.Spots.{keyAt}
+use Rattle.spot.proofs.Limits.{limited-each}
 use Rattle.buffer.proofs.Lists.{length-image}
 use Rattle.node.proofs.Loading.{record-loaded}
 use Rattle.node.proofs.load_keys.Statement.{statement}
@@ -19,11 +20,17 @@ Inv-loop s at n out₀ i₀ out i = (i ≤ n) × (length (out .keys) ≡ 32) × 
 abbrev μ-loop : tie.MeasureT-loop
 μ-loop s at n out₀ i₀ out i = n - i
 
+read-key-requires : tie.Need-read-key-requires Inv-loop μ-loop
+read-key-requires c κs =
+    let l = c .before .loop in
+    let s = c .before .before .before .before in
+    (omega arith, limited-each (now (s .args .s)) 8 (s .args .n) (s .args .at) (s .pre .2) (l .i) (omega arith))
+
 loop-again : tie.Need-loop-again Inv-loop μ-loop
 loop-again c =
     let l = c .before .before .loop in
     let a = c .before .before .before .before .before .args in
-    (omega arith, simp length-set (l .inv .1), record-loaded (keyAt (now (a .s))) 8 (l .out .keys) (a .at) (l .i) (omega arith) (l .inv .2) (c .read-key .ensures))
+    (omega arith, simp length-set (l .inv .1), record-loaded (keyAt (now (a .s))) 8 (l .out .keys) (a .at) (l .i) (omega arith) (l .inv .2) (c .read-key .ensures .0))
 
 returns : tie.Need-returns Inv-loop μ-loop
 returns c =
@@ -35,4 +42,4 @@ returns c =
 pub load-keys-spec : {M : Type 1} → statement M
 load-keys-spec = tie.close (tie.spec
     Inv-loop μ-loop (λ c κs. omega arith) (λ c. (search needs, search (needs, length-image), refl)) (λ c. omega arith) (λ c. omega arith)
-    (λ c κs. omega arith) (λ c. omega arith) (λ c. omega arith) (λ c. omega arith) (λ c. omega arith) loop-again returns)
+    read-key-requires (λ c. omega arith) (λ c. omega arith) (λ c. omega arith) (λ c. omega arith) loop-again returns)

@@ -8,6 +8,7 @@ use lib.ListN.{length, take, length-set}
 use denote.Ref.{now}
 use Rattle.octets.specs.Lists.{records}
 use Rattle.spot.specs.Spots.{spotAt}
+use Rattle.spot.proofs.Limits.{limited-each}
 use Rattle.buffer.proofs.Lists.{length-image}
 use Rattle.node.proofs.Loading.{record-loaded}
 use Rattle.node.proofs.load_spots.Statement.{statement}
@@ -18,6 +19,12 @@ Inv-loop s at n out₀ i₀ out i = (i ≤ n) × (length (out .spots) ≡ 80) ×
 
 abbrev μ-loop : tie.MeasureT-loop
 μ-loop s at n out₀ i₀ out i = n - i
+
+read-spot-requires : tie.Need-read-spot-requires Inv-loop μ-loop
+read-spot-requires c κs =
+    let l = c .before .loop in
+    let s = c .before .before .before .before in
+    (omega arith, limited-each (now (s .args .s)) 12 (s .args .n) (s .args .at) (s .pre .2) (l .i) (omega arith))
 
 loop-again : tie.Need-loop-again Inv-loop μ-loop
 loop-again c =
@@ -35,4 +42,4 @@ returns c =
 pub load-spots-spec : {M : Type 1} → statement M
 load-spots-spec = tie.close (tie.spec
     Inv-loop μ-loop (λ c κs. omega arith) (λ c. (search needs, search (needs, length-image), refl)) (λ c. omega arith) (λ c. omega arith)
-    (λ c κs. omega arith) (λ c. omega arith) (λ c. omega arith) (λ c. omega arith) (λ c. omega arith) loop-again returns)
+    read-spot-requires (λ c. omega arith) (λ c. omega arith) (λ c. omega arith) (λ c. omega arith) loop-again returns)

@@ -18,7 +18,7 @@ build-table-requires c κs =
     let start = at-gather .before .before .before .before .before in
     let ok = not-false _ (c .before .before .if1 .left) in
     let few = renew-few (start .pre .0) (start .pre .1) (at-gather .gather .ensures) ok in
-    (start .pre .0, few, renew-segment (start .pre .0) (start .pre .1) (at-gather .gather .ensures) ok (λ (l : List Spot). l) (amended-none _ _) few (λ u. u))
+    (start .pre .0, few, renew-segment (start .pre .0) (start .pre .1) (at-gather .gather .ensures) ok (λ (l : List Spot). l) (amended-none _ _) few (λ u. u) (λ u. u))
 
 returns-2 : tie.Need-returns-2
 returns-2 c =

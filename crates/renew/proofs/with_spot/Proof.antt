@@ -9,6 +9,7 @@ use Rattle.spot.specs.Spots.{put, without}
 use Rattle.spot.specs.declared.Spot.{Spot}
 use Rattle.block.specs.Table.{capacity}
 use Rattle.tree.proofs.Says.{replaced-rises}
+use Rattle.renew.proofs.Inside.{replaced-limited}
 use Rattle.renew.proofs.Renewing.{renew-broken, renew-amendable, renew-full, renew-segment, renew-fits, renew-built}
 use borrow.Author.Needs.{needs}
 use native.Mathlib.Omega.{arith}
@@ -41,7 +42,7 @@ build-table-requires c κs =
     let at-gather = at-if1 .before .before .before .before in
     let start = at-gather .before .before .before .before .before in
     let few : at-put-in .put-in .result ≤ capacity (length (now (start .args .table))) = omega (arith, at-capacity-of .capacity-of .ensures) in
-    (start .pre .0, few, renew-segment (start .pre .0) (start .pre .1) (at-gather .gather .ensures) (not-false _ (at-if1 .if1 .left)) (λ (l : List Spot). put (start .args .s) (without (start .args .s .key) l)) (at-put-in .put-in .ensures) few (replaced-rises (start .args .s) _))
+    (start .pre .0, few, renew-segment (start .pre .0) (start .pre .1) (at-gather .gather .ensures) (not-false _ (at-if1 .if1 .left)) (λ (l : List Spot). put (start .args .s) (without (start .args .s .key) l)) (at-put-in .put-in .ensures) few (replaced-rises (start .args .s) _) (replaced-limited (start .args .s) _ (start .pre .2)))
 
 returns-3 : tie.Need-returns-3
 returns-3 c =

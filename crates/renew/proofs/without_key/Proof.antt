@@ -4,6 +4,7 @@ use mathlib.Core.Path.{refl}
 use borrow.Author.Tests.{not-true, not-false}
 use Rattle.spot.specs.Spots.{without}
 use Rattle.spot.proofs.Canon.{without-rises}
+use Rattle.renew.proofs.Inside.{without-limited}
 use Rattle.renew.proofs.Renewing.{out-few, renew-broken, renew-amendable, renew-segment, renew-built}
 use borrow.Author.Needs.{needs}
 use Rattle.renew.proofs.without_key.Statement.{statement}
@@ -25,7 +26,7 @@ build-table-requires c κs =
     let at-gather = at-if1 .before .before .before .before in
     let start = at-gather .before .before .before .before .before in
     let few = out-few (start .pre .0) (start .pre .1) (at-gather .gather .ensures) (not-false _ (at-if1 .if1 .left)) (start .args .k) (at-take-out .take-out .ensures) in
-    (start .pre .0, few, renew-segment (start .pre .0) (start .pre .1) (at-gather .gather .ensures) (not-false _ (at-if1 .if1 .left)) (without (start .args .k)) (at-take-out .take-out .ensures) few (without-rises 0 (start .args .k) _))
+    (start .pre .0, few, renew-segment (start .pre .0) (start .pre .1) (at-gather .gather .ensures) (not-false _ (at-if1 .if1 .left)) (without (start .args .k)) (at-take-out .take-out .ensures) few (without-rises 0 (start .args .k) _) (without-limited (start .args .k) _))
 
 returns-2 : tie.Need-returns-2
 returns-2 c =

@@ -1,7 +1,6 @@
 -- `report::give` meets its contract: the spots come from the buffer if it holds them, else from a second walk.
 -- Assumes nothing.
-use mathlib.Core.Path.{ap, _∙_}
-use mathlib.Core.List.{List}
+use mathlib.Core.Path.{sym, subst}
 use Prim.Native.Nat.{_*_, _≤_}
 use lib.ListN.{length}
 use denote.Ref.{now}
@@ -9,10 +8,8 @@ use mir.Syntax.{w32}
 use mir.ValLaws.{toZ-ofZ}
 use borrow.Author.Needs.{needs}
 use native.Mathlib.Omega.{arith}
-use Rattle.octets.specs.Lists.{ascends}
-use Rattle.spot.specs.Spots.{keys}
-use Rattle.spot.specs.declared.Spot.{Spot}
-use Rattle.query.proofs.Ordered.{walk-ascends}
+use Rattle.query.specs.Merging.{Orderly}
+use Rattle.query.proofs.Ordered.{walk-order}
 use Rattle.report.proofs.Reporting.{held-are}
 use Rattle.report.proofs.give.Statement.{statement}
 use Rattle.report.proofs.give.Tie as tie
@@ -26,7 +23,7 @@ held-requires c κs =
     record {
       held = fits;
       room = omega (arith, known .walk .room, known .count);
-      order = ap (λ (ss : List Spot). ascends 0 (keys ss)) (known .held fits) ∙ walk-ascends _ _;
+      order = subst Orderly (sym (known .held fits)) (walk-order _ _);
     }
 
 returns : tie.Need-returns

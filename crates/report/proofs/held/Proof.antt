@@ -4,7 +4,7 @@ use mir.Syntax.{w32}
 use mir.ValLaws.{toZ-ofZ}
 use borrow.Author.Needs.{needs}
 use native.Mathlib.Omega.{arith}
-use Rattle.report.proofs.Reporting.{query-same, held-order, held-turned}
+use Rattle.report.proofs.Reporting.{query-same, turn-asks, held-order, held-turned}
 use Rattle.report.proofs.held.Statement.{statement}
 use Rattle.report.proofs.held.Tie as tie
 
@@ -12,7 +12,7 @@ from-on-requires : tie.Need-from-on-requires
 from-on-requires c κs =
     let at-copy = c .before .before .before .before .before in
     let start = at-copy .before .before .before .before in
-    (omega (arith, start .pre .room, at-copy .copy .kept .1 .0), held-order (start .pre) (at-copy .copy .ensures))
+    turn-asks _ _ (omega (arith, start .pre .room, at-copy .copy .kept .1 .0)) (held-order (start .pre) (at-copy .copy .ensures))
 
 returns : tie.Need-returns
 returns c =

@@ -1,16 +1,13 @@
 -- `report::write` meets its contract: the spots of the walk that its arguments make, turned to begin at x1.
 -- Assumes nothing.
-use mathlib.Core.Path.{ap, _∙_}
-use mathlib.Core.List.{List}
+use mathlib.Core.Path.{sym, subst}
 use mir.Syntax.{w32}
 use mir.ValLaws.{toZ-ofZ}
 use borrow.Author.Needs.{needs}
 use native.Mathlib.Omega.{arith}
-use Rattle.octets.specs.Lists.{ascends}
-use Rattle.spot.specs.Spots.{keys}
-use Rattle.spot.specs.declared.Spot.{Spot}
-use Rattle.query.proofs.Ordered.{walk-ascends}
-use Rattle.report.proofs.Reporting.{query-same, reportable-as, reported-as}
+use Rattle.query.specs.Merging.{Orderly}
+use Rattle.query.proofs.Ordered.{walk-order}
+use Rattle.report.proofs.Reporting.{query-same, turn-asks, reportable-as, reported-as}
 use Rattle.report.proofs.write.Statement.{statement}
 use Rattle.report.proofs.write.Tie as tie
 
@@ -30,7 +27,7 @@ from-on-requires c κs =
     let start = at-make-query .before .before .before in
     let fits = start .fits in
     let h = reportable-as (query-same _ _ _ _ _ _ _ (toZ-ofZ w32 _ (fits .x1)) (toZ-ofZ w32 _ (fits .x2)) (toZ-ofZ w32 _ (fits .y)) (at-make-query .make-query .ensures)) (start .pre) in
-    (omega (arith, h .room, found .ensures .0, found .kept .1 .0), ap (λ (ss : List Spot). ascends 0 (keys ss)) (found .ensures .2) ∙ walk-ascends _ _)
+    turn-asks _ _ (omega (arith, h .room, found .ensures .0, found .kept .1 .0)) (subst Orderly (sym (found .ensures .2)) (walk-order _ _))
 
 returns : tie.Need-returns
 returns c =

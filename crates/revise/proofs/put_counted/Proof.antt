@@ -29,14 +29,14 @@ returns-2 c =
     let full : capacity (length (now (start .args .table))) ≤ at-count-table .count-table .result .tally .spots = omega (arith, c .before .before .capacity-of .ensures) in
     let counted = counted-as (at-everything .everything .ensures) (at-count-table .count-table .ensures) in
     let ok = not-false _ (at-if1 .if1 .left) in
-    add-turned _ _ (start .args .s) _ (counted .ok) ok (counted .spots ok) full (start .pre .2)
+    add-turned _ _ (start .args .s) _ (counted .ok) ok (counted .spots ok) full (start .pre .3)
 
 put-within-requires : tie.Need-put-within-requires
 put-within-requires c κs =
     let at-capacity-of = c .before .before .before .before in
     let at-count-table = at-capacity-of .before .before .before .before in
     let start = at-count-table .before .before .before .before .before .before in
-    (start .pre .0, start .pre .1, omega (arith, at-capacity-of .capacity-of .ensures))
+    (start .pre .0, start .pre .1, start .pre .2, omega (arith, at-capacity-of .capacity-of .ensures))
 
 returns-3 : tie.Need-returns-3
 returns-3 c =
@@ -48,7 +48,7 @@ returns-3 c =
     let start = at-everything .before .before .before in
     let room : at-count-table .count-table .result .tally .spots < capacity (length (now (start .args .table))) = omega (arith, at-capacity-of .capacity-of .ensures) in
     let counted = counted-as (at-everything .everything .ensures) (at-count-table .count-table .ensures) in
-    add-counted _ _ (start .args .s) (start .pre .2) (counted .spots (not-false _ (at-if1 .if1 .left))) room (at-put-within .put-within .ensures)
+    add-counted _ _ (start .args .s) (start .pre .3) (counted .spots (not-false _ (at-if1 .if1 .left))) room (at-put-within .put-within .ensures)
 
 pub put-counted-spec : {M : Type 1} → statement M
 put-counted-spec = tie.close (tie.spec

@@ -16,19 +16,20 @@ returns : tie.Need-returns
 returns c = add-header _ _ (c .before .before .before .before .before .args .s) _ (c .before .header-ok .ensures) (not-true _ (c .if1 .taken))
 
 look-up-requires : tie.Need-look-up-requires
-look-up-requires c κs = c .before .before .before .before .before .before .before .before .pre .sized
+look-up-requires c κs = c .before .before .before .before .before .before .before .before .pre .0 .sized
 
 put-within-requires : tie.Need-put-within-requires
 put-within-requires c κs =
     let at-bound-of = c .before .before .before .before .before .before in
     let start = at-bound-of .before .before .before .before .before .before .before in
     let ok = sym (at-bound-of .before .before .before .header-ok .ensures) ∙ not-false _ (at-bound-of .before .before .if1 .left) in
-    (start .pre, ok, bound-few (now (start .args .table)) ok (at-bound-of .bound-of .ensures .0))
+    (start .pre .0, start .pre .1, ok, bound-few (now (start .args .table)) ok (at-bound-of .bound-of .ensures .0))
 
 put-within-requires-2 : tie.Need-put-within-requires-2
 put-within-requires-2 c κs =
     let at-if1 = c .before .before .before .before .before .before .before .before .before .before in
-    (at-if1 .before .before .before .before .before .pre, sym (at-if1 .before .header-ok .ensures) ∙ not-false _ (at-if1 .if1 .left), omega (arith, c .before .before .before .capacity-of .ensures))
+    let start = at-if1 .before .before .before .before .before in
+    (start .pre .0, start .pre .1, sym (at-if1 .before .header-ok .ensures) ∙ not-false _ (at-if1 .if1 .left), omega (arith, c .before .before .before .capacity-of .ensures))
 
 returns-2 : tie.Need-returns-2
 returns-2 c =
@@ -42,7 +43,7 @@ put-counted-requires : tie.Need-put-counted-requires
 put-counted-requires c κs =
     let at-look-up = c .before .before .before .before .before .before in
     let start = at-look-up .before .before .before .before .before .before .before .before .before in
-    (start .pre, sym (at-look-up .before .before .before .before .before .header-ok .ensures) ∙ not-false _ (at-look-up .before .before .before .before .if1 .left), looked-is (at-look-up .look-up .ensures) (c .before .before .before .before .enum-told3 .given .1))
+    (start .pre .0, start .pre .1, sym (at-look-up .before .before .before .before .before .header-ok .ensures) ∙ not-false _ (at-look-up .before .before .before .before .if1 .left), looked-is (at-look-up .look-up .ensures) (c .before .before .before .before .enum-told3 .given .1))
 
 returns-3 : tie.Need-returns-3
 returns-3 c = add-lost _ _ (c .before .before .before .before .before .before .before .before .before .before .before .args .s) (c .before .before .look-up .ensures) (c .enum-told .given .1)
@@ -58,8 +59,8 @@ returns-5 c = c .before .before .before .before .put-counted .ensures
 
 pub put-spot-spec : {M : Type 1} → statement M
 put-spot-spec = tie.close (tie.spec
-    (λ c κs. lent-long (c .before .before .before .pre)) (λ c. search needs) returns
-    (λ c κs. lent-long (c .before .before .before .before .before .before .pre)) look-up-requires (λ c. search needs) (λ c. search needs)
+    (λ c κs. lent-long (c .before .before .before .pre .0)) (λ c. search needs) returns
+    (λ c κs. lent-long (c .before .before .before .before .before .before .pre .0)) look-up-requires (λ c. search needs) (λ c. search needs)
     put-within-requires (λ c. search needs) (λ c κs. search needs) (λ c. search needs) put-within-requires-2 (λ c. search needs) (λ c. search needs)
     returns-2 put-counted-requires (λ c. search needs) returns-3 (λ c. search needs) (λ c. search needs) returns-4 (λ c. search needs)
     (λ c. search needs) returns-5)

@@ -13,7 +13,7 @@ returns : tie.Need-returns
 returns c = drop-header _ _ (c .before .before .before .before .before .args .k) _ (c .before .header-ok .ensures) (not-true _ (c .if1 .taken))
 
 look-up-requires : tie.Need-look-up-requires
-look-up-requires c κs = c .before .before .before .before .before .before .before .before .pre .sized
+look-up-requires c κs = c .before .before .before .before .before .before .before .before .pre .0 .sized
 
 returns-2 : tie.Need-returns-2
 returns-2 c =
@@ -25,7 +25,7 @@ take-within-requires c κs =
     let at-bound-of = c .before .before .before .before .before .before .before in
     let start = at-bound-of .before .before .before .before .before .before .before in
     let ok = sym (at-bound-of .before .before .before .header-ok .ensures) ∙ not-false _ (at-bound-of .before .before .if1 .left) in
-    (start .pre, ok, omega (arith, bound-few (now (start .args .table)) ok (at-bound-of .bound-of .ensures .0)))
+    (start .pre .0, start .pre .1, ok, omega (arith, bound-few (now (start .args .table)) ok (at-bound-of .bound-of .ensures .0)))
 
 returns-3 : tie.Need-returns-3
 returns-3 c = drop-lost _ _ (c .before .before .before .before .before .before .before .before .before .before .before .args .k) (c .before .before .look-up .ensures) (c .enum-told .given .1)
@@ -41,7 +41,7 @@ returns-5 c = drop-none _ _ (c .before .before .before .before .before .before .
 
 pub take-key-spec : {M : Type 1} → statement M
 take-key-spec = tie.close (tie.spec
-    (λ c κs. lent-long (c .before .before .before .pre)) (λ c. search needs) returns
-    (λ c κs. lent-long (c .before .before .before .before .before .before .pre)) look-up-requires (λ c. search needs) (λ c. search needs)
+    (λ c κs. lent-long (c .before .before .before .pre .0)) (λ c. search needs) returns
+    (λ c κs. lent-long (c .before .before .before .before .before .before .pre .0)) look-up-requires (λ c. search needs) (λ c. search needs)
     (λ c. search needs) returns-2 (λ c. search needs) take-within-requires (λ c. search needs) (λ c. search needs) returns-3 (λ c. search needs)
     (λ c. search needs) returns-4 (λ c. search needs) returns-5)

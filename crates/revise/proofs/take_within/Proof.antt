@@ -4,15 +4,25 @@ use Prim.Native.Nat.{ℕ}
 use mathlib.Core.Path.{_≡_, refl, ap, sym, _∙_}
 use mathlib.Core.Bool.{true}
 use mathlib.Core.List.{List, [], _∷_, _++_}
-use Rattle.spot.specs.Spots.{without}
+use Rattle.octets.specs.Lists.{every}
+use Rattle.spot.specs.Keys.{limited}
+use Rattle.spot.specs.Spots.{keys, without}
+use Rattle.spot.specs.declared.Spot.{Spot}
 use Rattle.tree.specs.Walk.{liveSpots}
 use Rattle.revise.proofs.Ends.{lent-again, within-answered, within-anew, within-broken}
-use Rattle.revise.proofs.Counts.{planned-out, says-out}
+use Rattle.revise.proofs.Counts.{planned-out, says-out, one-limited}
 use borrow.Author.Needs.{needs}
 use Rattle.revise.specs.declared.Step.the-variants.{Anew}
 use Rattle.revise.specs.Steps.{stepAfter}
 use Rattle.revise.proofs.take_within.Statement.{statement}
 use Rattle.revise.proofs.take_within.Tie as tie
+
+change-requires : tie.Need-change-requires
+change-requires c κs =
+    let named = c .before .before in
+    let start = named .before .before .before .before .before in
+    let deletes = named .push-key .ensures .1 ∙ ap (λ (l : List ℕ). l ++ (start .args .k ∷ [])) (named .before .empty-keys .ensures .1) in
+    (search needs, ap (λ (l : List Spot). every limited (keys l)) (named .before .before .empty .ensures .1), one-limited (start .args .k) deletes (start .pre .1))
 
 without-key-requires : tie.Need-without-key-requires
 without-key-requires c κs =
@@ -50,6 +60,6 @@ returns-3 c =
 
 pub take-within-spec : {M : Type 1} → statement M
 take-within-spec = tie.close (tie.spec
-    (λ c κs. search needs) (λ c κs. search needs) (λ c κs. search needs) (λ c κs. search needs) (λ c κs. search needs) (λ c. search needs)
+    (λ c κs. search needs) (λ c κs. search needs) (λ c κs. search needs) change-requires (λ c κs. search needs) (λ c. search needs)
     (λ c. search needs) without-key-requires (λ c. search needs) (λ c. search needs) returns (λ c. search needs) (λ c. search needs) returns-2
     (λ c. search needs) (λ c. search needs) returns-3)

@@ -18,7 +18,7 @@ use Rattle.block.specs.Access.{frontOf}
 use Rattle.block.specs.Node.{storeOf}
 use Rattle.tree.specs.Reach.{reach}
 use Rattle.tree.specs.Sound.{soundAt}
-use Rattle.visit.proofs.Children.{lent, lent-length, few-children}
+use Rattle.visit.proofs.Children.{lent, lent-valid, few-children}
 use Rattle.query.proofs.Threads.{Threaded, thread-start}
 use Rattle.soundness.proofs.Steps.{left, kidsFresh, no-twice, no-node, no-range, no-kids, whole-part, Kid, kid-level, kid-asks, kid-next, kid-stop, kids-done}
 use Rattle.soundness.proofs.sound_walk.Reads as sound-walk
@@ -169,7 +169,7 @@ entry-at-requires t c κs =
     let s = c .before .before .before .before .before .before .before .before .before .before .before .before .before .before .before .before .before .before in
     let a = s .args in
     let f = c .before .before .before in
-    omega (arith, lent-length (now (a .t)) (a .b) (s .pre .1 .inside), few-children (now (a .t)) (a .b) (a .level) (a .asked) (node t f), count t f, c .before .loop-test .taken)
+    (lent-valid (now (a .t)) (a .b) (a .level) (a .asked) (node t f) (s .pre .1 .inside), omega (arith, count t f, c .before .loop-test .taken))
 
 sub-child-span : (t : ℕ) → lts.Need-sub-child-span (cs t) (at t) sound-walk.Post Inv μ
 sub-child-span t c = search needs
@@ -186,9 +186,8 @@ child-span-requires t c κs =
     let s = c .before .before .before .before .before .before .before .before .before .before .before .before .before .before .before .before .before .before .before .before in
     let a = s .args in
     let f = c .before .before .before .before .before in (
-      lent-length (now (a .t)) (a .b) (s .pre .1 .inside),
+      lent-valid (now (a .t)) (a .b) (a .level) (a .asked) (node t f) (s .pre .1 .inside),
       c .before .before .before .loop-test .taken,
-      omega (arith, few-children (now (a .t)) (a .b) (a .level) (a .asked) (node t f), count t f),
       count t f,
     )
 

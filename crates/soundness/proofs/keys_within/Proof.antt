@@ -3,7 +3,7 @@
 use borrow.Author.Needs.{needs}
 use denote.Ref.{now}
 use native.Mathlib.Omega.{arith}
-use Rattle.soundness.proofs.Ranges.{keys-none, keys-decide, last-ends}
+use Rattle.soundness.proofs.Ranges.{keys-none, keys-decide, last-ends, ends-limited}
 use Rattle.soundness.proofs.keys_within.Statement.{statement}
 use Rattle.soundness.proofs.keys_within.Tie as tie
 
@@ -14,8 +14,9 @@ returns c =
 
 read-key-requires : tie.Need-read-key-requires
 read-key-requires c κs =
-    let a = c .before .before .args in
-    omega (arith, last-ends (a .w) (a .n) (λ e. omega arith))
+    let s = c .before .before in
+    let a = s .args in
+    (omega (arith, last-ends (a .w) (a .n) (λ e. omega arith)), ends-limited (now (a .t)) (a .w) (a .n) (a .at) (λ e. omega arith) (s .pre .5) .0)
 
 mul-read-key : tie.Need-mul-read-key
 mul-read-key c =
@@ -29,14 +30,15 @@ add-read-key c =
 
 read-key-requires-2 : tie.Need-read-key-requires-2
 read-key-requires-2 c κs =
-    let a = c .before .before .before .before .args in
-    omega (arith, last-ends (a .w) (a .n) (λ e. omega arith))
+    let s = c .before .before .before .before in
+    let a = s .args in
+    (omega (arith, last-ends (a .w) (a .n) (λ e. omega arith)), ends-limited (now (a .t)) (a .w) (a .n) (a .at) (λ e. omega arith) (s .pre .5) .1)
 
 returns-2 : tie.Need-returns-2
 returns-2 c =
     let s = c .before .before .before .before .before .before .before in
     let a = s .args in
-    keys-decide (now (a .t)) (a .w) (a .n) (a .at) (a .span) _ _ (λ e. omega arith) (s .pre .4) (c .before .before .before .before .read-key .ensures) (c .before .before .read-key2 .ensures)
+    keys-decide (now (a .t)) (a .w) (a .n) (a .at) (a .span) _ _ (λ e. omega arith) (s .pre .4) (c .before .before .before .before .read-key .ensures .0) (c .before .before .read-key2 .ensures .0)
 
 pub keys-within-spec : {M : Type 1} → statement M
 keys-within-spec =

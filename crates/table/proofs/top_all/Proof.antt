@@ -3,13 +3,20 @@
 use Rattle.table.proofs.Topping.{top-asks}
 use mir.ValLaws.{toZ-ofZ}
 use mir.Syntax.{w32}
-use Rattle.table.proofs.Writing.{fewer-written, full-written}
+use Rattle.table.proofs.Writing.{found-limited, last-limited, fewer-written, full-written}
 use Rattle.top.proofs.Sweeps.{zeroed}
 use denote.Ref.{now}
 use borrow.Author.Needs.{needs}
 use native.Mathlib.Omega.{arith}
 use Rattle.table.proofs.top_all.Statement.{statement}
 use Rattle.table.proofs.top_all.Tie as tie
+
+by-top-requires : tie.Need-by-top-requires
+by-top-requires c κs =
+    let at-found = c .before .before .before in
+    let s = at-found .before .before .before .before .before in
+    let a = s .args in
+    (omega (arith, s .pre .0 .fits, at-found .collect-table .kept .1 .0), found-limited (now (a .table)) (a .q) (a .n) _ (now (a .output)) _ (s .pre .1 .count) (at-found .collect-table .ensures))
 
 returns : tie.Need-returns
 returns c =
@@ -22,6 +29,18 @@ returns c =
     (found .kept .1 .0)
     (s .pre .0 .fits)
     (c .if1 .taken)
+
+read-key-requires : tie.Need-read-key-requires
+read-key-requires c κs =
+    let at-sorted = c .before .before .before .before in
+    let at-found = at-sorted .before .before .before .before in
+    let s = at-found .before .before .before .before .before in
+    let a = s .args in
+    let many = c .before .if1 .left in (
+      omega (arith, s .pre .0 .some, s .pre .0 .fits, at-found .collect-table .kept .1 .0, at-sorted .by-top .kept .0),
+      last-limited (now (a .table)) (a .q) (a .n) _ (now (a .output)) _ _ (s .pre .1 .count) (at-found .collect-table .ensures) (at-sorted .by-top .ensures)
+          (omega (arith, s .pre .0 .some)),
+    )
 
 count-table-requires : tie.Need-count-table-requires
 count-table-requires c κs =
@@ -45,7 +64,7 @@ returns-2 c =
     (omega (arith, c .before .before .before .before .before .before .before .before .before .before .before .before .before .if1 .left, s .pre .1 .few))
     (s .pre .0 .some)
     (last .result)
-    (last .ensures)
+    (last .ensures .0)
     _
     (asks .result)
     _
@@ -57,12 +76,12 @@ top-all-spec =
     tie.close
     (tie.spec
     (λ c κs. search needs)
-    (λ c κs. search needs)
+    by-top-requires
     (λ c. search needs)
     returns
     (λ c. search needs)
     (λ c. search needs)
-    (λ c κs. search needs)
+    read-key-requires
     (λ c κs. search needs)
     (λ c κs. search needs)
     count-table-requires

@@ -20,7 +20,7 @@ returns c =
 takes-all-requires : tie.Need-takes-all-requires
 takes-all-requires c κs =
     let s = c .before .before .before .pre in
-    ((omega arith, omega arith, s .0, s .1, s .3), s .4)
+    (s .0, s .2)
 
 returns-2 : tie.Need-returns-2
 returns-2 c = (sym (c .before .takes-all .ensures (c .if2 .taken)), omega arith)

@@ -4,10 +4,9 @@ use mathlib.Core.Path.{_≡_, refl}
 use mathlib.Core.Logic.{_⊎_, inl, ⊎-elim}
 use Prim.Native.Nat.{_+_, _-_, _*_, _≤_, _<_}
 use lib.Dec.{ltb}
-use lib.ListN.{length}
 use denote.Ref.{now}
 use Rattle.visit.specs.Visit.{belowIn, keysFrom}
-use Rattle.visit.proofs.Search.{key-room, run-most, run-up, run-down, byte-most, eighth-turn}
+use Rattle.visit.proofs.Search.{Reads, key-reads, run-most, run-up, run-down, byte-most, eighth-turn}
 use borrow.Author.Needs.{needs}
 use native.Mathlib.Omega.{arith}
 use Rattle.visit.proofs.eighths.Statement.{statement}
@@ -19,11 +18,9 @@ Inv-loop t at w n k m c₀ j₀ c j = (j ≤ m) × (c ≤ j) × (8 * c ≤ below
 abbrev μ-loop : tie.MeasureT-loop
 μ-loop t at w n k m c₀ j₀ c j = m - j
 
--- the key stands within the slice
-room : (c : tie.In-loop Inv-loop μ-loop) → let a = c .before .before .before .args in a .at + a .w * (8 * c .before .loop .j + 7) + 8 ≤ length (now (a .t))
-room c =
-    let a = c .before .before .before .args in
-    key-room (a .w) (a .at) (length (now (a .t))) {i = 8 * c .before .loop .j + 7} {n = a .n} (omega arith) (omega arith) (omega arith)
+-- the key may be read
+reads : (c : tie.In-loop Inv-loop μ-loop) → let a = c .before .before .before .args in Reads (now (a .t)) (a .at + a .w * (8 * c .before .loop .j + 7))
+reads c = key-reads (c .before .before .before .pre) (8 * c .before .loop .j + 7) (omega arith)
 
 loop-holds : tie.Need-loop-holds Inv-loop μ-loop
 loop-holds c = (omega arith, omega arith, omega arith, inl refl)
@@ -35,13 +32,13 @@ add-read-key : tie.Need-add-read-key Inv-loop μ-loop
 add-read-key c = omega arith
 
 mul-read-key-2 : tie.Need-mul-read-key-2 Inv-loop μ-loop
-mul-read-key-2 c = omega (arith, room c)
+mul-read-key-2 c = omega (arith, reads c .0)
 
 add-read-key-2 : tie.Need-add-read-key-2 Inv-loop μ-loop
-add-read-key-2 c = omega (arith, room c)
+add-read-key-2 c = omega (arith, reads c .0)
 
 read-key-requires : tie.Need-read-key-requires Inv-loop μ-loop
-read-key-requires c κs = room c
+read-key-requires c κs = reads c
 
 cast-c : tie.Need-cast-c Inv-loop μ-loop
 cast-c c = search needs
@@ -62,8 +59,8 @@ loop-again c =
     let l = c .before .before .loop in
     let m = belowIn (a .k) (keysFrom (now (a .t)) (a .w) (a .n) (a .at)) in
     let v = eighth-turn m (l .c) (l .j) (c .read-key .result) (a .k) (l .inv .1, l .inv .2, l .inv .3)
-    (λ h. run-up (now (a .t)) (a .w) (a .n) (a .at) (p .4) (a .k) (8 * l .j + 7) (omega arith) (omega (arith, c .read-key .ensures)))
-    (λ h. run-down (now (a .t)) (a .w) (a .n) (a .at) (p .4) (a .k) (8 * l .j + 7) (omega arith) (omega (arith, c .read-key .ensures)))
+    (λ h. run-up (now (a .t)) (a .w) (a .n) (a .at) (p .rise) (a .k) (8 * l .j + 7) (omega arith) (omega (arith, c .read-key .ensures .0)))
+    (λ h. run-down (now (a .t)) (a .w) (a .n) (a .at) (p .rise) (a .k) (8 * l .j + 7) (omega arith) (omega (arith, c .read-key .ensures .0)))
     in
     (omega arith, v .0, v .1, v .2)
 

@@ -1,5 +1,6 @@
 -- `visit::marks` meets its contract: what waits above is struck from the wanted ones, by the list where they lie in its range.
 -- Assumes nothing.
+use Prim.Native.Nat.{_-_}
 use native.Mathlib.Omega.{arith}
 use lib.Dec.{leb}
 use denote.Ref.{now}
@@ -7,6 +8,7 @@ use borrow.Author.Needs.{needs}
 use borrow.Author.Tests.{leb-true}
 use Rattle.octets.proofs.Tests.{and-left, and-right}
 use Rattle.visit.specs.Visit.{Blank}
+use Rattle.visit.proofs.Search.{key-reads, first-reads}
 use Rattle.visit.proofs.Marking.{wanted-blank, marks-none, marks-struck, struck-near}
 use Rattle.visit.proofs.marks.Statement.{statement}
 use Rattle.visit.proofs.marks.Tie as tie
@@ -18,8 +20,8 @@ module _ (c : tie.After-earlier) where
 
   blank : Blank (now (start .args .t)) (start .args .at) (start .args .n) (c .before .before .before .later .result) (c .earlier .result) (c .before .before .before .before .before .before .before .wanted .result)
   blank =
-      wanted-blank (now (start .args .t)) (start .args .at) (start .args .n) (start .args .q) (omega (arith, c .before .before .before .before .before .before .if1 .left)) (start .pre .3)
-      (c .before .before .before .before .before .lowest-key .ensures) (c .before .before .highest-key .ensures) (c .before .before .before .before .read-key .ensures) (c .before .read-key2 .ensures) (c .before .before .before .later .ensures .0)
+      wanted-blank (now (start .args .t)) (start .args .at) (start .args .n) (start .args .q) (omega (arith, c .before .before .before .before .before .before .if1 .left)) (start .pre .0 .rise)
+      (c .before .before .before .before .before .lowest-key .ensures) (c .before .before .highest-key .ensures) (c .before .before .before .before .read-key .ensures .0) (c .before .read-key2 .ensures .0) (c .before .before .before .later .ensures .0)
       (c .earlier .ensures .0) (c .before .before .before .before .before .before .before .wanted .ensures)
 
 wanted-requires : tie.Need-wanted-requires
@@ -32,7 +34,7 @@ lowest-key-requires : tie.Need-lowest-key-requires
 lowest-key-requires c κs = search needs
 
 read-key-requires : tie.Need-read-key-requires
-read-key-requires c κs = search needs
+read-key-requires c κs = first-reads (c .before .before .before .before .before .pre .0) (omega (arith, c .before .if1 .left))
 
 later-requires : tie.Need-later-requires
 later-requires c κs = search needs
@@ -50,7 +52,9 @@ add-read-key : tie.Need-add-read-key
 add-read-key c = search needs
 
 read-key-requires-2 : tie.Need-read-key-requires-2
-read-key-requires-2 c κs = search needs
+read-key-requires-2 c κs =
+    let s = c .before .before .before .before .before .before .before .before in
+    key-reads (s .pre .0) (s .args .n - 1) (omega (arith, c .before .before .before .before .if1 .left))
 
 earlier-requires : tie.Need-earlier-requires
 earlier-requires c κs = search needs
@@ -61,7 +65,7 @@ slice-aggregate-strike-keys c = search needs
 strike-keys-requires : tie.Need-strike-keys-requires
 strike-keys-requires c κs =
     let s = c .before .before .before .before .before .before .before .before .before .before .before .before .before .before .pre in
-    ((omega arith, omega arith, s .0, s .1, s .3), omega (arith, s .0, c .before .before .before .before .before .before .before .before .before .before .before .wanted .ensures .sized), s .4 .few)
+    (s .0, omega (arith, s .0 .few, c .before .before .before .before .before .before .before .before .before .before .before .wanted .ensures .sized), s .2 .few)
 
 returns-2 : tie.Need-returns-2
 returns-2 c =
@@ -72,7 +76,7 @@ returns-2 c =
     let lo = e .before .before .before .later .result in
     let hi = e .earlier .result in
     marks-struck (a .p) (e .before .before .before .before .before .before .before .wanted .ensures)
-    (struck-near (now (a .t)) (a .at) (a .n) (a .p) (now (a .ws)) (s .pre .4) (blank e)
+    (struck-near (now (a .t)) (a .at) (a .n) (a .p) (now (a .ws)) (s .pre .2) (blank e)
     (leb-true (a .p .lo) lo (and-left (leb (a .p .lo) lo) (leb hi (a .p .last)) near))
     (leb-true hi (a .p .last) (and-right (leb (a .p .lo) lo) (leb hi (a .p .last)) near))
     (c .before .strike-keys .ensures))
@@ -84,7 +88,7 @@ strike-path-requires : tie.Need-strike-path-requires
 strike-path-requires c κs =
     let e = c .before .before .before .before in
     let s = start e in
-    ((omega arith, omega arith, s .pre .0, s .pre .1, s .pre .3), s .pre .2, omega (arith, s .pre .0, e .before .before .before .before .before .before .before .wanted .ensures .sized), blank e)
+    (s .pre .0, s .pre .1, omega (arith, s .pre .0 .few, e .before .before .before .before .before .before .before .wanted .ensures .sized), blank e)
 
 returns-3 : tie.Need-returns-3
 returns-3 c = marks-struck (c .before .before .before .before .before .before .before .before .before .before .before .before .before .before .before .before .args .p) (c .before .before .before .before .before .before .before .before .before .before .before .before .before .wanted .ensures) (c .before .strike-path .ensures)

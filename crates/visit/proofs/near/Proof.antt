@@ -4,10 +4,9 @@ use mathlib.Core.Path.{_≡_, refl}
 use mathlib.Core.Logic.{_⊎_, inl, ⊎-elim}
 use Prim.Native.Nat.{_+_, _-_, _*_, _≤_}
 use lib.Dec.{ltb}
-use lib.ListN.{length}
 use denote.Ref.{now}
 use Rattle.visit.specs.Visit.{belowIn, keysFrom}
-use Rattle.visit.proofs.Search.{key-room, run-up, run-down, byte-most, near-turn}
+use Rattle.visit.proofs.Search.{Reads, key-reads, run-up, run-down, byte-most, near-turn}
 use borrow.Author.Needs.{needs}
 use native.Mathlib.Omega.{arith}
 use Rattle.visit.proofs.near.Statement.{statement}
@@ -19,23 +18,21 @@ Inv-loop t at w n k a e r₀ i₀ r i = (i ≤ e) × (r ≤ i) × (r ≤ belowIn
 abbrev μ-loop : tie.MeasureT-loop
 μ-loop t at w n k a e r₀ i₀ r i = e - i
 
--- the key stands within the slice
-room : (c : tie.In-loop Inv-loop μ-loop) → let a = c .before .before .before .args in a .at + a .w * c .before .loop .i + 8 ≤ length (now (a .t))
-room c =
-    let a = c .before .before .before .args in
-    key-room (a .w) (a .at) (length (now (a .t))) {i = c .before .loop .i} {n = a .n} (omega arith) (omega arith) (omega arith)
+-- the key may be read
+reads : (c : tie.In-loop Inv-loop μ-loop) → let a = c .before .before .before .args in Reads (now (a .t)) (a .at + a .w * c .before .loop .i)
+reads c = key-reads (c .before .before .before .pre .0) (c .before .loop .i) (omega arith)
 
 loop-holds : tie.Need-loop-holds Inv-loop μ-loop
 loop-holds c = (omega arith, omega arith, omega arith, inl refl)
 
 mul-read-key : tie.Need-mul-read-key Inv-loop μ-loop
-mul-read-key c = omega (arith, room c)
+mul-read-key c = omega (arith, reads c .0)
 
 add-read-key : tie.Need-add-read-key Inv-loop μ-loop
-add-read-key c = omega (arith, room c)
+add-read-key c = omega (arith, reads c .0)
 
 read-key-requires : tie.Need-read-key-requires Inv-loop μ-loop
-read-key-requires c κs = room c
+read-key-requires c κs = reads c
 
 cast-r : tie.Need-cast-r Inv-loop μ-loop
 cast-r c = search needs
@@ -56,8 +53,8 @@ loop-again c =
     let l = c .before .before .loop in
     let m = belowIn (a .k) (keysFrom (now (a .t)) (a .w) (a .n) (a .at)) in
     let v = near-turn m (l .r) (l .i) (c .read-key .result) (a .k) (l .inv .1, l .inv .2, l .inv .3)
-    (λ h. run-up (now (a .t)) (a .w) (a .n) (a .at) (p .0 .4) (a .k) (l .i) (omega arith) (omega (arith, c .read-key .ensures)))
-    (λ h. run-down (now (a .t)) (a .w) (a .n) (a .at) (p .0 .4) (a .k) (l .i) (omega arith) (omega (arith, c .read-key .ensures)))
+    (λ h. run-up (now (a .t)) (a .w) (a .n) (a .at) (p .0 .rise) (a .k) (l .i) (omega arith) (omega (arith, c .read-key .ensures .0)))
+    (λ h. run-down (now (a .t)) (a .w) (a .n) (a .at) (p .0 .rise) (a .k) (l .i) (omega arith) (omega (arith, c .read-key .ensures .0)))
     in
     (omega arith, v .0, v .1, v .2)
 

@@ -3,7 +3,7 @@
 use Prim.Native.Nat.{_-_, _≤_}
 use denote.Ref.{now}
 use Rattle.visit.specs.Visit.{belowIn, keysFrom}
-use Rattle.visit.proofs.Search.{run-most, run-up, run-down}
+use Rattle.visit.proofs.Search.{key-reads, run-most, run-up, run-down}
 use native.Mathlib.Omega.{arith}
 use Rattle.visit.proofs.onward.Statement.{statement}
 use Rattle.visit.proofs.onward.Tie as tie
@@ -26,14 +26,14 @@ add-read-key : tie.Need-add-read-key Inv-loop μ-loop
 add-read-key c = omega arith
 
 read-key-requires : tie.Need-read-key-requires Inv-loop μ-loop
-read-key-requires c κs = omega arith
+read-key-requires c κs = key-reads (c .before .before .before .pre .0) (c .before .loop .i) (omega arith)
 
 returns : tie.Need-returns Inv-loop μ-loop
 returns c =
     let s = c .before .before .before .before .before .args in
     let p = c .before .before .before .before .before .pre in
     let l = c .before .before .before .loop in
-    let m : belowIn (s .k) (keysFrom (now (s .t)) 12 (s .n) (s .at)) ≤ l .i = run-down (now (s .t)) 12 (s .n) (s .at) (p .0 .4) (s .k) (l .i) (omega arith) (omega (arith, c .before .read-key .ensures)) in
+    let m : belowIn (s .k) (keysFrom (now (s .t)) 12 (s .n) (s .at)) ≤ l .i = run-down (now (s .t)) 12 (s .n) (s .at) (p .0 .rise) (s .k) (l .i) (omega arith) (omega (arith, c .before .read-key .ensures .0)) in
     omega (arith, l .inv .1)
 
 add-i : tie.Need-add-i Inv-loop μ-loop
@@ -47,7 +47,7 @@ loop-again c =
     let s = c .before .before .before .before .before .args in
     let p = c .before .before .before .before .before .pre in
     let l = c .before .before .before .loop in
-    (omega arith, omega (arith, run-up (now (s .t)) 12 (s .n) (s .at) (p .0 .4) (s .k) (l .i) (omega arith) (omega (arith, c .before .read-key .ensures))))
+    (omega arith, omega (arith, run-up (now (s .t)) 12 (s .n) (s .at) (p .0 .rise) (s .k) (l .i) (omega arith) (omega (arith, c .before .read-key .ensures .0))))
 
 returns-2 : tie.Need-returns-2 Inv-loop μ-loop
 returns-2 c =

@@ -23,7 +23,7 @@ returns c =
 wanted-each-requires : tie.Need-wanted-each-requires
 wanted-each-requires c κs =
     let s = c .before .before .before .before in
-    (s .pre .0, s .pre .1, ap isRing (c .before .before .all-places .ensures) ∙ all-flat _)
+    (s .pre, ap isRing (c .before .before .all-places .ensures) ∙ all-flat _)
 
 returns-2 : tie.Need-returns-2
 returns-2 c =

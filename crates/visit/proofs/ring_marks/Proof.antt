@@ -14,7 +14,7 @@ use Rattle.visit.proofs.ring_marks.Statement.{statement}
 use Rattle.visit.proofs.ring_marks.Tie as tie
 
 unmarked-requires : tie.Need-unmarked-requires
-unmarked-requires c κs = (omega (arith, c .below .ensures .1, c .before .before .before .before .before .before .before .pre .0 .2), c .before .before .before .before .ranked-marks .ensures .sized)
+unmarked-requires c κs = (omega (arith, c .below .ensures .1, c .before .before .before .before .before .before .before .pre .0 .few), c .before .before .before .before .ranked-marks .ensures .sized)
 
 returns : tie.Need-returns
 returns c =
@@ -22,7 +22,7 @@ returns c =
     let at-ranked = at-through .before .before in
     let s = at-ranked .before .before .before in
     let a = s .args in
-    ring-wanted (now (a .t)) (a .at) (a .n) (a .q) (s .pre .0 .4) (s .pre .1) (c .before .before .from-key .ensures) (at-through .before .last-key .ensures)
+    ring-wanted (now (a .t)) (a .at) (a .n) (a .q) (s .pre .0 .rise) (s .pre .1) (c .before .before .from-key .ensures) (at-through .before .last-key .ensures)
     (subst (λ (y : ℤ). Wanted (now (a .t)) (a .at) (a .n) (allPlaces y) (at-ranked .ranked-marks .result)) (toZ-ofZ w32 (a .q .y) (record { sfits = at-ranked .before .struct-told .given .1 .1 .0 .1 }))
     (at-ranked .ranked-marks .ensures))
     (at-through .through .ensures) (c .before .below .ensures .0) (c .before .below .ensures .1) (c .unmarked .ensures)

@@ -22,7 +22,7 @@ placed-marks-requires c κs = (
 wanted-each-requires : tie.Need-wanted-each-requires
 wanted-each-requires c κs =
     let s = c .before .before .before .before .before .before .before in
-    (s .pre .2, s .pre .3, sym (c .before .before .before .is-ring .ensures) ∙ c .before .before .if2 .left)
+    (s .pre, sym (c .before .before .before .is-ring .ensures) ∙ c .before .before .if2 .left)
 
 pub wanted-spec : {M : Type 1} → statement M
 wanted-spec =

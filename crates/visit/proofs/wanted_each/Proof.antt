@@ -2,11 +2,14 @@
 -- Assumes nothing.
 use borrow.Author.Needs.{needs}
 use native.Mathlib.Omega.{arith}
-use mathlib.Core.Path.{_≡_, subst}
-use Prim.Native.Nat.{ℕ, _+_, _-_, _*_, _≤_}
+use mathlib.Core.Path.{_≡_, ap, subst, _∙_}
+use Prim.Native.Nat.{ℕ, _-_, _≤_}
 use denote.Ref.{now}
 use Rattle.spot.proofs.Signed.{Fits}
-use Rattle.spot.proofs.Orders.{read-wants}
+use Rattle.spot.specs.Query.{wantsKey}
+use Rattle.spot.proofs.Limits.{limited-small}
+use Rattle.visit.proofs.Search.{key-reads}
+use Rattle.spot.proofs.Orders.{key-wants}
 use Rattle.visit.proofs.Marking.{wanted-none, wanted-more}
 use Rattle.visit.specs.Visit.{Wanted}
 use Rattle.visit.proofs.wanted_each.Statement.{statement}
@@ -21,32 +24,26 @@ abbrev μ-loop : tie.MeasureT-loop
 loop-holds : tie.Need-loop-holds Inv-loop μ-loop
 loop-holds c = (omega arith, wanted-none (now (c .before .args .t)) (c .before .args .at) (c .before .args .q))
 
-mul-read-i32 : tie.Need-mul-read-i32 Inv-loop μ-loop
-mul-read-i32 c = omega arith
+mul-read-key : tie.Need-mul-read-key Inv-loop μ-loop
+mul-read-key c = omega arith
 
-add-read-i32 : tie.Need-add-read-i32 Inv-loop μ-loop
-add-read-i32 c = omega arith
+add-read-key : tie.Need-add-read-key Inv-loop μ-loop
+add-read-key c = omega arith
 
-read-i32-requires : tie.Need-read-i32-requires Inv-loop μ-loop
-read-i32-requires c κs = omega arith
+read-key-requires : tie.Need-read-key-requires Inv-loop μ-loop
+read-key-requires c κs = key-reads (c .before .before .before .pre .0) (c .before .loop .i) (omega arith)
 
-mul-read-i32-2 : tie.Need-mul-read-i32-2 Inv-loop μ-loop
-mul-read-i32-2 c = omega arith
+place-of-requires : tie.Need-place-of-requires Inv-loop μ-loop
+place-of-requires c κs = search needs
 
-add-read-i32-2 : tie.Need-add-read-i32-2 Inv-loop μ-loop
-add-read-i32-2 c = omega arith
-
-add-read-i32-3 : tie.Need-add-read-i32-3 Inv-loop μ-loop
-add-read-i32-3 c = omega arith
-
-read-i32-requires-2 : tie.Need-read-i32-requires-2 Inv-loop μ-loop
-read-i32-requires-2 c κs = omega arith
+rank-in-requires : tie.Need-rank-in-requires Inv-loop μ-loop
+rank-in-requires c κs = search needs
 
 wanted-requires : tie.Need-wanted-requires Inv-loop μ-loop
 wanted-requires c κs = search needs
 
 array-write-m : tie.Need-array-write-m Inv-loop μ-loop
-array-write-m c = omega (arith, c .before .before .before .before .before .before .before .loop .inv .1 .sized)
+array-write-m c = omega (arith, c .before .before .before .before .before .before .before .before .loop .inv .1 .sized)
 
 add-i : tie.Need-add-i Inv-loop μ-loop
 add-i c = omega arith
@@ -57,10 +54,12 @@ loop-less c = omega arith
 loop-again : tie.Need-loop-again Inv-loop μ-loop
 loop-again c =
     let told = c .before .struct-told3 .given in
-    let rank = c .before .before .before .before .read-i322 in
-    let at-place = c .before .before .before .before .before in
-    let at-loop = at-place .before .before in
-    let place = at-place .read-i32 in
+    let at-rank = c .before .before .before .before in
+    let rank = at-rank .rank-in in
+    let place = at-rank .before .place-of in
+    let at-read = at-rank .before .before in
+    let read = at-read .read-key in
+    let at-loop = at-read .before .before in
     let l = at-loop .loop in
     let s = at-loop .before .before .args in
     let fits1 : Fits (s .q .x1) = record { sfits = told .0 .1 } in
@@ -68,9 +67,10 @@ loop-again c =
     let fitsy : Fits (s .q .y) = record { sfits = told .1 .1 .0 .1 } in (
       omega arith,
       wanted-more (now (s .t)) (s .at) (s .q) (l .i) (l .inv .1) (omega arith)
-          (read-wants (s .q) (now (s .t)) (s .at + 12 * l .i) fits1 fits2 fitsy (λ j. at-loop .before .shared-slice-known .given j .fits)
-          (at-loop .before .before .pre .2) (place .result) (rank .result)
-          (record { sfits = place .ok }) (record { sfits = rank .ok }) (place .ensures) (rank .ensures) (c .wanted .ensures)),
+          (key-wants (s .q) (read .result) fits1 fits2 fitsy (at-loop .before .before .pre .1) (limited-small (read .result) (read .ensures .1))
+          (place .result) (rank .result)
+          (record { sfits = place .ok }) (record { sfits = rank .ok }) (place .ensures) (rank .ensures) (c .wanted .ensures)
+          ∙ ap (wantsKey (s .q)) (read .ensures .0)),
     )
 
 returns : tie.Need-returns Inv-loop μ-loop
@@ -87,13 +87,11 @@ wanted-each-spec =
     Inv-loop
     μ-loop
     loop-holds
-    mul-read-i32
-    add-read-i32
-    read-i32-requires
-    mul-read-i32-2
-    add-read-i32-2
-    add-read-i32-3
-    read-i32-requires-2
+    mul-read-key
+    add-read-key
+    read-key-requires
+    place-of-requires
+    rank-in-requires
     wanted-requires
     array-write-m
     add-i

@@ -1,9 +1,9 @@
-//! The entries of a node: rules 3 and 6 for their bytes and for the child they lead to, and rule 1 for the blocks they name.
+//! The entries of a node: rules 3, 6 and 7 for their bytes and for the child they lead to, and rule 1 for the blocks they name.
 
 use super::node::{Named, Visit};
 use super::{not_zero, Reader, Way, MOST_FAULTS};
-use crate::layout::{by_rank, key, Parts, KEY};
-use crate::words::{self, identity};
+use crate::layout::{by_rank, in_limits, key, Parts, KEY, PLACE};
+use crate::words::{self, identity, outside};
 use crate::Key;
 use std::ops::Range;
 
@@ -38,6 +38,11 @@ impl Entry {
         if size == 0 {
             return None;
         }
+        let ends = [("highest", highest, 12..20), ("lowest", lowest, 20..28)];
+        if let Some((name, k, field)) = ends.iter().find(|(_, k, _)| !in_limits(k.0)) {
+            let place = field.start..field.start + PLACE;
+            return Some((7, place, format!("says that the {name} of P is {}, {}", identity(*k), outside())));
+        }
         let both = || [highest, lowest].map(identity);
         if by_rank(highest) < by_rank(lowest) {
             let [highest, lowest] = both();
@@ -47,7 +52,6 @@ impl Entry {
             let [highest, lowest] = both();
             return Some((6, 12..28, format!("says that P has {size}, its highest is {highest} and its lowest {lowest}")));
         }
-        let ends = [("highest", highest, 12..20), ("lowest", lowest, 20..28)];
         let (name, k, field) = ends.into_iter().find(|(_, k, _)| !child.holds(*k))?;
         Some((3, field, format!("says that the {name} of P is {}, outside the child's range: {}", identity(k), child.range())))
     }
@@ -100,7 +104,7 @@ impl Reader<'_> {
         }
     }
 
-    /// Rule 3 for the lowest identities of a node's entries. False where they can't serve as ranges.
+    /// Rules 3 and 7 for the lowest identities of a node's entries. False where they can't serve as ranges.
     fn lows(&mut self, at: &Visit, bytes: &[u8], c: usize) -> bool {
         let before = self.faults.len();
         for j in 1..c {
@@ -110,6 +114,9 @@ impl Reader<'_> {
             if !at.holds(low) {
                 let what = format!("{}, outside the node's range: {}", here(), at.range());
                 self.fault(at, 3, field..field + KEY, what);
+            }
+            if !in_limits(low.0) {
+                self.fault(at, 7, field..field + PLACE, format!("{}, {}", here(), outside()));
             }
             if j > 1 && low <= last {
                 let what = format!("{}; it does not rise above that of entry {j}, which is {}", here(), identity(last));

@@ -5,8 +5,8 @@ use crate::words;
 use std::fmt;
 use std::ops::Range;
 
-/// The rules of "When a table is sound", in the paper's words.
-pub const RULES: [&str; 6] = [
+/// The rules of "When a table is sound", in the paper's words, and as the seventh that of request 2026-07.
+pub const RULES: [&str; 7] = [
     "Block 0 agrees with the lent length; the map marks block 0 and exactly the blocks reached from the root, each reached once.",
     "The root has level h - 1, a child one level less than its parent. A leaf has no children; an inner node has 4 to 8, the root \
     if inner 2 to 8.",
@@ -18,6 +18,8 @@ pub const RULES: [&str; 6] = [
     empty. A leaf's I and D are empty.",
     "Entries agree with their children. The figure in bytes 8-11 lies in its limits. Every other field and zero byte is as laid out \
     above.",
+    "A place lies in -1,000,000 to 1,000,000 centimetres: that of every identity in P, I and D, of the lowest identities from the second \
+    entry on, and of the highest and the lowest of each P that is not empty.",
 ];
 
 /// How a block is reached.
@@ -45,7 +47,7 @@ impl fmt::Display for Way {
     }
 }
 
-/// A broken rule: its number from 1 to 6, the block where it shows, the bytes there, how the block is reached, and what is wrong.
+/// A broken rule: its number from 1 to 7, the block where it shows, the bytes there, how the block is reached, and what is wrong.
 #[derive(Clone, Debug, PartialEq, Eq)]
 pub struct Fault {
     pub rule: usize,

@@ -1,4 +1,4 @@
-//! Why a table is not sound: the scope paper's six rules, read one by one, with the places where they are broken.
+//! Why a table is not sound: the scope paper's six rules and the limits of places, read one by one, with the places where they are broken.
 
 mod entry;
 mod fault;

@@ -1,9 +1,9 @@
-//! One node: rules 2 to 5 for its bytes, and rule 6 for its fields.
+//! One node: rules 2 to 5 and 7 for its bytes, and rule 6 for its fields.
 
 use super::entry::Entry;
 use super::{not_zero, Fault, Reader, Way, MOST_FAULTS};
-use crate::layout::{block, by_rank, key, Parts, BLOCK, KEY, SPOT};
-use crate::words::{self, identity};
+use crate::layout::{block, by_rank, in_limits, key, Parts, BLOCK, KEY, PLACE, SPOT};
+use crate::words::{self, identity, outside};
 use crate::Key;
 use std::collections::HashMap;
 use std::ops::Range;
@@ -83,6 +83,7 @@ impl Reader<'_> {
         let lowest = points.iter().map(|n| n.key).min_by_key(|k| by_rank(*k));
         self.order(&at, &all);
         self.ranks(&at, &all, lowest);
+        self.limits(&at, &all);
         self.agreement(&at, points);
         let below = Visit {
             under: lowest.map(|k| (k, at.block)).or(at.under),
@@ -159,6 +160,14 @@ impl Reader<'_> {
         if let Some(n) = all.iter().find(|n| !at.holds(n.key)) {
             let what = format!("{} in {} lies outside the node's range: {}", identity(n.key), n.list, at.range());
             self.fault(at, 3, n.bytes.clone(), what);
+        }
+    }
+
+    /// Rule 7 for the identities of one node; the first that breaks it.
+    fn limits(&mut self, at: &Visit, all: &[Named]) {
+        if let Some(n) = all.iter().find(|n| !in_limits(n.key.0)) {
+            let place = n.bytes.start..n.bytes.start + PLACE;
+            self.fault(at, 7, place, format!("{} in {} lies {}", identity(n.key), n.list, outside()));
         }
     }
 

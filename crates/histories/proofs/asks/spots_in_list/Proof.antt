@@ -3,6 +3,7 @@
 use Prim.Native.Nat.{_-_}
 use borrow.Author.Needs.{needs}
 use native.Mathlib.Omega.{arith}
+use Rattle.sort.proofs.Limits.{limits-at}
 use Rattle.histories.proofs.asks.spots_in_list.Statement.{statement}
 use Rattle.histories.proofs.asks.spots_in_list.Tie as tie
 
@@ -19,7 +20,9 @@ mul-read-key : tie.Need-mul-read-key Inv-loop μ-loop
 mul-read-key c = omega arith
 
 read-key-requires : tie.Need-read-key-requires Inv-loop μ-loop
-read-key-requires c κs = search needs
+read-key-requires c κs =
+    let start = c .before .before .before in
+    (search needs, limits-at (start .args .output .now) (start .args .n) (start .pre .1) (c .before .before .loop .i) (c .before .loop-test .taken))
 
 mul-read32 : tie.Need-mul-read32 Inv-loop μ-loop
 mul-read32 c = omega arith

@@ -1,7 +1,7 @@
 -- `vectors::shown::show_spots` is safe and ends.
 -- Assumes nothing.
 use Prim.Native.Nat.{_-_}
-use borrow.Author.Needs.{needs}
+use Rattle.sort.proofs.Limits.{limits-at}
 use native.Mathlib.Omega.{arith}
 use Rattle.vectors.proofs.shown.show_spots.Statement.{statement}
 use Rattle.vectors.proofs.shown.show_spots.Tie as tie
@@ -18,17 +18,20 @@ returns c = tt
 cast-n : tie.Need-cast-n Inv-loop μ-loop
 cast-n c = omega arith
 
-returns-2 : tie.Need-returns-2 Inv-loop μ-loop
-returns-2 c = tt
-
 loop-holds : tie.Need-loop-holds Inv-loop μ-loop
 loop-holds c = tt
 
 mul-show-spot : tie.Need-mul-show-spot Inv-loop μ-loop
-mul-show-spot c = omega arith
+mul-show-spot c =
+    let p = c .before .before .before in
+    omega (arith, p .before .before .before .pre (p .if1 .left) .0)
 
 show-spot-requires : tie.Need-show-spot-requires Inv-loop μ-loop
-show-spot-requires c κs = search needs
+show-spot-requires c κs =
+    let p = c .before .before .before in
+    let start = p .before .before .before in
+    let h = start .pre (p .if1 .left) in
+    (omega (arith, h .0), limits-at (start .args .output .now) (start .args .a .detail) (h .1) (c .before .loop .i) (c .loop-test .taken))
 
 add-i : tie.Need-add-i Inv-loop μ-loop
 add-i c = omega arith
@@ -39,8 +42,8 @@ loop-less c = omega arith
 loop-again : tie.Need-loop-again Inv-loop μ-loop
 loop-again c = tt
 
-returns-3 : tie.Need-returns-3 Inv-loop μ-loop
-returns-3 c = tt
+returns-2 : tie.Need-returns-2 Inv-loop μ-loop
+returns-2 c = tt
 
 pub show-spots-spec : {M : Type 1} → statement M
 show-spots-spec =
@@ -50,11 +53,10 @@ show-spots-spec =
     μ-loop
     returns
     cast-n
-    returns-2
     loop-holds
     mul-show-spot
     show-spot-requires
     add-i
     loop-less
     loop-again
-    returns-3)
+    returns-2)
