@@ -1,4 +1,4 @@
-/* A card with four spots: made, filled, asked, printed. Compiles as C99 and as C++:
+/* A card with four spots: made, filled, asked, printed; and a tour pressed from what is left. Compiles as C99 and as C++:
  *   cc -std=c99 card.c $(pkg-config --cflags --libs spot_table)
  */
 #include <inttypes.h>
@@ -15,6 +15,8 @@ static uint8_t table[BLOCKS * SPOT_BLOCK_BYTES];
 static uint8_t work[BLOCKS * SPOT_BLOCK_BYTES];
 static uint8_t output[ROOM * SPOT_BYTES];
 static uint8_t read_map[SPOT_MAP_BYTES];
+static uint8_t tour[SPOT_TOUR_BYTES];
+static uint8_t listed[3 * SPOT_BYTES];
 
 /* The detail of an accepted call; a refusal ends the program. */
 static uint32_t accepted(const char *call, uint64_t answer) {
@@ -81,6 +83,16 @@ int main(void) {
 
     answer = spot_add(table, sizeof table, work, sizeof work, SPOT_HIGHEST_PLACE + 1, 5, 5);
     printf("a spot one centimetre too far: %" PRIu32 ", %s\n", spot_number(answer), spot_error_text(spot_number(answer)));
+
+    n = accepted("report", spot_report(table, sizeof table, INT32_MIN, INT32_MAX, INT32_MIN, listed, sizeof listed, read_map, sizeof read_map));
+    accepted("press", spot_press(listed, SPOT_BYTES * n, tour, sizeof tour));
+    printf("a tour of the %" PRIu32 " spots of the table: %u blocks\n", n, (unsigned)(spot_tour_len(tour) / SPOT_BLOCK_BYTES));
+    n = accepted("tour_report", spot_tour_report(tour, spot_tour_len(tour), 200, -100, -5, output, sizeof output, read_map, sizeof read_map));
+    printf("%" PRIu32 " of them from 200 cm on past the door to -100 cm with rank -5 or more:\n", n);
+    print(n);
+    spot_write(listed, spots[3]);
+    answer = spot_press(listed, sizeof listed, tour, sizeof tour);
+    printf("with the last spot first: %" PRIu32 ", %s\n", spot_number(answer), spot_error_text(spot_number(answer)));
 
     n = accepted("check", spot_check(table, sizeof table));
     printf("%" PRIu32 " live spots, %s\n", accepted("count", spot_count(table, sizeof table)), n ? "sound" : "not sound");

@@ -1,26 +1,28 @@
-/* The spot table: up to 65,520 spots (a place, a rank, a track number) in lent memory.
+/* The spot table: up to 65,520 spots (a place, a rank, a track number) in lent memory; and pressed tours, read-only tables of up to 512 spots.
  *
  * Every call ends on any bytes and arguments, touches nothing but the memory lent to it, allocates nothing and keeps nothing between calls.
  *
  * Lent memory. A slice is a pointer and a length: in bytes, and for ranges and counts in elements.
  *   - The slices of one call must not overlap. A work area that is the table destroys the table.
- *   - During a call nothing else may write the table, the ranges, the counts, the output, the read map or the work area; during spot_format, spot_add,
- *     spot_withdraw and spot_rebuild nothing else may read the table either. Any number of calls may read one table at the same time.
+ *   - During a call nothing else may write the table, the tour, the spots to be pressed, the ranges, the counts, the output, the read map or the work area; during
+ *     spot_format, spot_add, spot_withdraw and spot_rebuild nothing else may read the table either, and during spot_press the tour. Any number of calls may read one table or
+ *     tour at the same time.
  *   - A pointer may be NULL only with length 0. The bytes need no alignment; ranges and counts have that of their types.
  *   - The ceiling of spot_top_within is a result: one number, in no lent slice, which every call sets. Its pointer is not NULL.
  *
  * The answer is number * 2^32 + detail (spot_number, spot_detail). Number 0 is an accepted call; detail is the number of spots for spot_report, spot_report_many, spot_top,
- * spot_top_within and spot_count, 1 or 0 for spot_check's yes or no, else 0. The other numbers are refusals (enum spot_error), asked in their order, but 6 and 9 after 2 and
- * before 3. After a refusal every lent byte is as it was, but for a work area after 3: its first table-length bytes are zero then, as after an accepted call.
+ * spot_top_within, spot_tour_report and spot_count, 1 or 0 for spot_check's yes or no, else 0. The other numbers are refusals (enum spot_error), asked in their order, but 6, 7
+ * and 9 after 2 and before 3. After a refusal every lent byte is as it was, but for a work area after 3: its first table-length bytes are zero then, as after an accepted call.
  *
- * Places lie from SPOT_LOWEST_PLACE to SPOT_HIGHEST_PLACE, in centimetres. spot_add and spot_withdraw refuse another one with 9, and one that is stored in a table breaks a rule.
- * So every spot that an accepted call gives has its place there, whatever the table holds, and the difference of two of these places fits int32_t. The ends of a range may be any
- * numbers.
+ * Places lie from SPOT_LOWEST_PLACE to SPOT_HIGHEST_PLACE, in centimetres. spot_add, spot_withdraw and spot_press refuse another one with 9, and one that is stored in a
+ * table or a tour breaks a rule. So every spot that an accepted call gives has its place there, whatever the table or the tour holds, and the difference of two of these places
+ * fits int32_t. The ends of a range may be any numbers.
  *
  * The archive is for x86-64 Linux. Of the C library it needs memcpy, memmove, memset and memcmp at most.
  *
  * The format of a table is version 1 (byte 4 of block 0). Tables of version 1 stay readable and writable by all later versions of this library; another layout would
  * have another version number, which this library refuses with 3. A place outside the limits that 0.1.0 stored breaks a rule now: calls that read it are refused with 3.
+ * The format of a tour is version 1, too (byte 4 of its block 0, the catalogue), and stays readable in the same way.
  *
  * What a call costs, in blocks of 2,048 bytes; h is the number of levels, 1 to 7:
  *   spot_format     writes every block.
@@ -37,7 +39,12 @@
  *   spot_withdraw   some more blocks a level. Rarely, where no block is spare, all is laid out anew as by spot_rebuild. Both zero as much of the work area as the table is
  *                   long, which is most of their time on a large table. A withdrawal that finds nothing writes nothing to the table.
  *   spot_rebuild    reads every node block that has spots and writes as many as the spots need.
- * Memory: the output takes 12 bytes for each spot, the counts 4 for each range, the read map 512, the work area as many as the table has. Stack: SPOT_STACK_... below.
+ *   spot_press      reads the spots once for each of them and writes each block of the tour once: up to 8 for the spots in place order, up to 7 fused ones, the catalogue.
+ *   spot_tour_report
+ *                   reads the catalogue and at most 3 + 2 * (spots div 64) other blocks of a pressed tour, 4 + 2 * (spots div 64) for a range past the door, each once, and marks
+ *                   exactly those.
+ * Memory: the output takes 12 bytes for each spot, the counts 4 for each range, the read map 512, the work area as many as the table has, a tour to be pressed
+ * SPOT_TOUR_BYTES. Stack: SPOT_STACK_... below.
  */
 #ifndef SPOT_TABLE_H
 #define SPOT_TABLE_H
@@ -60,8 +67,11 @@ extern "C" {
 #define SPOT_MOST_RANGES 64
 #define SPOT_LOWEST_PLACE (-1000000)
 #define SPOT_HIGHEST_PLACE 1000000
+#define SPOT_TOUR_BYTES 32768
+#define SPOT_TOUR_BLOCKS 16
+#define SPOT_TOUR_SPOTS 512
 
-/* Bytes of stack that suffice for a call on any table, return address included. measure/stack computes them from the built archive and fails where one is too low. */
+/* Bytes of stack that suffice for a call on any table or tour, return address included. measure/stack computes them from the built archive and fails where one is too low. */
 #define SPOT_STACK_FORMAT 8192
 #define SPOT_STACK_COUNT 24576
 #define SPOT_STACK_CHECK 24576
@@ -72,23 +82,27 @@ extern "C" {
 #define SPOT_STACK_ADD 245760
 #define SPOT_STACK_WITHDRAW 245760
 #define SPOT_STACK_REBUILD 32768
+#define SPOT_STACK_PRESS 8192
+#define SPOT_STACK_TOUR_REPORT 24576
 
 enum spot_error {
     SPOT_OK = 0,
-    /* the table is not a whole number of blocks, or has under 9 or over 4,096 */
+    /* the table is not a whole number of blocks, or has under 9 or over 4,096; the tour is not 1 to 16 whole blocks */
     SPOT_TABLE_LENGTH = 1,
-    /* the read map isn't 512 bytes, the work area is shorter than the table, or there are not as many counts as ranges */
+    /* the read map isn't 512 bytes, the work area is shorter than the table, there are not as many counts as ranges, or a tour is to be pressed into under SPOT_TOUR_BYTES */
     SPOT_LENT_LENGTH = 2,
     /* block 0, or a node block that is read, breaks a rule that it and the entry leading to it can show; never on a sound table. A call reads only some blocks, so an
-     * answer of 0 doesn't say that the table is sound: spot_check does */
+     * answer of 0 doesn't say that the table is sound: spot_check does. Of a tour: the catalogue, or a block that is read, breaks the layout; never on a pressed one */
     SPOT_BROKEN = 3,
     /* spot_add only: 16 live spots for each block after the first, and the new place and rank not among them */
     SPOT_FULL = 4,
-    /* spot_report, spot_report_many, spot_top and spot_top_within only: more spots than output length div 12; detail is their number */
+    /* spot_report, spot_report_many, spot_top, spot_top_within and spot_tour_report only: more spots than output length div 12; detail is their number */
     SPOT_OUTPUT = 5,
     /* spot_report_many only: more than 64 ranges; asked after 2 and before 3, detail 0 */
     SPOT_TOO_MANY_RANGES = 6,
-    /* spot_add and spot_withdraw only: the place is below SPOT_LOWEST_PLACE or above SPOT_HIGHEST_PLACE; asked after 2 and before 3, detail 0 */
+    /* spot_press only: more than SPOT_TOUR_SPOTS spots, the last is cut short, or place and rank don't strictly rise; asked after 2 and before 9 and 3, detail 0 */
+    SPOT_NOT_PRESSABLE = 7,
+    /* spot_add, spot_withdraw and spot_press only: a place is below SPOT_LOWEST_PLACE or above SPOT_HIGHEST_PLACE; asked after 2 and before 3, detail 0 */
     SPOT_PLACE_OUTSIDE = 9
 };
 
@@ -111,13 +125,14 @@ static inline uint32_t spot_detail(uint64_t answer) { return (uint32_t)(answer &
 static inline const char *spot_error_text(uint32_t number) {
     switch (number) {
     case SPOT_OK: return "accepted";
-    case SPOT_TABLE_LENGTH: return "the table is not 9 to 4,096 whole blocks of 2,048 bytes";
-    case SPOT_LENT_LENGTH: return "the read map isn't 512 bytes, the work area is shorter than the table, or there are not as many counts as ranges";
+    case SPOT_TABLE_LENGTH: return "the table is not 9 to 4,096 whole blocks of 2,048 bytes, or the tour is not 1 to 16";
+    case SPOT_LENT_LENGTH: return "the read map isn't 512 bytes, the work area is shorter than the table, there are not as many counts as ranges, or under 32,768 bytes are lent for a tour";
     case SPOT_BROKEN: return "block 0, or a block that was read, breaks a rule of the layout";
     case SPOT_FULL: return "the table is full, and has no spot of this place and rank";
     case SPOT_OUTPUT: return "there are more spots than the output has room for";
     case SPOT_TOO_MANY_RANGES: return "there are more than 64 ranges";
-    case SPOT_PLACE_OUTSIDE: return "the place does not lie from -1,000,000 to 1,000,000 cm";
+    case SPOT_NOT_PRESSABLE: return "there are more than 512 spots, the last is cut short, or they don't strictly rise by place, then rank";
+    case SPOT_PLACE_OUTSIDE: return "a place does not lie from -1,000,000 to 1,000,000 cm";
     default: return "no number of the spot table";
     }
 }
@@ -144,6 +159,16 @@ static inline struct spot spot_read(const uint8_t *bytes) {
     s.track = spot_read_u32(bytes + 8);
     return s;
 }
+
+/* Writes the spot to 12 bytes, as spot_press takes them. */
+static inline void spot_write(uint8_t *bytes, struct spot s) {
+    const uint32_t words[3] = {(uint32_t)s.place, (uint32_t)s.rank, s.track};
+    int i;
+    for (i = 0; i < SPOT_BYTES; i++) bytes[i] = (uint8_t)(words[i / 4] >> (24 - 8 * (i % 4)) & 0xffu);
+}
+
+/* The length of the tour that begins with these four bytes. */
+static inline size_t spot_tour_len(const uint8_t *tour) { return spot_read_u32(tour); }
 
 /* Whether a read map of 512 bytes marks the block: the bit of value 2^(block mod 8) in byte block div 8. No block from 4,096 on is marked. */
 static inline int spot_marked(const uint8_t *map, size_t block) {
@@ -195,6 +220,16 @@ uint64_t spot_withdraw(uint8_t *table, size_t table_len, uint8_t *work, size_t w
 
 /* Lays the live spots out anew: no change waits in the table then. */
 uint64_t spot_rebuild(uint8_t *table, size_t table_len, uint8_t *work, size_t work_len);
+
+/* Presses a tour, a read-only table for a show that is hung once: up to 512 spots, 12 bytes each as spot_report gives them, strictly rising in place order (by place, then by
+ * rank). At least SPOT_TOUR_BYTES are lent. The tour stands at their front: 1 block for no spots, else 2 for each 64 spots or part of them, 16 at most; its first four bytes are
+ * its length in bytes (spot_tour_len). The bytes behind it stay as they were. The same spots always give the same bytes. */
+uint64_t spot_press(const uint8_t *spots, size_t spots_len, uint8_t *tour, size_t tour_len);
+
+/* spot_report on a tour: the same spots in the same order, and the same for a range past the door. The slice is the tour and nothing behind it: tour_len is the length in its first
+ * four bytes. Bytes that spot_press didn't make are refused with 3, or answered with spots of the range from the blocks marked, of which there may be up to 960. */
+uint64_t spot_tour_report(const uint8_t *tour, size_t tour_len, int32_t x1, int32_t x2, int32_t y,
+                          uint8_t *output, size_t output_len, uint8_t *read_map, size_t read_map_len);
 
 #ifdef __cplusplus
 }

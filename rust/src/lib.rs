@@ -1,6 +1,7 @@
-//! Safe Rust over the proved spot table: up to 65,520 spots (a place, a rank, a track) in lent memory.
+//! Safe Rust over the proved spot table: up to 65,520 spots (a place, a rank, a track) in lent memory; and pressed tours, read-only tables of up
+//! to 512 spots.
 //!
-//! [`Table`] answers with `Result`; the ten functions of the crate ([`format`], [`add`], ...) give the library's own [`Answer`]. Every call ends on any bytes and
+//! [`Table`] and [`Tour`] answer with `Result`; the twelve functions of the crate ([`format`], [`add`], ...) give the library's own [`Answer`]. Every call ends on any bytes and
 //! arguments, touches only what it was lent, and allocates nothing; a refused call changes no byte but its work area (see [`Refusal`]). Places lie from [`LOWEST_PLACE`] to
 //! [`HIGHEST_PLACE`]; the ends of a range may be any numbers.
 //!
@@ -28,11 +29,13 @@ mod raw;
 mod refusal;
 mod spots;
 mod table;
+mod tour;
 
-pub use raw::{add, check, count, format, rebuild, report, report_many, top, top_within, withdraw, Answer};
+pub use raw::{add, check, count, format, press, rebuild, report, report_many, top, top_within, tour_report, withdraw, Answer};
 pub use refusal::Refusal;
 pub use spots::{marked, reports, spots, Blocks, Range, ReadMap, Reports, Spot, Spots, Within};
 pub use table::Table;
+pub use tour::{tour_len, Tour};
 
 /// Bytes of a block.
 pub const BLOCK: usize = 2048;
@@ -50,6 +53,12 @@ pub const MOST_RANGES: usize = 64;
 pub const LOWEST_PLACE: i32 = -1_000_000;
 /// The highest place of a spot, in centimetres. The difference of two places fits `i32`.
 pub const HIGHEST_PLACE: i32 = 1_000_000;
+/// Bytes that have to be lent to press a tour: its most blocks.
+pub const TOUR: usize = TOUR_BLOCKS * BLOCK;
+/// The most blocks of a tour.
+pub const TOUR_BLOCKS: usize = 16;
+/// The most spots of a tour.
+pub const TOUR_SPOTS: usize = 512;
 /// Bytes of stack that suffice for every call: the largest figure of `include/spot_table.h`, which `measure/stack` holds against the built archive.
 pub const STACK: usize = 245_760;
 

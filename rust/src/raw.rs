@@ -55,15 +55,27 @@ extern "C" {
     fn spot_add(table: *mut u8, len: usize, work: *mut u8, work_len: usize, place: i32, rank: i32, track: u32) -> u64;
     fn spot_withdraw(table: *mut u8, len: usize, work: *mut u8, work_len: usize, place: i32, rank: i32) -> u64;
     fn spot_rebuild(table: *mut u8, len: usize, work: *mut u8, work_len: usize) -> u64;
+    fn spot_press(spots: *const u8, spots_len: usize, tour: *mut u8, tour_len: usize) -> u64;
+    fn spot_tour_report(
+        tour: *const u8,
+        len: usize,
+        x1: i32,
+        x2: i32,
+        y: i32,
+        output: *mut u8,
+        output_len: usize,
+        read_map: *mut u8,
+        read_map_len: usize,
+    ) -> u64;
 }
 
-/// What a call answers: 0 with its detail, or one of the seven numbers of refusal.
+/// What a call answers: 0 with its detail, or one of the eight numbers of refusal.
 #[must_use = "the answer may be a refusal"]
 #[derive(Clone, Copy, Debug, PartialEq, Eq, Hash)]
 pub struct Answer {
     /// 0, or the number of the refusal.
     pub number: u32,
-    /// The number of spots for Report, Report of many ranges, Top, Top within an allowance and Count, 1 or 0 for Check, how many spots there are after refusal 5, else 0.
+    /// The number of spots for Report, Report of many ranges, Top, Top within an allowance, Report of a tour and Count, 1 or 0 for Check, how many spots there are after refusal 5, else 0.
     pub detail: u32,
 }
 
@@ -85,11 +97,11 @@ impl Answer {
     ///
     /// # Panics
     ///
-    /// Where the number is one that no call answers: 7, 8, or over 9.
+    /// Where the number is one that no call answers: 8, or over 9.
     pub fn result(self) -> Result<u32, Refusal> {
         match self.number {
             0 => Ok(self.detail),
-            number => Err(Refusal::new(number, self.detail).expect("a call answers 0 to 6, or 9")),
+            number => Err(Refusal::new(number, self.detail).expect("a call answers 0 to 7, or 9")),
         }
     }
 
@@ -225,4 +237,40 @@ pub fn withdraw(table: &mut [u8], work: &mut [u8], place: i32, rank: i32) -> Ans
 /// Lays the live spots out anew, with a work area of at least the table's length.
 pub fn rebuild(table: &mut [u8], work: &mut [u8]) -> Answer {
     Answer::unpack(unsafe { spot_rebuild(table.as_mut_ptr(), table.len(), work.as_mut_ptr(), work.len()) })
+}
+
+/// Presses a tour, a read-only table: up to 512 spots of 12 bytes ([`Spot::to_bytes`]), strictly rising by place, then by rank. At least [`TOUR`](crate::TOUR) bytes are lent; the tour
+/// stands at their front, as long as its first four bytes say ([`tour_len`](crate::tour_len)), and the bytes behind it stay as they were.
+///
+/// ```
+/// use spot_table::{press, tour_len, tour_report, Answer, Spot, TOUR};
+/// let spots = [Spot { place: 0, rank: 5, track: 1 }, Spot { place: 240, rank: 7, track: 2 }].map(Spot::to_bytes).concat();
+/// let mut lent = [0; TOUR];
+/// assert_eq!(press(&spots, &mut lent), Answer::new(0, 0));
+/// let tour = &lent[..tour_len(&lent)];
+/// assert_eq!(tour.len(), 2 * 2048);
+///
+/// let (mut output, mut map) = ([0; 24], [0; 512]);
+/// assert_eq!(tour_report(tour, 0, 240, 6, &mut output, &mut map), Answer::new(0, 1));
+/// assert_eq!(output[..12], spots[12..]);
+/// assert_eq!(map[0], 0b11);
+///
+/// assert_eq!(press(&spots[..23], &mut lent), Answer::new(7, 0));
+/// ```
+pub fn press(spots: &[u8], tour: &mut [u8]) -> Answer {
+    Answer::unpack(unsafe { spot_press(spots.as_ptr(), spots.len(), tour.as_mut_ptr(), tour.len()) })
+}
+
+/// [`report`] on a pressed tour, which is lent exactly, without the bytes behind it. The read map marks the blocks read: the catalogue, and at most 3 + 2 · (spots div 64) others,
+/// for a range past the door 4 + 2 · (spots div 64).
+///
+/// ```
+/// use spot_table::{tour_report, Answer};
+/// let (mut output, mut map) = ([0; 24], [0; 512]);
+/// assert_eq!(tour_report(&[0; 17 * 2048], 0, 240, 6, &mut output, &mut map), Answer::new(1, 0));
+/// assert_eq!(tour_report(&[0; 2048], 0, 240, 6, &mut output, &mut map), Answer::new(3, 0));
+/// ```
+pub fn tour_report(tour: &[u8], x1: i32, x2: i32, y: i32, output: &mut [u8], read_map: &mut [u8]) -> Answer {
+    let (t, n) = (tour.as_ptr(), tour.len());
+    Answer::unpack(unsafe { spot_tour_report(t, n, x1, x2, y, output.as_mut_ptr(), output.len(), read_map.as_mut_ptr(), read_map.len()) })
 }

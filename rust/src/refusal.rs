@@ -3,27 +3,31 @@ use core::fmt;
 /// Why a call was turned down. Every lent byte is as it was, but for a work area after [`Broken`](Refusal::Broken): its first table-length bytes are zero then.
 #[derive(Clone, Copy, Debug, PartialEq, Eq, Hash)]
 pub enum Refusal {
-    /// 1: the table is not a whole number of blocks, or has under 9 or over 4,096.
+    /// 1: the table is not a whole number of blocks, or has under 9 or over 4,096; or the tour is not 1 to 16 whole blocks.
     TableLength,
-    /// 2: the read map isn't 512 bytes, the work area is shorter than the table, or there are not as many counts as ranges.
+    /// 2: the read map isn't 512 bytes, the work area is shorter than the table, there are not as many counts as ranges, or a tour is to be pressed into under
+    /// [`TOUR`](crate::TOUR) bytes.
     LentLength,
-    /// 3: block 0, or a node block that was read, breaks a rule that it and the entry leading to it can show; never on a sound table.
+    /// 3: block 0, or a node block that was read, breaks a rule that it and the entry leading to it can show; never on a sound table. Of a tour: the catalogue, or a
+    /// block that was read, breaks the layout; never on a pressed one.
     Broken,
     /// 4: Add only. The table has as many live spots as it holds, and none of this place and rank.
     Full,
-    /// 5: Report, Report of many ranges, Top and Top within an allowance only. There are more spots than the output has room for.
+    /// 5: Report, Report of many ranges, Top, Top within an allowance and Report of a tour only. There are more spots than the output has room for.
     Output {
         /// How many there are; 12 bytes are needed for each.
         spots: u32,
     },
     /// 6: Report of many ranges only. There are more than 64 ranges. This is asked after 2 and before 3.
     TooManyRanges,
-    /// 9: Add and Withdraw only. The place doesn't lie from [`LOWEST_PLACE`](crate::LOWEST_PLACE) to [`HIGHEST_PLACE`](crate::HIGHEST_PLACE). This is asked after 2 and before 3.
+    /// 7: pressing a tour only. There are more than 512 spots, the last is cut short, or they don't strictly rise by place, then by rank. This is asked after 2 and before 9 and 3.
+    NotPressable,
+    /// 9: Add, Withdraw and pressing a tour only. A place doesn't lie from [`LOWEST_PLACE`](crate::LOWEST_PLACE) to [`HIGHEST_PLACE`](crate::HIGHEST_PLACE). This is asked after 2 and before 3.
     PlaceOutside,
 }
 
 impl Refusal {
-    /// The refusal of this number and detail; none for a number that is not 1 to 6 or 9.
+    /// The refusal of this number and detail; none for a number that is not 1 to 7 or 9.
     pub const fn new(number: u32, detail: u32) -> Option<Refusal> {
         match number {
             1 => Some(Refusal::TableLength),
@@ -32,12 +36,13 @@ impl Refusal {
             4 => Some(Refusal::Full),
             5 => Some(Refusal::Output { spots: detail }),
             6 => Some(Refusal::TooManyRanges),
+            7 => Some(Refusal::NotPressable),
             9 => Some(Refusal::PlaceOutside),
             _ => None,
         }
     }
 
-    /// The papers' number, 1 to 6 or 9.
+    /// The papers' number, 1 to 7 or 9.
     pub const fn number(self) -> u32 {
         match self {
             Refusal::TableLength => 1,
@@ -46,6 +51,7 @@ impl Refusal {
             Refusal::Full => 4,
             Refusal::Output { .. } => 5,
             Refusal::TooManyRanges => 6,
+            Refusal::NotPressable => 7,
             Refusal::PlaceOutside => 9,
         }
     }
@@ -62,15 +68,18 @@ impl Refusal {
 impl fmt::Display for Refusal {
     fn fmt(&self, f: &mut fmt::Formatter<'_>) -> fmt::Result {
         match self {
-            Refusal::TableLength => f.write_str("the table is not 9 to 4,096 whole blocks of 2,048 bytes"),
+            Refusal::TableLength => f.write_str("the table is not 9 to 4,096 whole blocks of 2,048 bytes, or the tour is not 1 to 16"),
             Refusal::LentLength => f.write_str(
-                "the read map isn't 512 bytes, the work area is shorter than the table, or there are not as many counts as ranges",
+                "the read map isn't 512 bytes, the work area is shorter than the table, there are not as many counts as ranges, or under 32,768 bytes are lent for a tour",
             ),
             Refusal::Broken => f.write_str("block 0, or a block that was read, breaks a rule of the layout"),
             Refusal::Full => f.write_str("the table is full, and has no spot of this place and rank"),
             Refusal::Output { spots } => write!(f, "there are {spots} spots, more than the output has room for"),
             Refusal::TooManyRanges => f.write_str("there are more than 64 ranges"),
-            Refusal::PlaceOutside => f.write_str("the place does not lie from -1,000,000 to 1,000,000 cm"),
+            Refusal::NotPressable => {
+                f.write_str("there are more than 512 spots, the last is cut short, or they don't strictly rise by place, then rank")
+            }
+            Refusal::PlaceOutside => f.write_str("a place does not lie from -1,000,000 to 1,000,000 cm"),
         }
     }
 }

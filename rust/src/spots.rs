@@ -24,6 +24,21 @@ impl Spot {
         let word = |i: usize| [bytes[i], bytes[i + 1], bytes[i + 2], bytes[i + 3]];
         Spot { place: i32::from_be_bytes(word(0)), rank: i32::from_be_bytes(word(4)), track: u32::from_be_bytes(word(8)) }
     }
+
+    /// The 12 bytes from which `read` gives this spot.
+    ///
+    /// ```
+    /// let spot = spot_table::Spot { place: 240, rank: -1, track: 2 };
+    /// assert_eq!(spot.to_bytes(), [0, 0, 0, 240, 255, 255, 255, 255, 0, 0, 0, 2]);
+    /// assert_eq!(spot_table::Spot::read(&spot.to_bytes()), spot);
+    /// ```
+    pub fn to_bytes(self) -> [u8; SPOT] {
+        let mut bytes = [0; SPOT];
+        for (part, word) in bytes.chunks_exact_mut(4).zip([self.place as u32, self.rank as u32, self.track]) {
+            part.copy_from_slice(&word.to_be_bytes());
+        }
+        bytes
+    }
 }
 
 /// The places from x1 to x2, or, if x1 is greater, on past the door, and the lowest rank. The ends may be any numbers.

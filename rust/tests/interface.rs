@@ -4,14 +4,14 @@ use spot_table::*;
 
 #[test]
 fn refusals() {
-    for number in [1, 2, 3, 4, 5, 6, 9] {
+    for number in [1, 2, 3, 4, 5, 6, 7, 9] {
         let r = Refusal::new(number, 7).unwrap();
         assert_eq!((r.number(), r.detail()), (number, if number == 5 { 7 } else { 0 }));
         assert_eq!(Answer::new(number, 7).result(), Err(r));
         let e: &dyn std::error::Error = &r;
         assert!(!e.to_string().is_empty());
     }
-    assert_eq!([0, 7, 8, 10, u32::MAX].map(|number| Refusal::new(number, 0)), [None; 5]);
+    assert_eq!([0, 8, 10, u32::MAX].map(|number| Refusal::new(number, 0)), [None; 4]);
     assert_eq!(Answer::new(0, 9).result(), Ok(9));
     assert_eq!(Table::format(vec![0; 8 * BLOCK]).unwrap_err(), Refusal::TableLength);
     let mut table = Table::format(vec![0; 9 * BLOCK]).unwrap();
@@ -109,12 +109,16 @@ fn header() {
         ("BYTES", SPOT),
         ("MAP_BYTES", MAP),
         ("MOST_RANGES", MOST_RANGES),
+        ("TOUR_BYTES", TOUR),
+        ("TOUR_BLOCKS", TOUR_BLOCKS),
+        ("TOUR_SPOTS", TOUR_SPOTS),
     ] {
         has(&std::format!("#define SPOT_{name} {value}\n"));
     }
     has(&std::format!("#define SPOT_LOWEST_PLACE ({LOWEST_PLACE})\n#define SPOT_HIGHEST_PLACE {HIGHEST_PLACE}\n"));
+    has(&std::format!("SPOT_NOT_PRESSABLE = {},\n", Refusal::NotPressable.number()));
     has(&std::format!("SPOT_PLACE_OUTSIDE = {}\n", Refusal::PlaceOutside.number()));
-    for number in [1, 2, 3, 4, 6, 9] {
+    for number in [1, 2, 3, 4, 6, 7, 9] {
         has(&std::format!("return \"{}\";", Refusal::new(number, 0).unwrap()));
     }
 }
@@ -139,6 +143,10 @@ fn stack() {
         assert_eq!(table.top_within(1, 0, u32::MAX, u32::MAX, &mut output, &mut map).unwrap().spots.len(), 2999);
         let (ranges, mut counts, mut output) = ([Range { x1: 1, x2: 0, y: i32::MIN }; 64], [0; 64], vec![0; 64 * 2999 * SPOT]);
         assert_eq!(table.report_many(&ranges, &mut counts, &mut output, &mut map).unwrap().all().len(), 64 * 2999);
+        let spots: Vec<Spot> = (0..512).map(|i| Spot { place: i, rank: 37 * i % 512, track: 0 }).collect();
+        let mut lent = vec![0; TOUR];
+        let tour = Tour::press(&spots, &mut lent).unwrap();
+        assert_eq!(tour.report(1, 0, i32::MIN, &mut output, &mut map).unwrap().len(), 512);
     };
     std::thread::Builder::new().stack_size(STACK + 16384).spawn(run).unwrap().join().unwrap();
 }

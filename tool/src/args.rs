@@ -22,6 +22,7 @@ The spots usually stand in a spreadsheet with columns named place, rank and trac
   spotcard report show.card 0 2400 5       what is heard from 0 to 2400 cm with rank 5 or more
   spotcard picture show.card -o show.svg   a picture to look at
   spotcard check show.card                 whether the card is sound
+  spotcard press sheet.csv -o show.tour    a small card that is never changed, of up to 512 spots
 
 A card is changed as one: whatever happens in between, the file is the old card or the new one. Beside it stand show.card.sha256, by which \
 `check` finds changes that spotcard did not make, and show.card.lock, which keeps two people from changing it at once.";
@@ -41,6 +42,11 @@ Examples:
   spotcard report show.card 9000 300 5     from 90 metres on, past the door, to 3 metres
   spotcard report show.card 0 800 5 800 1600 3 2000 2400 5
                                            three ranges, each with its own lowest rank";
+
+const PRESS_EXAMPLES: &str = "\
+Examples:
+  spotcard press sheet.csv -o show.tour
+  spotcard report show.tour 0 2400 5       the first 24 metres of the tour, rank 5 or more";
 
 const TOP_EXAMPLES: &str = "\
 Examples:
@@ -156,7 +162,7 @@ pub enum Command {
     /// spot that lies in several of them is shown with each.
     #[command(after_help = REPORT_EXAMPLES)]
     Report {
-        /// The card
+        /// The card, or a pressed tour
         card: PathBuf,
         #[command(flatten)]
         wanted: Wanted,
@@ -189,10 +195,30 @@ pub enum Command {
         #[command(flatten)]
         shape: Shape,
     },
-    /// Show how large and how full a card is
+    /// Press the rows of a sheet into a tour: a small card that is never changed
+    ///
+    /// A tour is for a show that is hung once: up to 512 spots in a file of 1 to 16 blocks of 2,048 bytes. `report` and `info` read it as they read a card. When the show changes,
+    /// the changed sheet is pressed anew.
+    ///
+    /// The sheet is judged as `import` judges it, and its rows may stand in any order. If one is wrong, or there are more than 512, nothing is written.
+    #[command(after_help = PRESS_EXAMPLES)]
+    Press {
+        /// The sheet, a CSV file
+        #[arg(value_name = "SHEET.csv")]
+        sheet: PathBuf,
+        /// The file of the tour
+        #[arg(short, long, value_name = "TOUR")]
+        output: PathBuf,
+        /// Replace an existing file; all that is on it goes
+        #[arg(long)]
+        force: bool,
+        #[command(flatten)]
+        wait: Wait,
+    },
+    /// Show how large and how full a card or a pressed tour is
     #[command(after_help = "Example: spotcard info show.card")]
     Info {
-        /// The card
+        /// The card, or a pressed tour
         card: PathBuf,
     },
     /// Say whether a card is sound, and if not, why
@@ -290,7 +316,7 @@ pub struct Shape {
     /// As CSV: place, rank, track
     #[arg(long)]
     pub csv: bool,
-    /// Name the blocks of the card that were read
+    /// Name the blocks of the file that were read
     #[arg(long)]
     pub blocks: bool,
 }

@@ -1,9 +1,10 @@
-//! The card file: read whole, changed in memory, replaced as one. A crash leaves the old card or the new one.
+//! The card file: read whole, changed in memory, replaced as one. A crash leaves the old card or the new one. A pressed tour is read and written in the same way.
 
 use crate::digest::{self, Digest};
 use crate::output::permissions;
 use crate::problem::{self, file, refused};
-use crate::store::{is_length, Table};
+use crate::spot::Spot;
+use crate::store::{is_length, is_tour, is_tour_length, Found, Refusal, Table, Tour};
 use crate::{lock, words};
 use anyhow::{Context, Result};
 use std::ffi::OsString;
@@ -23,6 +24,43 @@ pub struct Card {
     pub digest: Digest,
 }
 
+/// A pressed tour in memory.
+pub struct Pressed {
+    pub name: String,
+    pub tour: Tour,
+    pub digest: Digest,
+}
+
+/// What a file can hold.
+pub enum Held {
+    Card(Card),
+    Tour(Pressed),
+}
+
+/// What both answer; see `Table`.
+impl Held {
+    pub fn blocks(&self) -> usize {
+        match self {
+            Held::Card(card) => card.table.blocks(),
+            Held::Tour(pressed) => pressed.tour.blocks(),
+        }
+    }
+
+    pub fn report(&self, x1: i32, x2: i32, y: i32) -> Result<Found, Refusal> {
+        match self {
+            Held::Card(card) => card.table.report(x1, x2, y),
+            Held::Tour(pressed) => pressed.tour.report(x1, x2, y),
+        }
+    }
+
+    pub fn report_many(&self, ranges: &[(i32, i32, i32)]) -> Result<(Vec<Vec<Spot>>, Vec<usize>), Refusal> {
+        match self {
+            Held::Card(card) => card.table.report_many(ranges),
+            Held::Tour(pressed) => pressed.tour.report_many(ranges),
+        }
+    }
+}
+
 /// Reads a card. No lock is needed: the file is replaced as one, never written into.
 pub fn read(path: &Path) -> Result<Card> {
     read_named(path.display().to_string(), &existing(path)?)
@@ -33,10 +71,34 @@ pub fn read_sound(path: &Path) -> Result<Card> {
     sound(read(path)?)
 }
 
+/// A sound card, or a tour as pressing makes it.
+pub fn read_any_sound(path: &Path) -> Result<Held> {
+    match held(path.display().to_string(), &existing(path)?)? {
+        Held::Card(card) => Ok(Held::Card(sound(card)?)),
+        Held::Tour(pressed) if pressed.tour.is_sound() => Ok(Held::Tour(pressed)),
+        Held::Tour(Pressed { name, .. }) => Err(refused(format!(
+            "{name} is a damaged tour: pressing its spots would give other bytes. Nothing was done. Go back to a copy of the tour, or press it again from the sheet."
+        ))),
+    }
+}
+
 fn read_named(name: String, real: &Path) -> Result<Card> {
+    match held(name, real)? {
+        Held::Card(card) => Ok(card),
+        Held::Tour(Pressed { name, .. }) => Err(refused(format!(
+            "{name} is a pressed tour, not a card. Nothing was done. A tour is never changed: `spotcard report` and `spotcard info` read it, and `spotcard press SHEET.csv \
+            -o {name} --force` makes it anew from a sheet."
+        ))),
+    }
+}
+
+fn held(name: String, real: &Path) -> Result<Held> {
     let (bytes, digest) = read_with_digest(&name, real)?;
+    if is_tour(&bytes) {
+        return Ok(Held::Tour(Pressed { name, tour: Tour::of(bytes), digest }));
+    }
     let table = Table::of(bytes).map_err(|e| refused(format!("{name} is not a card: {e}.")))?;
-    Ok(Card { name, table, digest })
+    Ok(Held::Card(Card { name, table, digest }))
 }
 
 fn sound(card: Card) -> Result<Card> {
@@ -79,17 +141,20 @@ fn read_with_digest(name: &str, real: &Path) -> Result<(Vec<u8>, Digest)> {
     }
 }
 
-/// The bytes of a file that can be a card by its length.
+/// The bytes of a file that can be a card by its length, or a tour.
 fn read_limited(name: &str, real: &Path) -> Result<Vec<u8>> {
     let length = fs::metadata(real)?.len();
-    if !is_length(length) {
-        let length = words::number(length as i128);
-        return Err(refused(format!(
-            "{name} is not a card: it has {length} bytes, and a card is 9 to 4,096 whole blocks of 2,048 \
-        bytes."
-        )));
+    if is_length(length) || is_tour_length(length) {
+        let bytes = fs::read(real).with_context(|| format!("{name} can't be read"))?;
+        if is_length(length) || is_tour(&bytes) {
+            return Ok(bytes);
+        }
     }
-    fs::read(real).with_context(|| format!("{name} can't be read"))
+    let length = words::number(length as i128);
+    Err(refused(format!(
+        "{name} is not a card: it has {length} bytes, and a card is 9 to 4,096 whole blocks of 2,048 \
+        bytes."
+    )))
 }
 
 /// `show.card` and `.lock` as `show.card.lock`.
@@ -124,12 +189,29 @@ fn writable(path: &Path, real: &Path) -> Result<()> {
 }
 
 /// The same for a card that need not exist yet.
-pub fn lock_any(path: &Path, wait: Duration) -> Result<Writer> {
+fn lock_any(path: &Path, wait: Duration) -> Result<Writer> {
     let name = path.display().to_string();
     let real = real_path(path).with_context(|| format!("{name} can't be made"))?;
     writable(path, &real)?;
     let lock = lock::wait_for(&name, &beside(&real, ".lock"), wait)?;
     Ok(Writer { name, real, _lock: lock })
+}
+
+/// The same for a file that is to be made, or, where that is allowed, replaced; `instead` says what it would become.
+pub fn lock_new(path: &Path, force: bool, instead: &str, wait: Duration) -> Result<Writer> {
+    let name = path.display();
+    let exists = || refused(format!("{name} exists already, and is left as it is. Choose another name, or say --force to {instead}."));
+    match fs::metadata(path) {
+        Ok(about) if about.is_dir() => return Err(file(format!("{name} is a folder."))),
+        Ok(about) if !about.is_file() => return Err(file(format!("{name} is not a file."))),
+        Ok(_) if !force => return Err(exists()),
+        _ => {}
+    }
+    let writer = lock_any(path, wait)?;
+    if !force && writer.real.exists() {
+        return Err(exists());
+    }
+    Ok(writer)
 }
 
 pub fn real_path(path: &Path) -> io::Result<PathBuf> {
@@ -148,10 +230,6 @@ pub fn folder(path: &Path) -> &Path {
 }
 
 impl Writer {
-    pub fn exists(&self) -> bool {
-        self.real.exists()
-    }
-
     /// The card that is to be changed: sound, and as spotcard left it.
     pub fn read(&self) -> Result<Card> {
         let card = sound(read_named(self.name.clone(), &self.real)?)?;
@@ -189,8 +267,8 @@ impl Writer {
         if let Some(digests) = digest::read(&beside(&self.real, ".sha256"))? {
             return Ok(digests);
         }
-        let is_card = fs::metadata(&self.real).is_ok_and(|about| is_length(about.len()));
-        let old = is_card.then(|| fs::read(&self.real).ok()).flatten();
+        let is_ours = fs::metadata(&self.real).is_ok_and(|about| is_length(about.len()) || is_tour_length(about.len()));
+        let old = is_ours.then(|| fs::read(&self.real).ok()).flatten();
         Ok(old.map(|bytes| digest::of(&bytes)).into_iter().collect())
     }
 

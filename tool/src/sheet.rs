@@ -2,7 +2,7 @@
 
 use crate::problem::{refused, Problem};
 use crate::spot::{Key, Spot};
-use crate::store::{is_length, HIGHEST_PLACE, LOWEST_PLACE};
+use crate::store::{is_length, is_tour, HIGHEST_PLACE, LOWEST_PLACE};
 use crate::words;
 use anyhow::{Context, Result};
 use csv::{ByteRecord, ReaderBuilder, Terminator};
@@ -72,8 +72,11 @@ fn text_of(bytes: &[u8]) -> Result<&[u8], String> {
     const SAVE: &str = "In the spreadsheet, save it as CSV (UTF-8, comma between columns).";
     let text = bytes.strip_prefix(b"\xEF\xBB\xBF").unwrap_or(bytes);
     let is_only_cr = !text.contains(&b'\n') && text.contains(&b'\r');
+    if is_tour(bytes) {
+        return Err("is a pressed tour, not a sheet. `spotcard report` and `spotcard info` read it.".into());
+    }
     if is_card(bytes) {
-        return Err("is a card, not a sheet. The order is: import SHEET.csv CARD, but diff CARD SHEET.csv.".into());
+        return Err("is a card, not a sheet. The order is: import SHEET.csv CARD, but diff CARD SHEET.csv. `spotcard export CARD` makes a sheet of a card.".into());
     }
     let what = if bytes.starts_with(b"PK\x03\x04") || bytes.starts_with(b"\xD0\xCF\x11\xE0") {
         "is a spreadsheet file, not CSV."

@@ -1,8 +1,9 @@
-//! The proved calls, over a table in memory. No other module knows the library.
+//! The proved calls, over a table or a pressed tour in memory. No other module knows the library.
 
 use crate::spot::{Key, Spot};
-use spot_table::{Answer, Range, MAP, MOST_RANGES, SPOT};
-pub use spot_table::{BLOCK, HIGHEST_PLACE, LOWEST_PLACE};
+use spot_table::{Answer, Range, MAP, MOST_RANGES, SPOT, TOUR, TOUR_BLOCKS};
+pub use spot_table::{BLOCK, HIGHEST_PLACE, LOWEST_PLACE, TOUR_SPOTS};
+use std::collections::BTreeSet;
 
 pub const LEAST_BLOCKS: usize = 9;
 pub const MOST_BLOCKS: usize = 4096;
@@ -27,6 +28,8 @@ pub enum Refusal {
     Room,
     #[error("at most 64 ranges can be asked for at once")]
     Ranges,
+    #[error("a tour takes up to 512 spots in place order; this is a mistake in spotcard, please report it")]
+    NotPressable,
     #[error("a place has to lie from {LOWEST_PLACE} to {HIGHEST_PLACE} cm")]
     Place,
 }
@@ -40,6 +43,7 @@ fn accepted(answer: Answer) -> Result<usize, Refusal> {
         4 => Err(Refusal::Full),
         5 => Err(Refusal::Room),
         6 => Err(Refusal::Ranges),
+        7 => Err(Refusal::NotPressable),
         _ => Err(Refusal::Place),
     }
 }
@@ -159,14 +163,93 @@ impl Table {
 
     /// A call that gives no spot more often than so many times.
     fn ask(&self, times: usize, call: impl FnOnce(&[u8], &mut [u8], &mut [u8]) -> Answer) -> Result<Found, Refusal> {
-        let mut out = vec![0; SPOT * self.capacity() * times];
-        let mut map = vec![0; MAP];
-        let n = accepted(call(&self.bytes, &mut out, &mut map))?;
-        let spots = out.chunks_exact(SPOT).take(n).map(read_spot).collect();
-        let is_marked = |b: &usize| map[b / 8] >> (b % 8) & 1 == 1;
-        let blocks = (0..self.blocks()).filter(is_marked).collect();
-        Ok(Found { spots, blocks })
+        ask(&self.bytes, self.capacity() * times, call)
     }
+}
+
+/// Whether a file of this length can be a pressed tour.
+pub fn is_tour_length(bytes: u64) -> bool {
+    let block = BLOCK as u64;
+    bytes.is_multiple_of(block) && (1..=TOUR_BLOCKS as u64).contains(&(bytes / block))
+}
+
+/// Whether these bytes begin as a pressed tour does. A card begins in the same way, with its length and its version, but its levels and its root, which come next, are never zero.
+pub fn is_tour(bytes: &[u8]) -> bool {
+    is_tour_length(bytes.len() as u64) && bytes[4..8] == [1, 0, 0, 0]
+}
+
+/// A pressed tour in memory.
+#[derive(Debug)]
+pub struct Tour {
+    bytes: Vec<u8>,
+}
+
+impl Tour {
+    /// The tour of these spots, which may come in any order.
+    pub fn press(spots: &[Spot]) -> Result<Tour, Refusal> {
+        let mut sorted = spots.to_vec();
+        sorted.sort_unstable();
+        let write = |s: &Spot| spot_table::Spot { place: s.place, rank: s.rank, track: s.track }.to_bytes();
+        let given: Vec<u8> = sorted.iter().flat_map(write).collect();
+        let mut bytes = vec![0; TOUR];
+        accepted(spot_table::press(&given, &mut bytes))?;
+        bytes.truncate(spot_table::tour_len(&bytes));
+        Ok(Tour { bytes })
+    }
+
+    /// A tour of these bytes, whatever they hold.
+    pub fn of(bytes: Vec<u8>) -> Tour {
+        Tour { bytes }
+    }
+
+    pub fn bytes(&self) -> &[u8] {
+        &self.bytes
+    }
+
+    pub fn blocks(&self) -> usize {
+        self.bytes.len() / BLOCK
+    }
+
+    /// Whether its own spots, pressed again, give these very bytes.
+    pub fn is_sound(&self) -> bool {
+        let again = self.all().and_then(|spots| Tour::press(&spots));
+        again.is_ok_and(|tour| tour.bytes == self.bytes)
+    }
+
+    /// As of a table.
+    pub fn report(&self, x1: i32, x2: i32, y: i32) -> Result<Found, Refusal> {
+        ask(&self.bytes, TOUR_SPOTS, |tour, out, map| spot_table::tour_report(tour, x1, x2, y, out, map))
+    }
+
+    /// As of a table: here one report after the other.
+    pub fn report_many(&self, ranges: &[(i32, i32, i32)]) -> Result<(Vec<Vec<Spot>>, Vec<usize>), Refusal> {
+        if ranges.len() > MOST_RANGES {
+            return Err(Refusal::Ranges);
+        }
+        let (mut each, mut blocks) = (vec![], BTreeSet::new());
+        for (x1, x2, y) in ranges {
+            let found = self.report(*x1, *x2, *y)?;
+            each.push(found.spots);
+            blocks.extend(found.blocks);
+        }
+        Ok((each, blocks.into_iter().collect()))
+    }
+
+    /// All its spots, rising in place order.
+    pub fn all(&self) -> Result<Vec<Spot>, Refusal> {
+        Ok(self.report(i32::MIN, i32::MAX, i32::MIN)?.spots)
+    }
+}
+
+/// What a call gives of the spots, at most so many, in these bytes.
+fn ask(bytes: &[u8], most: usize, call: impl FnOnce(&[u8], &mut [u8], &mut [u8]) -> Answer) -> Result<Found, Refusal> {
+    let mut out = vec![0; SPOT * most];
+    let mut map = vec![0; MAP];
+    let n = accepted(call(bytes, &mut out, &mut map))?;
+    let spots = out.chunks_exact(SPOT).take(n).map(read_spot).collect();
+    let is_marked = |b: &usize| map[b / 8] >> (b % 8) & 1 == 1;
+    let blocks = (0..bytes.len() / BLOCK).filter(is_marked).collect();
+    Ok(Found { spots, blocks })
 }
 
 fn read_spot(bytes: &[u8]) -> Spot {

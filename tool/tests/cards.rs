@@ -391,7 +391,7 @@ fn wrong_command_lines_end_with_2() {
     f.run(&["add", "a.card", "1", "x", "3"]).exit(2).complains("not a whole number from -2147483648 to 2147483647");
     assert_eq!(fs::read_dir(f.dir.path()).unwrap().count(), 0);
     f.run(&["--help"]).exit(0).says("spotcard new show.card");
-    for command in ["new", "import", "export", "diff", "add", "withdraw", "report", "top", "info", "check", "rebuild", "picture"] {
+    for command in ["new", "import", "export", "diff", "add", "withdraw", "report", "top", "info", "check", "rebuild", "press", "picture"] {
         f.run(&[command, "--help"]).exit(0).says("Usage: spotcard");
     }
 }

@@ -211,7 +211,7 @@ pub fn entry_at(s: &[u8], i: usize) -> Entry
 // ---- validating a node
 
 // All bytes from at on are zero.
-fn zeros(s: &[u8], at: usize) -> bool
+pub fn zeros(s: &[u8], at: usize) -> bool
     requires { ⌜ at ≤ length (now s) ⌝ }
     ensures { λ r. ⌜ r ≡ every isZero (drop at (now (s .entry))) ⌝ }
 {

@@ -3,6 +3,8 @@ ghost use mathlib.Core.Path.{_≡_};
 ghost use Prim.Native.Nat.{_+_, _*_};
 ghost use Rattle.table.specs.Queries.{ReportPost, ManyPost, TopPost, TopWithinPost, CountPost, CheckPost};
 ghost use Rattle.table.specs.Updates.{FormatPost, AddPost, WithdrawPost, RebuildPost};
+ghost use Rattle.press.specs.Press.{PressPost};
+ghost use Rattle.tour.specs.Tour.{TourPost};
 ghost use Rattle.cabi.specs.Packed.{Packed};
 
 fn pack(a: block::Answer) -> u64
@@ -114,4 +116,25 @@ pub extern "C" fn spot_top_within(
     ensures { λ r. ⌜ Packed r (λ a. TopWithinPost x1 x2 k allowance (now (table .entry)) (now (output .entry)) (now («read_map» .entry)) a (now (output .exit)) (now («read_map» .exit)) (now (ceiling .exit))) ⌝ }
 {
     pack(within::top_within(table, x1, x2, k, allowance, output, read_map, ceiling))
+}
+
+#[no_mangle]
+pub extern "C" fn spot_press(spots: &[u8], tour: &mut [u8]) -> u64
+    ensures { λ r. ⌜ Packed r (λ a. PressPost (now (spots .entry)) (now (tour .entry)) a (now (tour .exit))) ⌝ }
+{
+    pack(press::press(spots, tour))
+}
+
+#[no_mangle]
+pub extern "C" fn spot_tour_report(
+    tour: &[u8],
+    x1: i32,
+    x2: i32,
+    y: i32,
+    output: &mut [u8],
+    read_map: &mut [u8],
+) -> u64
+    ensures { λ r. ⌜ Packed r (λ a. TourPost x1 x2 y (now (tour .entry)) (now (output .entry)) (now («read_map» .entry)) a (now (output .exit)) (now («read_map» .exit))) ⌝ }
+{
+    pack(tour::tour_report(tour, x1, x2, y, output, read_map))
 }

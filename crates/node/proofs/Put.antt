@@ -5,45 +5,23 @@ use mathlib.Core.Bool.{Bool, true, false}
 use mathlib.Core.List.{List, [], _∷_, _++_, append-assoc, append-nil}
 use Prim.Native.Nat.{ℕ, zero, suc, _+_, _-_, _*_, _≤_, _<_}
 use native.Mathlib.Nat.{le-of-suc-le-suc, not-suc-le-zero}
-use native.Mathlib.Numerals.{add-one}
 use native.Mathlib.Omega.{arith}
 use lib.Dec.{eqb, eqb·suc-zero}
 use lib.ListN.{length, take, drop, replicate, getD, length-append}
-use lib.Seq.{take-suc, take-take, split-at, getD-take, length-take-le, drop-length}
+use lib.Seq.{take-take, split-at, getD-take, length-take-le, drop-length}
 use borrow.Rule.Slice.PartMut.{midOf, putMid, post-is, mid-len}
 use Rattle.octets.specs.Bytes.{bytesOf, putBe, putBytes}
-use Rattle.octets.proofs.Parts.{bytes-length, bytes-behind}
-use Rattle.octets.proofs.Bytes.{put-eq, length-bytesOf}
-use Rattle.octets.proofs.Codec.{coded-append, length-coded}
+use Rattle.octets.proofs.Parts.{bytes-behind, number-bytes, number-behind}
+use Rattle.octets.proofs.Codec.{coded-append, length-coded, record-behind}
 use Rattle.octets.proofs.Lists.{over-all}
 use Rattle.spot.specs.Spots.{keyBytes, spotBytes, spotsBytes, putKey, putSpot}
 use Rattle.spot.specs.declared.Spot.{Spot}
-use Rattle.spot.proofs.Card.{putKey-eq, putSpot-eq, length-keyBytes, length-spotBytes}
+use Rattle.spot.proofs.Card.{length-keyBytes, length-spotBytes}
+use Rattle.spot.proofs.PutBytes.{key-bytes, spot-bytes}
 use Rattle.buffer.specs.Buffer.{blank}
 use Rattle.block.specs.declared.Entry.{Entry}
 use Rattle.block.specs.declared.Front.{Front}
 use Rattle.node.specs.Bytes.{frontBytes, bytesUnless, entryBytes, laterBytes, entriesBytes, keysBytes}
-
--- ---- one part behind the other
-
-number-bytes : (n : ℕ) (s : List ℕ) (i v : ℕ) → i + n ≤ length s → putBe n s i v ≡ putBytes s i (bytesOf n v)
-unfolding putBytes
-number-bytes n s i v h = put-eq n s i v h ∙ ap (λ (k : ℕ). take i s ++ bytesOf n v ++ drop (i + k) s) (sym (length-bytesOf n v))
-
-pub key-bytes : (s : List ℕ) (i k : ℕ) → i + 8 ≤ length s → putKey s i k ≡ putBytes s i (keyBytes k)
-unfolding putBytes
-key-bytes s i k h = putKey-eq s i k h ∙ ap (λ (m : ℕ). take i s ++ keyBytes k ++ drop (i + m) s) (sym (length-keyBytes k))
-
-spot-bytes : (s : List ℕ) (i : ℕ) (x : Spot) → i + 12 ≤ length s → putSpot s i x ≡ putBytes s i (spotBytes x)
-unfolding putBytes
-spot-bytes s i x h = putSpot-eq s i x h ∙ ap (λ (m : ℕ). take i s ++ spotBytes x ++ drop (i + m) s) (sym (length-spotBytes x))
-
--- a number behind a
-number-behind : (n : ℕ) (s a : List ℕ) {t u : List ℕ} (i j v : ℕ) → i + length a ≡ j → j + n ≤ length s → t ≡ putBytes s i a → u ≡ putBe n t j v
-    → u ≡ putBytes s i (a ++ bytesOf n v)
-number-behind n s a {t} i j v e h p q =
-    let l : length t ≡ length s = ap length p ∙ bytes-length s a i (omega arith) in
-    bytes-behind s a (bytesOf n v) i j e (omega arith) p (q ∙ number-bytes n t j v (omega arith))
 
 -- ---- the front
 
@@ -102,17 +80,13 @@ module _ {A : Type 0} (E : List A → List ℕ) (enc : A → List ℕ) (w : ℕ)
       ap E (split-at l i d h) ∙ coded-append E enc w nil cons (take i l) (getD l i d ∷ drop (suc i) l)
       ∙ ap (λ (z : List ℕ). E (take i l) ++ z) (cons (getD l i d) (drop (suc i) l))
 
-  coded-more : (l : List A) (i : ℕ) (d : A) → i < length l → E (take (i + 1) l) ≡ E (take i l) ++ enc (getD l i d)
-  coded-more l i d h =
-      ap E (rw (add-one, take-suc l i d)) ∙ coded-append E enc w nil cons (take i l) (getD l i d ∷ [])
-      ∙ ap (λ (z : List ℕ). E (take i l) ++ z) (cons (getD l i d) [] ∙ ap (λ (z : List ℕ). enc (getD l i d) ++ z) nil ∙ append-nil (enc (getD l i d)))
-
-  record-behind : (wide : (x : A) → length (enc x) ≡ w) (s : List ℕ) {t u : List ℕ} (at : ℕ) (l : List A) (i : ℕ) (d : A) → i < length l → at + w * i ≤ length s
+  -- record i behind the first i, all of them w bytes long
+  nth-behind : (wide : (x : A) → length (enc x) ≡ w) (s : List ℕ) {t u : List ℕ} (at : ℕ) (l : List A) (i : ℕ) (d : A) → i < length l → at + w * i ≤ length s
       → t ≡ putBytes s at (E (take i l)) → u ≡ putBytes t (at + w * i) (enc (getD l i d)) → u ≡ putBytes s at (E (take (i + 1) l))
-  record-behind wide s at l i d h k p q =
+  nth-behind wide s at l i d h k p q =
       let n : length (take i l) ≡ i = length-take-le i l (omega arith) in
       let m : at + length (E (take i l)) ≡ at + w * i = ap (λ (z : ℕ). at + z) (length-coded E enc w nil cons wide (take i l) ∙ ap (λ (z : ℕ). w * z) n) in
-      bytes-behind s (E (take i l)) (enc (getD l i d)) at (at + w * i) m k p q ∙ ap (putBytes s at) (sym (coded-more l i d h))
+      record-behind E enc w nil cons s [] at (at + w * i) l i d h m k p q
 
 length-later : (es : List Entry) → length (laterBytes es) ≡ 28 * length es
 length-later = length-coded laterBytes (entryBytes false) 28 refl (λ e es. refl) (length-entry false)
@@ -153,14 +127,14 @@ pub spot-behind : (s : List ℕ) {t u : List ℕ} (at n : ℕ) (l : List Spot) (
     → t ≡ putBytes s at (spotsBytes (take i (take n l))) → u ≡ putSpot t (at + 12 * i) (getD l i blank) → u ≡ putBytes s at (spotsBytes (take (i + 1) (take n l)))
 spot-behind s {t} at n l i h g k e p q =
     let m : i < length (take n l) = rw length-take-le (omega arith) in
-    record-behind spotsBytes spotBytes 12 refl (λ x xs. refl) length-spotBytes s at (take n l) i blank m (omega arith) p
+    nth-behind spotsBytes spotBytes 12 refl (λ x xs. refl) length-spotBytes s at (take n l) i blank m (omega arith) p
     (q ∙ spot-bytes t (at + 12 * i) (getD l i blank) (omega arith) ∙ ap (λ (x : Spot). putBytes t (at + 12 * i) (spotBytes x)) (sym (getD-take n l i blank h)))
 
 pub key-behind : (s : List ℕ) {t u : List ℕ} (at n : ℕ) (l : List ℕ) (i : ℕ) → i < n → n ≤ length l → at + 8 * n ≤ length s → length t ≡ length s
     → t ≡ putBytes s at (keysBytes (take i (take n l))) → u ≡ putKey t (at + 8 * i) (getD l i 0) → u ≡ putBytes s at (keysBytes (take (i + 1) (take n l)))
 key-behind s {t} at n l i h g k e p q =
     let m : i < length (take n l) = rw length-take-le (omega arith) in
-    record-behind keysBytes keyBytes 8 refl (λ x xs. refl) length-keyBytes s at (take n l) i 0 m (omega arith) p
+    nth-behind keysBytes keyBytes 8 refl (λ x xs. refl) length-keyBytes s at (take n l) i 0 m (omega arith) p
     (q ∙ key-bytes t (at + 8 * i) (getD l i 0) (omega arith) ∙ ap (λ (x : ℕ). putBytes t (at + 8 * i) (keyBytes x)) (sym (getD-take n l i 0 h)))
 
 -- the part from at on, lent and zeroed

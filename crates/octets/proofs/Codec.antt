@@ -1,15 +1,18 @@
--- Records one after the other, as bytes: for any function E that joins the w bytes `enc x` of each element, how long it is, and that it is read back.
+-- Records one after the other, as bytes: for any function E that joins the w bytes `enc x` of each element, how long it is, how it is written record by record, and that it is read back.
 -- Assumes nothing.
 use mathlib.Core.Path.{_≡_, refl, sym, ap, ap₂, _∙_}
 use mathlib.Core.Bool.{Bool, true}
-use mathlib.Core.List.{List, [], _∷_, _++_, append-assoc}
-use Prim.Native.Nat.{ℕ, zero, suc, _+_, _*_, _<_}
+use mathlib.Core.List.{List, [], _∷_, _++_, append-assoc, append-nil}
+use Prim.Native.Nat.{ℕ, zero, suc, _+_, _*_, _≤_, _<_}
 use native.Mathlib.Nat.{mul-suc, mul-zero}
+use native.Mathlib.Numerals.{add-one}
 use native.Mathlib.Omega.{arith}
-use lib.ListN.{length, take, drop, length-append}
-use lib.Seq.{take-add, drop-drop}
+use lib.ListN.{length, take, drop, getD, length-append}
+use lib.Seq.{take-suc, take-add, drop-drop}
+use Rattle.octets.specs.Bytes.{putBytes}
 use Rattle.octets.specs.Lists.{every, records}
 use Rattle.octets.proofs.Tests.{and-left, and-right}
+use Rattle.octets.proofs.Parts.{bytes-behind}
 
 module _ {A : Type 0} (E : List A → List ℕ) (enc : A → List ℕ) (w : ℕ) (nil : E [] ≡ []) (cons : (x : A) (xs : List A) → E (x ∷ xs) ≡ enc x ++ E xs) where
   pub coded-append : (xs ys : List A) → E (xs ++ ys) ≡ E xs ++ E ys
@@ -22,6 +25,18 @@ module _ {A : Type 0} (E : List A → List ℕ) (enc : A → List ℕ) (w : ℕ)
   length-coded wide [] = ap length nil ∙ sym (mul-zero w)
   length-coded wide (x ∷ xs) =
       ap length (cons x xs) ∙ length-append (enc x) (E xs) ∙ omega (arith, wide x, length-coded wide xs, mul-suc w (length xs))
+
+  pub coded-more : (l : List A) (i : ℕ) (d : A) → i < length l → E (take (i + 1) l) ≡ E (take i l) ++ enc (getD l i d)
+  coded-more l i d h =
+      ap E (rw (add-one, take-suc l i d)) ∙ coded-append (take i l) (getD l i d ∷ [])
+      ∙ ap (λ (z : List ℕ). E (take i l) ++ z) (cons (getD l i d) [] ∙ ap (λ (z : List ℕ). enc (getD l i d) ++ z) nil ∙ append-nil (enc (getD l i d)))
+
+  -- record i behind other bytes, a, and the first i
+  pub record-behind : (s a : List ℕ) {t u : List ℕ} (at j : ℕ) (l : List A) (i : ℕ) (d : A) → i < length l → at + length (a ++ E (take i l)) ≡ j → j ≤ length s
+      → t ≡ putBytes s at (a ++ E (take i l)) → u ≡ putBytes t j (enc (getD l i d)) → u ≡ putBytes s at (a ++ E (take (i + 1) l))
+  record-behind s a at j l i d h m k p q =
+      bytes-behind s (a ++ E (take i l)) (enc (getD l i d)) at j m k p q
+      ∙ ap (putBytes s at) (append-assoc a (E (take i l)) (enc (getD l i d)) ∙ ap (λ (z : List ℕ). a ++ z) (sym (coded-more l i d h)))
 
   -- the records of such bytes are the elements
   pub coded-back : (f : List ℕ → ℕ → A) (good : A → Bool) → ((x : A) → length (enc x) ≡ w)

@@ -1,4 +1,4 @@
--- Bytes put in the place of others, one part behind the other; and what lies behind a place.
+-- Bytes put in the place of others, one part behind the other, and numbers as such bytes; and what lies behind a place.
 -- Assumes nothing.
 use mathlib.Core.Path.{_≡_, sym, ap, ap₂, _∙_}
 use mathlib.Core.List.{List, [], _++_, append-assoc, append-nil}
@@ -7,7 +7,8 @@ use native.Mathlib.Nat.{add-zero}
 use native.Mathlib.Omega.{arith}
 use lib.ListN.{length, take, drop, length-append, length-drop, take-append-drop}
 use lib.Seq.{take-at, length-take-le, drop-append-add, drop-drop}
-use Rattle.octets.specs.Bytes.{putBytes}
+use Rattle.octets.specs.Bytes.{bytesOf, putBe, putBytes}
+use Rattle.octets.proofs.Bytes.{put-eq, length-bytesOf}
 
 module _ {A : Type 0} where
   -- what is the same behind a place is the same behind each later one
@@ -38,3 +39,16 @@ bytes-behind s a b i j e h p q =
     ∙ ap₂ (λ (y w : List ℕ). y ++ b ++ w) (take-at x z j n)
     (ap (λ (m : ℕ). drop (m + length b) (x ++ z)) (sym n) ∙ drop-append-add x z (length b) ∙ drop-drop (length b) (i + length a) s)
     ∙ ap₂ (λ (y : List ℕ) (m : ℕ). y ++ drop m s) (append-assoc (take i s) a b) k
+
+-- ---- numbers
+
+pub number-bytes : (n : ℕ) (s : List ℕ) (i v : ℕ) → i + n ≤ length s → putBe n s i v ≡ putBytes s i (bytesOf n v)
+unfolding putBytes
+number-bytes n s i v h = put-eq n s i v h ∙ ap (λ (k : ℕ). take i s ++ bytesOf n v ++ drop (i + k) s) (sym (length-bytesOf n v))
+
+-- a number behind a
+pub number-behind : (n : ℕ) (s a : List ℕ) {t u : List ℕ} (i j v : ℕ) → i + length a ≡ j → j + n ≤ length s → t ≡ putBytes s i a → u ≡ putBe n t j v
+    → u ≡ putBytes s i (a ++ bytesOf n v)
+number-behind n s a {t} i j v e h p q =
+    let l : length t ≡ length s = ap length p ∙ bytes-length s a i (omega arith) in
+    bytes-behind s a (bytesOf n v) i j e (omega arith) p (q ∙ number-bytes n t j v (omega arith))

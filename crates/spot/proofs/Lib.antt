@@ -2,6 +2,7 @@ pub mod Signed
 pub mod Halves
 pub mod Orders
 pub mod Card
+pub mod PutBytes
 pub mod Places
 pub mod Canon
 pub mod Buffers

@@ -73,18 +73,18 @@ inside-longer r out behind g z =
 -- ---- walks
 
 -- the detail of an accepted call is the number of spots of its walk
-walk-detail : (l bytes : ℕ) (w : Walk) (r : Answer) → r ≡ unlessRefused l (walkAnswer bytes w) → r .number ≡ 0 → r .detail ≡ length (spots w)
+pub walk-detail : (l bytes : ℕ) (w : Walk) (r : Answer) → r ≡ unlessRefused l (walkAnswer bytes w) → r .number ≡ 0 → r .detail ≡ length (spots w)
 unfolding unlessRefused walkAnswer spotsAnswer
 walk-detail zero bytes broken r a z = let h : _≡_ {A = ℕ} 3 0 = sym (ap (λ (x : Answer). x .number) a) ∙ z in let y : ⊥ = omega arith in absurd y
 walk-detail zero bytes (walked found blocks) r a z = ap (λ (x : Answer). x .detail) a
 walk-detail (suc l) bytes w r a z = let h : suc l ≡ 0 = sym (ap (λ (x : Answer). x .number) a) ∙ z in let y : ⊥ = omega arith in absurd y
 
-walk-inside : (early : ℕ) (w : Walk) (out map : List ℕ) (r : Answer) (out′ map′ : List ℕ) → every limited (keys (spots w)) ≡ true → WalkPost early w out map r out′ map′
+pub walk-inside : (early : ℕ) (w : Walk) (out map : List ℕ) (r : Answer) (out′ map′ : List ℕ) → every limited (keys (spots w)) ≡ true → WalkPost early w out map r out′ map′
     → GivenInside r out′
 walk-inside early w out map r out′ map′ h p z =
     left-inside (spots w) out r out′ h (p .output ∙ ap (λ (n : ℕ). outputLeft n (spots w) out) z) (walk-detail early (length out) w r (p .answered) z)
 
-from-on-limited : (k : ℕ) (ss : List Spot) → every limited (keys ss) ≡ true → every limited (keys (fromOn k ss)) ≡ true
+pub from-on-limited : (k : ℕ) (ss : List Spot) → every limited (keys ss) ≡ true → every limited (keys (fromOn k ss)) ≡ true
 unfolding fromOn
 from-on-limited k ss h =
     let from : Spot → Bool = λ s. leb k (s .key) in

@@ -13,8 +13,8 @@ use crate::shown::show_spots;
 
 // What a call is lent, in bytes of the output and of the map, and the node blocks that it may read.
 pub struct Allowed {
-    room: usize,
-    map: usize,
+    pub room: usize,
+    pub map: usize,
     blocks: u32,
 }
 
@@ -67,7 +67,7 @@ fn show_block(map: &[u8; 513], b: usize) {
 }
 
 // The blocks that are marked.
-fn show_blocks(map: &[u8; 513]) {
+pub fn show_blocks(map: &[u8; 513]) {
     say(b"    blocks");
     let mut b = 0;
     while b < 4096 {
@@ -77,11 +77,14 @@ fn show_blocks(map: &[u8; 513]) {
     say(b"\n");
 }
 
-// The ceiling, and how many bytes of the output and of the map differ from what was lent, from such bytes on.
-fn show_ceiling(ceiling: i32, output: &[u8; 4096], end: usize, map: &[u8; 513], marks: usize) {
-    let changed = std::num::wrapping_add_u64(changed_bytes(output, end), changed_bytes(map, marks));
+// How many bytes of the output and of the map differ from what was lent, from such bytes on.
+pub fn others_changed(output: &[u8], end: usize, map: &[u8], marks: usize) -> u64 {
+    std::num::wrapping_add_u64(changed_bytes(output, end), changed_bytes(map, marks))
+}
+
+fn show_ceiling(ceiling: i32, others: u64) {
     say_signed(b"    ceiling ", ceiling);
-    say_number(b", others changed: ", changed);
+    say_number(b", others changed: ", others);
     say(b"\n");
 }
 
@@ -91,16 +94,17 @@ fn show_said(said: within::Said, output: &[u8; 4096], map: &[u8; 513])
     let a = said.answer;
     show(a);
     if a.number != 0 {
-        show_ceiling(said.ceiling, output, 0, map, 0);
+        show_ceiling(said.ceiling, others_changed(output, 0, map, 0));
         return;
     }
     show_spots(a, output);
-    show_ceiling(said.ceiling, output, 12 * (a.detail as usize), map, 512);
+    let end = 12 * (a.detail as usize);
+    show_ceiling(said.ceiling, others_changed(output, end, map, 512));
     show_blocks(map);
 }
 
 // The marks of the last call; a refusal has none.
-fn keep_marks(number: u32, map: &[u8; 513], marks: &mut [u8; 1024]) {
+pub fn keep_marks(number: u32, map: &[u8; 513], marks: &mut [u8; 1024]) {
     if number != 0 {
         octets::zero(marks, 512);
         return;

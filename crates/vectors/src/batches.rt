@@ -6,6 +6,7 @@ use crate::plain;
 use crate::shown::say;
 use crate::shown::say_number;
 use crate::shown::show;
+use crate::shown::show_others;
 use crate::shown::show_spots;
 
 // What a count is, and what a byte of the output, when it is lent.
@@ -117,8 +118,7 @@ pub fn changed_bytes(output: &[u8], from: usize) -> u64 {
 // How many counts and bytes of the output differ from what was lent, behind the first n counts and the bytes up to the end of the spots.
 fn show_changed(counts: &[u32; 66], n: usize, output: &[u8; 4096], end: usize) {
     let changed = std::num::wrapping_add_u64(changed_counts(counts, n), changed_bytes(output, end));
-    say_number(b"    others changed: ", changed);
-    say(b"\n");
+    show_others(changed);
 }
 
 fn show_left(a: block::Answer, n: usize, counts: &[u32; 66], output: &[u8; 4096])

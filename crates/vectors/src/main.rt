@@ -9,6 +9,7 @@ mod allowances;
 mod batches;
 mod marks;
 mod shown;
+mod tours;
 
 use shown::say;
 use shown::show;
@@ -245,29 +246,28 @@ fn print(table: &[u8], r: Row) {
     }
 }
 
-fn carry_out(
-    table: &mut [u8],
-    scratch: &mut [u8],
-    marks: &mut [u8; 1024],
-    b: ranges::Batch,
-    l: allowances::Allowed,
-    r: Row,
-) {
-    make_call(table, scratch, r);
-    hang(table, scratch, r);
-    ask(table, marks, r);
-    batches::ask(table, marks, b, r);
-    allowances::ask(table, marks, l, r);
-    write(table, marks, r);
-    mark(marks, r.op);
-    print(table, r);
-}
-
-// What is kept from row to row: the table's length, the ranges that are handed in, and what is allowed.
+// What is kept from row to row: the table's length, the ranges that are handed in, what is allowed, and the length of the list to be pressed.
 struct State {
     bytes: usize,
     batch: ranges::Batch,
     allowed: allowances::Allowed,
+    listed: usize,
+}
+
+fn ask_table(table: &[u8], marks: &mut [u8; 1024], s: State, r: Row) {
+    ask(table, marks, r);
+    batches::ask(table, marks, s.batch, r);
+    allowances::ask(table, marks, s.allowed, r);
+}
+
+fn carry_out(table: &mut [u8], scratch: &mut [u8], marks: &mut [u8; 1024], s: State, r: Row) {
+    make_call(table, scratch, r);
+    hang(table, scratch, r);
+    ask_table(table, marks, s, r);
+    tours::carry_out(table, scratch, marks, s.allowed, s.listed, r);
+    write(table, marks, r);
+    mark(marks, r.op);
+    print(table, r);
 }
 
 // < makes the table x bytes long, at most 65,536.
@@ -279,6 +279,23 @@ fn length_after(bytes: usize, r: Row) -> usize
         return plain(r.x) % 65537;
     }
     bytes
+}
+
+// What is kept after a row.
+fn state_after(s: State, scratch: &mut [u8], r: Row) -> State
+    requires { ⌜ s .bytes ≤ 65536 ⌝ }
+    ensures { λ r. ⌜ r .bytes ≤ 65536 ⌝ }
+{
+    let bytes = length_after(s.bytes, r);
+    let batch = batches::hand_in(s.batch, r);
+    let allowed = allowances::allow(s.allowed, r);
+    let listed = tours::hand_in(scratch, s.listed, r);
+    State {
+        bytes,
+        batch,
+        allowed,
+        listed,
+    }
 }
 
 // Where the next such byte stands, or the end.
@@ -317,15 +334,10 @@ fn obey(
     let label = &line[bar + 1..];
     say(label);
     let r = row_of(line[0], label.len() == 0, text::parse(&line[1..bar]));
-    let bytes = length_after(s.bytes, r);
-    let batch = batches::hand_in(s.batch, r);
-    let allowed = allowances::allow(s.allowed, r);
-    carry_out(&mut memory[0..bytes], scratch, marks, batch, allowed, r);
-    State {
-        bytes,
-        batch,
-        allowed,
-    }
+    let after = state_after(s, scratch, r);
+    let bytes = after.bytes;
+    carry_out(&mut memory[0..bytes], scratch, marks, after, r);
+    after
 }
 
 fn empty_state() -> State
@@ -337,6 +349,7 @@ fn empty_state() -> State
         bytes: 0,
         batch,
         allowed,
+        listed: 0,
     }
 }
 

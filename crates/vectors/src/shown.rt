@@ -31,6 +31,12 @@ pub fn show_number(n: u64) {
     say(b"\n");
 }
 
+// How many bytes were changed that a call should leave.
+pub fn show_others(n: u64) {
+    say_number(b"    others changed: ", n);
+    say(b"\n");
+}
+
 pub fn show(a: block::Answer) {
     say_number(b": ", a.number as u64);
     say_number(b" ", a.detail as u64);
@@ -43,7 +49,7 @@ fn print(out: &[u8], end: usize)
     say(&out[0..end]);
 }
 
-fn show_spot(output: &[u8], at: usize)
+pub fn show_spot(output: &[u8], at: usize)
     requires { ⌜ (at + 12 ≤ length (now output)) × (limited (keyAt (now output) at) ≡ true) ⌝ }
 {
     let mut line = [0u8; 40];

@@ -15,12 +15,12 @@ use std::hint::black_box;
 pub const STATES: [&str; 3] = ["fresh", "grown", "waiting"];
 
 /// Places lie from minus to plus this.
-const HALF: i32 = 1 << 19;
+pub const HALF: i32 = 1 << 19;
 
-type Contenders<'a> = Vec<Option<Box<dyn FnMut() + 'a>>>;
+pub type Contenders<'a> = Vec<Option<Box<dyn FnMut() + 'a>>>;
 
 /// A contender of a race.
-fn timed<'a, T>(mut f: impl FnMut() -> T + 'a) -> Option<Box<dyn FnMut() + 'a>> {
+pub fn timed<'a, T>(mut f: impl FnMut() -> T + 'a) -> Option<Box<dyn FnMut() + 'a>> {
     Some(Box::new(move || {
         black_box(f());
     }))
@@ -35,12 +35,12 @@ pub struct Setting {
     sqlite: Option<Sqlite>,
 }
 
-fn spot(k: Key, track: u32) -> Spot {
+pub fn spot(k: Key, track: u32) -> Spot {
     Spot { place: k.0, rank: k.1, track }
 }
 
 /// Spots at random places and ranks, about as many ranks as the largest table has spots.
-fn anywhere(n: usize, random: &mut Random) -> BTreeMap<Key, u32> {
+pub fn anywhere(n: usize, random: &mut Random) -> BTreeMap<Key, u32> {
     let mut out = BTreeMap::new();
     while out.len() < n {
         let place = random.below(2 * HALF as usize) as i32 - HALF;
@@ -49,14 +49,14 @@ fn anywhere(n: usize, random: &mut Random) -> BTreeMap<Key, u32> {
     out
 }
 
-fn shuffled<T>(mut list: Vec<T>, random: &mut Random) -> Vec<T> {
+pub fn shuffled<T>(mut list: Vec<T>, random: &mut Random) -> Vec<T> {
     for i in (1..list.len()).rev() {
         list.swap(i, random.below(i + 1));
     }
     list
 }
 
-fn ones(map: &[u8]) -> f64 {
+pub fn ones(map: &[u8]) -> f64 {
     map.iter().map(|b| b.count_ones()).sum::<u32>().into()
 }
 

@@ -10,6 +10,7 @@ mod histories;
 mod row;
 #[cfg_attr(not(sqlite), path = "no_sqlite.rs")]
 mod sqlite;
+mod tour;
 
 use cases::{Setting, STATES};
 use spot_reference::Random;
@@ -40,21 +41,23 @@ fn main() -> std::io::Result<()> {
         writeln!(f, "blocks\ttable\tcall\tspots\tcontender\trun\tns")?;
     }
     let mut random = Random(42);
-    let mut rows = vec![];
+    let (rounds, mut rows) = (if quick { 3 } else { 9 }, vec![]);
+    let mut keep = |row: row::Row| {
+        println!("{}", row.markdown());
+        let written = file.iter_mut().try_for_each(|f| f.write_all(row.all_runs().as_bytes()));
+        rows.push(row);
+        written
+    };
     println!("{}", row::HEAD);
+    // random numbers of their own, so that the tables stay as they were without them
+    tour::rows(rounds, &mut Random(3)).into_iter().try_for_each(&mut keep)?;
     let one: Option<usize> = given("--blocks").and_then(|i| words.get(i + 1)).and_then(|n| n.parse().ok());
     let sizes = one.map_or(if quick { vec![32, 300] } else { vec![32, 300, 4096] }, |n| vec![n]);
     for blocks in sizes {
         for state in STATES {
             eprintln!("{blocks} blocks, {state}");
             let setting = Setting::new(blocks, state, &mut random);
-            for row in setting.rows(if quick { 3 } else { 9 }, quick, &mut random) {
-                println!("{}", row.markdown());
-                if let Some(f) = &mut file {
-                    f.write_all(row.all_runs().as_bytes())?;
-                }
-                rows.push(row);
-            }
+            setting.rows(rounds, quick, &mut random).into_iter().try_for_each(&mut keep)?;
         }
     }
     println!("\nRatios of the library's own calls:\n\n{}", row::within(&rows));

@@ -7,6 +7,8 @@ use std::fmt::Write;
 /// an allowance.
 pub const CONTENDERS: [&str; 6] = ["library", "file", "halved", "SQLite", "plain", "own"];
 
+/// Of tours, which have no state beside.
+pub const PRESSED: &str = "pressed";
 /// The calls with many ranges.
 pub const NARROW: &str = "64 ranges, narrow, 0.1 %";
 pub const WIDE: &str = "64 ranges, wide, 1 %";
@@ -98,6 +100,7 @@ pub fn within(rows: &[Row]) -> String {
     let mut s = String::from("| blocks | table | everything ÷ Count | Top of all ÷ everything | Top of all ÷ Top 10,000 | Count, µs a block | Rebuild ÷ sort and copy | 64 narrow ranges in one call ÷ 64 single reports | 64 ranges of 1 % ÷ 64 single reports | Top 10 of 10 % within 4, 16, any number of nodes ÷ Top | Top 1,000 of all within so many ÷ Top |\n|---|---|---|---|---|---|---|---|---|---|---|\n");
     let mut kinds: Vec<(usize, &str)> = rows.iter().map(|r| (r.blocks, r.state)).collect();
     kinds.dedup();
+    kinds.retain(|kind| kind.1 != PRESSED);
     for (blocks, state) in kinds {
         let find = |call: &str| rows.iter().find(|r| r.blocks == blocks && r.state == state && r.call == call);
         let time = |call: &str| find(call).and_then(|r| r.nanoseconds(0));

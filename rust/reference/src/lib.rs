@@ -1,5 +1,5 @@
 //! The spot table's rules read plainly, apart from the proved library and without it: tables in many arrangements, soundness with its reasons ([`sound`], [`faults`]),
-//! what a Report and a Top within an allowance read, histories of changes, and a walk in plain Rust as a yardstick. For tests, benchmarks and explanations; nothing here is proved.
+//! what a Report and a Top within an allowance read, pressed tours, histories of changes, and a walk in plain Rust as a yardstick. For tests, benchmarks and explanations; nothing here is proved.
 
 mod explain;
 pub mod histories;
@@ -7,6 +7,7 @@ mod layout;
 pub mod plain;
 mod range;
 mod tables;
+mod tour;
 mod tree;
 mod within;
 pub mod words;
@@ -15,5 +16,6 @@ pub use explain::{faults, sound, Fault, Way, MOST_FAULTS, RULES};
 pub use layout::{in_limits, top_order, Key, HIGHEST_PLACE, LOWEST_PLACE};
 pub use range::{holds, reported, reported_many, stretches};
 pub use tables::{make, read_by_many, read_by_report, some_spots, Entry, Made, Node, Random};
+pub use tour::{pressed, read_of_bytes, read_of_tour};
 pub use tree::{nodes, Placed};
 pub use within::{top_within, Within};

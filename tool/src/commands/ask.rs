@@ -1,6 +1,6 @@
 //! Commands that answer with spots.
 
-use super::{read_for_question, say};
+use super::{read_any_for_question, read_for_question, say};
 use crate::args::{Range, Shape, Wanted};
 use crate::card::Card;
 use crate::problem::{self, Problem};
@@ -76,13 +76,13 @@ pub fn diff(path: &Path, sheet: &Path, csv: bool) -> Result<()> {
 }
 
 pub fn report(path: &Path, wanted: &[Wanted], shape: &Shape) -> Result<()> {
-    let Card { table, .. } = read_for_question(path)?;
+    let held = read_any_for_question(path)?;
     if let [one] = wanted {
-        let found = table.report(one.range.x1, one.range.x2, one.y)?;
-        return show(&found, shape, &spots_of(one, &found.spots), vec![], table.blocks());
+        let found = held.report(one.range.x1, one.range.x2, one.y)?;
+        return show(&found, shape, &spots_of(one, &found.spots), vec![], held.blocks());
     }
     let ranges: Vec<_> = wanted.iter().map(|w| (w.range.x1, w.range.x2, w.y)).collect();
-    let (each, blocks) = table.report_many(&ranges)?;
+    let (each, blocks) = held.report_many(&ranges)?;
     let (mut out, mut csv) = (vec![], vec!["range,place,rank,track".to_string()]);
     for (number, (own, spots)) in (1..).zip(wanted.iter().zip(&each)) {
         out.push(format!("range {number}: {}", spots_of(own, spots)));
@@ -91,7 +91,7 @@ pub fn report(path: &Path, wanted: &[Wanted], shape: &Shape) -> Result<()> {
     }
     let total = each.iter().map(Vec::len).sum();
     out.push(format!("{} in {}", words::count(total, "spot"), words::count(each.len(), "range")));
-    print(if shape.csv { csv } else { out }, vec![], &blocks, shape, table.blocks())
+    print(if shape.csv { csv } else { out }, vec![], &blocks, shape, held.blocks())
 }
 
 fn spots_of(wanted: &Wanted, spots: &[Spot]) -> String {

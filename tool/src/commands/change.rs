@@ -15,21 +15,10 @@ use std::path::Path;
 use std::time::Duration;
 
 pub fn new(path: &Path, blocks: usize, force: bool, wait: Duration) -> Result<()> {
-    let name = path.display();
-    let exists =
-        || refused(format!("{name} exists already, and is left as it is. Choose another name, or say --force to make it an empty card."));
-    if path.is_dir() {
-        return Err(crate::problem::file(format!("{name} is a folder.")));
-    }
-    if !force && path.exists() {
-        return Err(exists());
-    }
-    let writer = card::lock_any(path, wait)?;
-    if !force && writer.exists() {
-        return Err(exists());
-    }
+    let writer = card::lock_new(path, force, "make it an empty card", wait)?;
     let table = Table::empty(blocks)?;
     save(&writer, &table)?;
+    let name = path.display();
     let (blocks, room) = (words::number(blocks as i128), words::count(table.capacity(), "spot"));
     say(format!("{name}: an empty card of {blocks} blocks, with room for {room}."))
 }

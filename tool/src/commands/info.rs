@@ -1,21 +1,46 @@
-//! How large and how full a card is.
+//! How large and how full a card or a tour is.
 
-use super::{read_for_question, say};
-use crate::card::Card;
+use super::{read_any_for_question, say};
+use crate::card::{Card, Held, Pressed};
 use crate::digest::Digest;
+use crate::store::TOUR_SPOTS;
 use crate::tree::{self, Node};
 use crate::words;
 use anyhow::Result;
 use std::path::Path;
 
 pub fn info(path: &Path) -> Result<()> {
-    let card = read_for_question(path)?;
-    let nodes = tree::nodes(card.table.bytes());
-    let levels = tree::levels(card.table.bytes());
-    let mut rows = whole(&card, &nodes, levels)?;
-    rows.extend((0..levels).rev().map(|level| of_level(&nodes, level, levels)));
+    let rows = match read_any_for_question(path)? {
+        Held::Card(card) => of_card(&card)?,
+        Held::Tour(pressed) => of_tour(&pressed)?,
+    };
     let lines: Vec<String> = rows.iter().map(|(a, b)| format!("{a:<16} {b}")).collect();
     say(lines.join("\n"))
+}
+
+fn of_card(card: &Card) -> Result<Vec<(String, String)>> {
+    let nodes = tree::nodes(card.table.bytes());
+    let levels = tree::levels(card.table.bytes());
+    let mut rows = whole(card, &nodes, levels)?;
+    rows.extend((0..levels).rev().map(|level| of_level(&nodes, level, levels)));
+    Ok(rows)
+}
+
+fn of_tour(pressed: &Pressed) -> Result<Vec<(String, String)>> {
+    let Pressed { name, tour, digest } = pressed;
+    let spots = tour.all()?.len();
+    let digest = match digest {
+        Digest::Same => format!("the tour is as {name}.sha256 has it"),
+        Digest::Differs => format!("NOT as {name}.sha256 has it"),
+        Digest::None => format!("none: there is no {name}.sha256"),
+    };
+    let rows = [
+        ("pressed tour", name.clone()),
+        ("blocks", format!("{} of 2,048 bytes ({} bytes)", n(tour.blocks()), n(tour.bytes().len()))),
+        ("spots", format!("{} of at most {}", n(spots), n(TOUR_SPOTS))),
+        ("digest", digest),
+    ];
+    Ok(rows.map(|(name, what)| (name.to_string(), what)).to_vec())
 }
 
 fn n(n: usize) -> String {

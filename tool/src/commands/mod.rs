@@ -4,9 +4,10 @@ mod ask;
 mod change;
 mod info;
 mod look;
+mod tour;
 
 use crate::args::Command;
-use crate::card::Card;
+use crate::card::{Card, Held};
 use crate::digest::Digest;
 use crate::problem;
 use anyhow::Result;
@@ -23,6 +24,7 @@ pub fn run(command: Command) -> Result<()> {
         Command::Diff { card, sheet, csv } => ask::diff(&card, &sheet, csv),
         Command::Report { card, wanted, more, shape } => ask::report(&card, &wanted.and_more(&more), &shape),
         Command::Top { card, range, k, allow, shape } => ask::top(&card, &range, k, allow, &shape),
+        Command::Press { sheet, output, force, wait } => tour::press(&sheet, &output, force, wait.time()),
         Command::Info { card } => info::info(&card),
         Command::Check { card } => look::check(&card),
         Command::Picture { card, report, top, output, force } => look::picture(&card, report.as_deref(), top.as_deref(), &output, force),
@@ -40,11 +42,24 @@ fn say(text: impl AsRef<str>) -> Result<()> {
 /// A sound card for a question. One whose digest differs is answered for, with a warning.
 fn read_for_question(path: &std::path::Path) -> Result<Card> {
     let card = crate::card::read_sound(path)?;
-    if card.digest == Digest::Differs {
+    warn(&card.name, card.digest);
+    Ok(card)
+}
+
+/// The same for a question that a pressed tour answers, too.
+fn read_any_for_question(path: &std::path::Path) -> Result<Held> {
+    let held = crate::card::read_any_sound(path)?;
+    match &held {
+        Held::Card(card) => warn(&card.name, card.digest),
+        Held::Tour(pressed) => warn(&pressed.name, pressed.digest),
+    }
+    Ok(held)
+}
+
+fn warn(name: &str, digest: Digest) {
+    if digest == Digest::Differs {
         problem::print(&format!(
-            "warning: {0} is not as spotcard left it: its digest is not the one in {0}.sha256. Track numbers may be wrong.",
-            card.name
+            "warning: {name} is not as spotcard left it: its digest is not the one in {name}.sha256. Track numbers may be wrong."
         ));
     }
-    Ok(card)
 }

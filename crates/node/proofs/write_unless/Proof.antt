@@ -5,7 +5,8 @@ use native.Mathlib.Omega.{arith}
 use borrow.Author.Needs.{needs}
 use denote.Ref.{now}
 use Rattle.node.specs.Bytes.{bytesUnless}
-use Rattle.node.proofs.Put.{key-bytes, unused-bytes}
+use Rattle.spot.proofs.PutBytes.{key-bytes}
+use Rattle.node.proofs.Put.{unused-bytes}
 use Rattle.node.proofs.Fits.{key-fits}
 use Rattle.node.proofs.write_unless.Statement.{statement}
 use Rattle.node.proofs.write_unless.Tie as tie

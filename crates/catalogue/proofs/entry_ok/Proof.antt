@@ -1,0 +1,24 @@
+-- `catalogue::entry_ok` meets its contract: its calls make up `entryFine`.
+-- Assumes nothing.
+use borrow.Author.Needs.{needs}
+use Rattle.catalogue.proofs.Making.{entry-made}
+use Rattle.catalogue.proofs.entry_ok.Statement.{statement}
+use Rattle.catalogue.proofs.entry_ok.Tie as tie
+
+returns : tie.Need-returns
+returns c =
+    let at-limits = c .before .before in
+    let a = at-limits .before .before .before .before .args in
+    entry-made (a .m) (a .b) (a .e) (at-limits .before .before .before .size-ok .ensures) (at-limits .before .in-limits .ensures) (at-limits .in-limits2 .ensures) (c .before .made-ok .ensures)
+    (c .ended-ok .ensures)
+
+pub entry-ok-spec : {M : Type 1} → statement M
+entry-ok-spec =
+    tie.close
+    (tie.spec
+    (λ c κs. search needs)
+    (λ c κs. search needs)
+    (λ c κs. search needs)
+    (λ c κs. search needs)
+    (λ c κs. search needs)
+    returns)

@@ -1,0 +1,12 @@
+pub mod Arrays
+pub mod Reading
+pub mod Stretches
+pub mod Blocks
+pub mod Standings
+pub mod Neighbours
+pub mod Endings
+pub mod Sweeping
+pub mod Fusing
+pub mod Passing
+pub mod Starting
+pub mod Swept

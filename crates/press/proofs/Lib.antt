@@ -1,0 +1,4 @@
+pub mod PutBytes
+pub mod Accepting
+pub mod Pieces
+pub mod Tiles

@@ -1,0 +1,2 @@
+pub mod Press
+pub mod Writing

@@ -1,0 +1,10 @@
+pub mod Orders
+pub mod Steps
+pub mod Covers
+pub mod Stands
+pub mod Tiles
+pub mod Found
+pub mod Pairs
+pub mod Counts
+pub mod Bound
+pub mod Swept

@@ -1,0 +1,4 @@
+pub mod Sweep
+pub mod Pressed
+pub mod Report
+pub mod Laws

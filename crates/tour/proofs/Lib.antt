@@ -1,0 +1,11 @@
+pub mod Tiles
+pub mod Steps
+pub mod Answering
+pub mod Accepted
+pub mod Marks
+pub mod Pressed
+pub mod HandsOut
+pub mod Second
+pub mod Agreement
+pub mod Promises
+pub mod FromPress

@@ -1,0 +1,3 @@
+pub mod Tour
+pub mod Gathering
+pub mod Promises
