@@ -22,7 +22,7 @@ use Rattle.catalogue.specs.declared.Entry.{Entry}
 unfoldable pub tourSized : ℕ → Bool
 tourSized bytes = all (eqb (bytes % 2048) 0 ∷ leb 1 (blocksOf bytes) ∷ leb (blocksOf bytes) 16 ∷ [])
 
--- of m blocks with the catalogue half are place blocks, counting the catalogue among the others: they come first
+-- of m blocks, the catalogue among them, half are place blocks: the first ones behind it
 abbrev pub placesOf : ℕ → ℕ
 placesOf m = m / 2
 

@@ -43,7 +43,7 @@ pub fn entry_at(s: &[u8], b: usize) -> Entry
 }
 
 // The key's place is inside the limits.
-fn in_limits(k: u64) -> bool
+fn limited_key(k: u64) -> bool
     ensures { λ r. ⌜ r ≡ limited k ⌝ }
 {
     (spot::START_KEY <= k) & (k < spot::END_KEY)
@@ -66,7 +66,7 @@ fn made_ok(m: usize, b: usize, k: u64) -> bool
     if b <= m / 2 {
         return k == NO_KEY;
     }
-    in_limits(k)
+    limited_key(k)
 }
 
 // Block b is the last of m.
@@ -86,7 +86,7 @@ fn ended_ok(m: usize, b: usize, k: u64) -> bool
     if is_last(m, b) {
         return k == NO_KEY;
     }
-    in_limits(k)
+    limited_key(k)
 }
 
 fn entry_ok(m: usize, b: usize, e: Entry) -> bool
@@ -94,8 +94,8 @@ fn entry_ok(m: usize, b: usize, e: Entry) -> bool
 {
     size_ok(m, b, e.size)
         & (e.low <= e.high)
-        & in_limits(e.low)
-        & in_limits(e.high)
+        & limited_key(e.low)
+        & limited_key(e.high)
         & made_ok(m, b, e.made)
         & ended_ok(m, b, e.ended)
 }

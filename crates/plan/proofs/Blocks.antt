@@ -102,10 +102,10 @@ ended-core (p ∷ ps) (suc at) key zero = refl
 ended-core (p ∷ ps) (suc at) key (suc x) = ended-core ps at key x
 
 fits-core : (ss : List Spot) (p : Piece) → PieceFits ss p → PieceFits ss (core p)
-fits-core ss p f = record { order = f .order; inside = f .inside; few = f .few; some = f .some }
+fits-core ss p f = record { order = f .order; inside = f .inside; few = f .few }
 
 core-fits : (ss : List Spot) (p : Piece) → PieceFits ss (core p) → PieceFits ss p
-core-fits ss p f = record { order = f .order; inside = f .inside; few = f .few; some = f .some }
+core-fits ss p f = record { order = f .order; inside = f .inside; few = f .few }
 
 pub fits-same : (ss : List Spot) (p q : Piece) → core q ≡ core p → PieceFits ss p → PieceFits ss q
 fits-same ss p q e f = core-fits ss q (subst (PieceFits ss) (sym e) (fits-core ss p f))

@@ -26,7 +26,8 @@ use Rattle.plan.proofs.Stretches.{left-join}
 use Rattle.plan.proofs.Blocks.{Block, blockOf, blocksFrom, placeBlocks, fusedBlock, fusedBlocks, blocks-append, fused-append, blocks-ended, core, ended-core, fits-same}
 use Rattle.plan.proofs.Standings.{standOf, standsOf, OneFusion, fused-stands}
 use Rattle.plan.proofs.Neighbours.{Runs, split-two, both, once-fused, not-first, not-second, runs-touch, runs-fused}
-use Rattle.plan.proofs.Endings.{ended-none, ended-other, ended-here, whole-still}
+use Rattle.sweep.proofs.Stands.{ended-none}
+use Rattle.plan.proofs.Endings.{ended-other, ended-here, whole-still}
 use Rattle.plan.proofs.Sweeping.{orderOf, standsIn, Sweeping, Passing, count-few, order-length, order-at, order-in, order-made}
 
 -- ---- the pieces, where a and b are ended by p and one more is stored
@@ -177,7 +178,6 @@ module _ (ss : List Spot) (few : length ss ≤ 512) (p floor : ℕ) (fs : List F
         order = omega (arith, touch, w .fits a a-small .order, w .fits b b-small .order);
         inside = w .fits b b-small .inside;
         few = omega (arith, new-length);
-        some = omega (arith, new-length);
       }
 
   new-made : madeBy (rankKey p + 1) ≡ p

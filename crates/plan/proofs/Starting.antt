@@ -52,7 +52,7 @@ module _ (ss : List Spot) where
       let l = place-inside n i h in
       let e : length (pieceSpots ss (placePiece n i)) ≡ min 64 (n - 64 * i) =
       ap length (place-spots i) ∙ length-take 64 (drop (64 * i) ss) ∙ ap (min 64) (length-drop (64 * i) ss) in
-      record { order = omega arith; inside = omega arith; few = omega (arith, e); some = omega (arith, e) }
+      record { order = omega arith; inside = omega arith; few = omega (arith, e) }
 
   -- ---- a plan that holds them
 

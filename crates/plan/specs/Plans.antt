@@ -61,7 +61,6 @@ pub record PieceFits (ss : List Spot) (p : Piece) : Type 0 where
   pub order : p .from ≤ p .to
   pub inside : p .to ≤ length ss
   pub few : length (pieceSpots ss p) ≤ 64
-  pub some : 0 < length (pieceSpots ss p)
 
 -- the plan of the whole sweep
 pub record SweepPlanned (ss : List Spot) (p : Plan) : Type 0 where

@@ -15,19 +15,19 @@ use Rattle.tree.specs.ReadMap.{readMap}
 use Rattle.tree.specs.Walk.{Walk, broken, walked, isBroken, spots, blocksRead}
 use Rattle.table.specs.Answers.{unlessRefused, spotsAnswer, mapLeft}
 use Rattle.table.specs.Queries.{walkAnswer}
+use Rattle.table.proofs.Given.{walk-detail}
 use Rattle.catalogue.specs.Catalogue.{tourSized, tilesRead, tourFine}
 use Rattle.tour.specs.Tour.{tourReport, tourNumber, TourPost}
 use Rattle.tour.proofs.Answering.{report-whole, report-broken}
 
-record Answered (early : ℕ) (w : Walk) (r : Answer) : Type 0 where
+record Answered (early : ℕ) (w : Walk) : Type 0 where
   on-time : early ≡ 0
   whole : isBroken w ≡ false
-  detail : r .detail ≡ length (spots w)
 
-answered : (early bytes : ℕ) (w : Walk) (r : Answer) → r ≡ unlessRefused early (walkAnswer bytes w) → r .number ≡ 0 → Answered early w r
+answered : (early bytes : ℕ) (w : Walk) (r : Answer) → r ≡ unlessRefused early (walkAnswer bytes w) → r .number ≡ 0 → Answered early w
 unfolding unlessRefused walkAnswer spotsAnswer
 answered zero bytes broken r a z = let h : _≡_ {A = ℕ} 3 0 = sym (ap (λ (x : Answer). x .number) a) ∙ z in let y : ⊥ = omega arith in absurd y
-answered zero bytes (walked found blocks) r a z = record { on-time = refl; whole = refl; detail = ap (λ (x : Answer). x .detail) a }
+answered zero bytes (walked found blocks) r a z = record { on-time = refl; whole = refl }
 answered (suc early) bytes w r a z = let h : suc early ≡ 0 = sym (ap (λ (x : Answer). x .number) a) ∙ z in let y : ⊥ = omega arith in absurd y
 
 number-sized : (bytes map : ℕ) → tourNumber bytes map ≡ 0 → tourSized bytes ≡ true
@@ -50,11 +50,11 @@ accepted x1 x2 y t out map r out′ map′ p z =
     record {
       sized = number-sized (length t) (length map) (a .on-time);
       fine = fine;
-      detail = a .detail;
+      detail = walk-detail (tourNumber (length t) (length map)) (length out) (tourReport t x1 x2 y) r (p .answered) z;
       marks = p .marks ∙ ap (λ (n : ℕ). mapLeft n (blocksRead (tourReport t x1 x2 y)) map) z ∙ ap (λ (w : Walk). readMap (blocksRead w)) (report-whole t x1 x2 y fine);
     }
   where
-    a : Answered (tourNumber (length t) (length map)) (tourReport t x1 x2 y) r
+    a : Answered (tourNumber (length t) (length map)) (tourReport t x1 x2 y)
     a = answered (tourNumber (length t) (length map)) (length out) (tourReport t x1 x2 y) r (p .answered) z
 
     go : (b : Bool) → tourFine t (query x1 x2 y) ≡ b → tourFine t (query x1 x2 y) ≡ true

@@ -21,6 +21,15 @@ fn plain_answer(number: u32) -> block::Answer
     block::Answer { number, detail: 0 }
 }
 
+// With the number of spots as detail.
+fn spots_answer(number: u32, n: usize) -> block::Answer
+    requires { ⌜ n ≤ 960 ⌝ }
+    ensures { λ r. ⌜ r ≡ answer number n ⌝ }
+{
+    let detail = n as u32;
+    block::Answer { number, detail }
+}
+
 // The wanted spots of a block among the first n of those found; says how many they are.
 fn gather_tile(s: &[u8], e: catalogue::Entry, q: spot::Query, found: &mut [u8], n: usize) -> usize
     requires { ⌜ Gatherable (now s) e (now found) n ⌝ }
@@ -91,16 +100,10 @@ pub fn tour_report(
     }
     let n = all.spots;
     if output.len() / 12 < n {
-        return block::Answer {
-            number: 5,
-            detail: n as u32,
-        };
+        return spots_answer(5, n);
     }
     octets::copy(&found, output, 12 * n);
     sort::from_on(output, n, spot::from_key(q));
     octets::copy(&seen, read_map, 512);
-    block::Answer {
-        number: 0,
-        detail: n as u32,
-    }
+    spots_answer(0, n)
 }

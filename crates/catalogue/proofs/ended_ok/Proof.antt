@@ -12,7 +12,7 @@ returns c = rw (sym (c .before .is-last .ensures) ∙ c .if1 .taken) refl
 
 returns-2 : tie.Need-returns-2
 unfolding endedFine
-returns-2 c = rw (sym (c .before .before .is-last .ensures) ∙ c .before .if1 .left) (c .in-limits .ensures)
+returns-2 c = rw (sym (c .before .before .is-last .ensures) ∙ c .before .if1 .left) (c .limited-key .ensures)
 
 pub ended-ok-spec : {M : Type 1} → statement M
 ended-ok-spec = tie.close (tie.spec (λ c κs. search needs) returns (λ c κs. search needs) returns-2)

@@ -9,7 +9,7 @@ returns : tie.Need-returns
 returns c =
     let at-limits = c .before .before in
     let a = at-limits .before .before .before .before .args in
-    entry-made (a .m) (a .b) (a .e) (at-limits .before .before .before .size-ok .ensures) (at-limits .before .in-limits .ensures) (at-limits .in-limits2 .ensures) (c .before .made-ok .ensures)
+    entry-made (a .m) (a .b) (a .e) (at-limits .before .before .before .size-ok .ensures) (at-limits .before .limited-key .ensures) (at-limits .limited-key2 .ensures) (c .before .made-ok .ensures)
     (c .ended-ok .ensures)
 
 pub entry-ok-spec : {M : Type 1} → statement M

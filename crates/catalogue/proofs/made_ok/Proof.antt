@@ -14,7 +14,7 @@ returns c = let a = c .before .args in rw (le-leb (a .b) (a .m / 2) (c .if1 .tak
 
 returns-2 : tie.Need-returns-2
 unfolding madeFine
-returns-2 c = let a = c .before .before .args in rw (lt-leb (a .b) (a .m / 2) (c .before .if1 .left)) (c .in-limits .ensures)
+returns-2 c = let a = c .before .before .args in rw (lt-leb (a .b) (a .m / 2) (c .before .if1 .left)) (c .limited-key .ensures)
 
 pub made-ok-spec : {M : Type 1} → statement M
 made-ok-spec = tie.close (tie.spec returns (λ c κs. search needs) returns-2)

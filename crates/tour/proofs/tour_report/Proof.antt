@@ -93,13 +93,16 @@ returns-4 c =
     let k = known g in
     tour-broken _ _ _ (tour (lent k)) _ _ _ (long (lent k .before)) (mapped (lent k)) (listed k) (read-for (same g) (g .gather .ensures)) (not-true _ (at-if4 .if4 .taken)) (c .plain-answer4 .ensures)
 
+spots-answer-requires : tie.Need-spots-answer-requires
+spots-answer-requires c κs = c .before .before .before .before .before .gather .ensures .few
+
 returns-5 : tie.Need-returns-5
 returns-5 c =
-    let at-if5 = c in
+    let at-if5 = c .before in
     let at-if4 = at-if5 .before in
     let g = at-if4 .before .before .before .before in
     let k = known g in
-    tour-many _ _ _ (tour (lent k)) _ _ _ (long (lent k .before)) (mapped (lent k)) (listed k) (read-for (same g) (g .gather .ensures)) (not-false _ (at-if4 .if4 .left)) (omega (arith, at-if5 .if5 .taken)) refl
+    tour-many _ _ _ (tour (lent k)) _ _ _ (long (lent k .before)) (mapped (lent k)) (listed k) (read-for (same g) (g .gather .ensures)) (not-false _ (at-if4 .if4 .left)) (omega (arith, at-if5 .if5 .taken)) (c .spots-answer .ensures)
 
 -- all is in order, and the output has room for the spots
 module _ (c : tie.Else5) where
@@ -123,16 +126,23 @@ from-on-requires c κs =
     let e = at-copy .before .before .before in
     turn-asks _ _ (omega (arith, turnable e .room, at-copy .copy .kept .1 .0)) (held-order (turnable e) (at-copy .copy .ensures))
 
+spots-answer-requires-2 : tie.Need-spots-answer-requires-2
+spots-answer-requires-2 c κs =
+    let at-copy2 = c .before .before in
+    let at-from-on = at-copy2 .before .before .before .before .before in
+    let e = at-from-on .before .before .before .before .before .before .before .before in
+    read e .gather .ensures .few
+
 returns-6 : tie.Need-returns-6
 returns-6 c =
-    let at-copy2 = c .before .before in
+    let at-copy2 = c .before .before .before in
     let at-known = at-copy2 .before .before .before in
     let at-from-on = at-known .before .before in
     let at-copy = at-from-on .before .before .before .before .before in
     let e = at-copy .before .before .before in
     let g = read e in
     let k = known g in
-    tour-given _ _ _ (tour (lent k)) _ _ _ (long (lent k .before)) (mapped (lent k)) (listed k) (read-for (same g) (g .gather .ensures)) (ok e) _ _ (omega (arith, e .if5 .left)) refl
+    tour-given _ _ _ (tour (lent k)) _ _ _ (long (lent k .before)) (mapped (lent k)) (listed k) (read-for (same g) (g .gather .ensures)) (ok e) _ _ (omega (arith, e .if5 .left)) (c .spots-answer2 .ensures)
     (held-turned (turnable e) (same g) (at-from-on .before .from-key .ensures) (at-copy .copy .ensures) (at-from-on .from-on .ensures) (at-copy .copy .kept .1 .0) (λ i. omega (arith, at-known .slice-known4 .given i)))
     (map-is _ (now (start (lent k) .args .read-map)) _ (g .gather .kept .1 .1 .0) (mapped (lent k)) (at-copy2 .copy2 .ensures))
 
@@ -157,7 +167,7 @@ tour-report-spec =
     gather-requires
     (λ c κs. search needs)
     returns-4
-    (λ c. search needs)
+    spots-answer-requires
     returns-5
     (λ c. search needs)
     (λ c. search needs)
@@ -166,7 +176,7 @@ tour-report-spec =
     from-on-requires
     (λ c. search needs)
     (λ c κs. search needs)
-    (λ c. search needs)
+    spots-answer-requires-2
     (λ c. search needs)
     (λ c. search needs)
     returns-6)
