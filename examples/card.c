@@ -1,4 +1,4 @@
-/* A card with four spots: made, filled, asked, printed; and a tour pressed from what is left. Compiles as C99 and as C++:
+/* A card with four spots: made, filled, asked, printed; a tour pressed from what is left; and a message applied. Compiles as C99 and as C++:
  *   cc -std=c99 card.c $(pkg-config --cflags --libs spot_table)
  */
 #include <inttypes.h>
@@ -10,6 +10,7 @@
 #define BLOCKS 9
 #define ROOM 128 /* 16 spots for each block after the first */
 #define RANGES 2
+#define CHANGES 2
 
 static uint8_t table[BLOCKS * SPOT_BLOCK_BYTES];
 static uint8_t work[BLOCKS * SPOT_BLOCK_BYTES];
@@ -17,6 +18,8 @@ static uint8_t output[ROOM * SPOT_BYTES];
 static uint8_t read_map[SPOT_MAP_BYTES];
 static uint8_t tour[SPOT_TOUR_BYTES];
 static uint8_t listed[3 * SPOT_BYTES];
+static uint8_t list[CHANGES * SPOT_CHANGE_BYTES];
+static uint8_t message[SPOT_MESSAGE_BYTES];
 
 /* The detail of an accepted call; a refusal ends the program. */
 static uint32_t accepted(const char *call, uint64_t answer) {
@@ -40,6 +43,8 @@ static void print(uint32_t n) { print_from(0, n); }
 int main(void) {
     static const struct spot spots[] = {{0, 5, 1}, {240, 7, 2}, {-120, 7, 3}, {600, -3, 4}};
     static const spot_range ranges[RANGES] = {{-200, 300, 0}, {100, 700, -5}};
+    static const struct spot_change changes[CHANGES] = {{SPOT_WITHDRAW, {600, -3, 0}}, {SPOT_ADD, {0, 5, 9}}};
+    static const struct spot_change too_far = {SPOT_ADD, {SPOT_HIGHEST_PLACE + 1, 5, 9}};
     uint32_t counts[RANGES];
     uint64_t answer;
     uint32_t n, first;
@@ -93,6 +98,18 @@ int main(void) {
     spot_write(listed, spots[3]);
     answer = spot_press(listed, sizeof listed, tour, sizeof tour);
     printf("with the last spot first: %" PRIu32 ", %s\n", spot_number(answer), spot_error_text(spot_number(answer)));
+
+    for (i = 0; i < CHANGES; i++) spot_write_change(list + SPOT_CHANGE_BYTES * i, changes[i]);
+    accepted("write_message", spot_write_message(list, sizeof list, message, sizeof message));
+    printf("a message of %u changes, %u bytes; after it:\n", (unsigned)spot_message_changes(message), (unsigned)spot_message_len(message));
+    accepted("apply", spot_apply(table, sizeof table, work, sizeof work, message, spot_message_len(message)));
+    n = accepted("report", spot_report(table, sizeof table, INT32_MIN, INT32_MAX, INT32_MIN, output, sizeof output, read_map, sizeof read_map));
+    print(n);
+    accepted("read_message", spot_read_message(message, spot_message_len(message), list, sizeof list));
+    printf("its first change %s rank %" PRId32 "\n", spot_read_change(list).kind == SPOT_ADD ? "adds" : "withdraws", spot_read_change(list).spot.rank);
+    spot_write_change(list + SPOT_CHANGE_BYTES, too_far);
+    answer = spot_write_message(list, sizeof list, message, sizeof message);
+    printf("with its second one centimetre too far: %" PRIu32 " (%" PRIu32 "), %s\n", spot_number(answer), spot_detail(answer), spot_error_text(spot_number(answer)));
 
     n = accepted("check", spot_check(table, sizeof table));
     printf("%" PRIu32 " live spots, %s\n", accepted("count", spot_count(table, sizeof table)), n ? "sound" : "not sound");

@@ -1,28 +1,36 @@
-/* The spot table: up to 65,520 spots (a place, a rank, a track number) in lent memory; and pressed tours, read-only tables of up to 512 spots.
+/* The spot table: up to 65,520 spots (a place, a rank, a track number) in lent memory; messages, lists of changes to a table; and pressed tours, read-only tables of up to
+ * 512 spots.
  *
  * Every call ends on any bytes and arguments, touches nothing but the memory lent to it, allocates nothing and keeps nothing between calls.
  *
  * Lent memory. A slice is a pointer and a length: in bytes, and for ranges and counts in elements.
  *   - The slices of one call must not overlap. A work area that is the table destroys the table.
- *   - During a call nothing else may write the table, the tour, the spots to be pressed, the ranges, the counts, the output, the read map or the work area; during
- *     spot_format, spot_add, spot_withdraw and spot_rebuild nothing else may read the table either, and during spot_press the tour. Any number of calls may read one table or
- *     tour at the same time.
+ *   - During a call nothing else may write the table, the tour, the spots to be pressed, the changes, the message, the ranges, the counts, the output, the read map or the work
+ *     area; during spot_format, spot_add, spot_withdraw, spot_rebuild and spot_apply nothing else may read the table either, during spot_press the tour, during
+ *     spot_write_message the message and during spot_read_message the changes. Any number of calls may read one table, tour or message at the same time.
  *   - A pointer may be NULL only with length 0. The bytes need no alignment; ranges and counts have that of their types.
  *   - The ceiling of spot_top_within is a result: one number, in no lent slice, which every call sets. Its pointer is not NULL.
  *
  * The answer is number * 2^32 + detail (spot_number, spot_detail). Number 0 is an accepted call; detail is the number of spots for spot_report, spot_report_many, spot_top,
- * spot_top_within, spot_tour_report and spot_count, 1 or 0 for spot_check's yes or no, else 0. The other numbers are refusals (enum spot_error), asked in their order, but 6, 7
- * and 9 after 2 and before 3. After a refusal every lent byte is as it was, but for a work area after 3: its first table-length bytes are zero then, as after an accepted call.
+ * spot_top_within, spot_tour_report and spot_count, 1 or 0 for spot_check's yes or no, else 0. The other numbers are refusals (enum spot_error), asked in their order, but 6, 7,
+ * 8 and 9 after 2 and before 3; spot_write_message and spot_read_message ask 8, then 2, then 9. After a refusal every lent byte is as it was, but for a work area after 3: its
+ * first table-length bytes are zero then, as after an accepted call.
  *
- * Places lie from SPOT_LOWEST_PLACE to SPOT_HIGHEST_PLACE, in centimetres. spot_add, spot_withdraw and spot_press refuse another one with 9, and one that is stored in a
- * table or a tour breaks a rule. So every spot that an accepted call gives has its place there, whatever the table or the tour holds, and the difference of two of these places
- * fits int32_t. The ends of a range may be any numbers.
+ * Places lie from SPOT_LOWEST_PLACE to SPOT_HIGHEST_PLACE, in centimetres. spot_add, spot_withdraw, spot_apply, spot_write_message, spot_read_message and spot_press refuse
+ * another one with 9, and one that is stored in a table or a tour breaks a rule. So every spot that an accepted call gives has its place there, whatever the table or the tour
+ * holds, and the difference of two of these places fits int32_t. The ends of a range may be any numbers.
  *
  * The archive is for x86-64 Linux. Of the C library it needs memcpy, memmove, memset and memcmp at most.
  *
  * The format of a table is version 1 (byte 4 of block 0). Tables of version 1 stay readable and writable by all later versions of this library; another layout would
  * have another version number, which this library refuses with 3. A place outside the limits that 0.1.0 stored breaks a rule now: calls that read it are refused with 3.
- * The format of a tour is version 1, too (byte 4 of its block 0, the catalogue), and stays readable in the same way.
+ * The format of a tour is version 1, too (byte 4 of its block 0, the catalogue), and stays readable in the same way, and so is that of a message (its byte 4).
+ *
+ * A message is a list of changes as it goes over the air: its whole length in 4 bytes, version 1 in one, the number of changes in 2, and then for each change a kind and the
+ * change as on the card: 1 with place, rank and track (13 bytes in all) or 2 with place and rank (9), big-endian. It has one spelling: a message that is read is what
+ * spot_write_message makes of its changes, byte for byte. It does NOT carry a sender, a seal or a place among other messages: bytes that were changed on the way may be a
+ * message still, and one that comes late or twice is applied like any other. Whoever sends messages over the air signs them on the way and keeps their order, and applies only
+ * what that lets through.
  *
  * What a call costs, in blocks of 2,048 bytes; h is the number of levels, 1 to 7:
  *   spot_format     writes every block.
@@ -39,12 +47,17 @@
  *   spot_withdraw   some more blocks a level. Rarely, where no block is spare, all is laid out anew as by spot_rebuild. Both zero as much of the work area as the table is
  *                   long, which is most of their time on a large table. A withdrawal that finds nothing writes nothing to the table.
  *   spot_rebuild    reads every node block that has spots and writes as many as the spots need.
+ *   spot_apply      with one change what spot_add or spot_withdraw costs. With more, all is laid out anew, as by spot_rebuild: on the largest table 256 changes take its time, 4,096 up
+ *                   to 1.6 times that, and 2.3 times where the table is so full that each change is looked up first. Up to about 18 changes, single calls take less time, but are not
+ *                   all or nothing. It zeroes as much of the work area as the table is long. A message refused with 8 or 9 costs no more than reading it.
+ *   spot_write_message, spot_read_message
+ *                   read their input three to four times and write their output once.
  *   spot_press      reads the spots once for each of them and writes each block of the tour once: up to 8 for the spots in place order, up to 7 fused ones, the catalogue.
  *   spot_tour_report
  *                   reads the catalogue and at most 3 + 2 * (spots div 64) other blocks of a pressed tour, 4 + 2 * (spots div 64) for a range past the door, each once, and marks
  *                   exactly those.
  * Memory: the output takes 12 bytes for each spot, the counts 4 for each range, the read map 512, the work area as many as the table has, a tour to be pressed
- * SPOT_TOUR_BYTES. Stack: SPOT_STACK_... below.
+ * SPOT_TOUR_BYTES, a list of changes SPOT_CHANGE_BYTES for each, a message SPOT_MESSAGE_BYTES at most. Stack: SPOT_STACK_... below.
  */
 #ifndef SPOT_TABLE_H
 #define SPOT_TABLE_H
@@ -70,6 +83,9 @@ extern "C" {
 #define SPOT_TOUR_BYTES 32768
 #define SPOT_TOUR_BLOCKS 16
 #define SPOT_TOUR_SPOTS 512
+#define SPOT_MOST_CHANGES 4096
+#define SPOT_CHANGE_BYTES 13
+#define SPOT_MESSAGE_BYTES 53255
 
 /* Bytes of stack that suffice for a call on any table or tour, return address included. measure/stack computes them from the built archive and fails where one is too low. */
 #define SPOT_STACK_FORMAT 8192
@@ -82,6 +98,9 @@ extern "C" {
 #define SPOT_STACK_ADD 245760
 #define SPOT_STACK_WITHDRAW 245760
 #define SPOT_STACK_REBUILD 32768
+#define SPOT_STACK_APPLY 311296
+#define SPOT_STACK_WRITE_MESSAGE 8192
+#define SPOT_STACK_READ_MESSAGE 8192
 #define SPOT_STACK_PRESS 8192
 #define SPOT_STACK_TOUR_REPORT 24576
 
@@ -89,12 +108,14 @@ enum spot_error {
     SPOT_OK = 0,
     /* the table is not a whole number of blocks, or has under 9 or over 4,096; the tour is not 1 to 16 whole blocks */
     SPOT_TABLE_LENGTH = 1,
-    /* the read map isn't 512 bytes, the work area is shorter than the table, there are not as many counts as ranges, or a tour is to be pressed into under SPOT_TOUR_BYTES */
+    /* the read map isn't 512 bytes, the work area is shorter than the table, there are not as many counts as ranges, a tour is to be pressed into under SPOT_TOUR_BYTES, or a
+     * message or its changes are to be written to fewer bytes than they have (asked after 8) */
     SPOT_LENT_LENGTH = 2,
     /* block 0, or a node block that is read, breaks a rule that it and the entry leading to it can show; never on a sound table. A call reads only some blocks, so an
      * answer of 0 doesn't say that the table is sound: spot_check does. Of a tour: the catalogue, or a block that is read, breaks the layout; never on a pressed one */
     SPOT_BROKEN = 3,
-    /* spot_add only: 16 live spots for each block after the first, and the new place and rank not among them */
+    /* spot_add and spot_apply only: 16 live spots for each block after the first, and the new place and rank not among them. Of a message, detail is the position, from 0, of
+     * the first addition that finds the table so after the changes before it; none of them is applied then */
     SPOT_FULL = 4,
     /* spot_report, spot_report_many, spot_top, spot_top_within and spot_tour_report only: more spots than output length div 12; detail is their number */
     SPOT_OUTPUT = 5,
@@ -102,7 +123,12 @@ enum spot_error {
     SPOT_TOO_MANY_RANGES = 6,
     /* spot_press only: more than SPOT_TOUR_SPOTS spots, the last is cut short, or place and rank don't strictly rise; asked after 2 and before 9 and 3, detail 0 */
     SPOT_NOT_PRESSABLE = 7,
-    /* spot_add, spot_withdraw and spot_press only: a place is below SPOT_LOWEST_PLACE or above SPOT_HIGHEST_PLACE; asked after 2 and before 3, detail 0 */
+    /* spot_apply, spot_read_message and spot_write_message only: the bytes are no message (its length is not the lent one, its version not 1, a kind neither 1 nor 2, its number of
+     * changes over 4,096 or not that of those that stand there) or no list of changes (their length is no multiple of 13, they are over 4,096, a kind is neither 1 nor 2, a
+     * withdrawal isn't filled up with zeros); asked after spot_apply's 2 and before 9 and 3, and before the others' 2, detail 0 */
+    SPOT_NOT_A_MESSAGE = 8,
+    /* spot_add, spot_withdraw, spot_apply, spot_read_message, spot_write_message and spot_press only: a place is below SPOT_LOWEST_PLACE or above SPOT_HIGHEST_PLACE; asked after 2
+     * and before 3. Of changes, detail is the position, from 0, of the first such one, else 0 */
     SPOT_PLACE_OUTSIDE = 9
 };
 
@@ -111,6 +137,13 @@ struct spot {
     int32_t place;
     int32_t rank;
     uint32_t track;
+};
+
+/* A change: the kind, and the spot that is added, or the place and rank of the one that is withdrawn; its track is 0 then. */
+enum spot_kind { SPOT_ADD = 1, SPOT_WITHDRAW = 2 };
+struct spot_change {
+    enum spot_kind kind;
+    struct spot spot;
 };
 
 /* Two places and a lowest rank. The places may lie outside the limits. */
@@ -126,12 +159,13 @@ static inline const char *spot_error_text(uint32_t number) {
     switch (number) {
     case SPOT_OK: return "accepted";
     case SPOT_TABLE_LENGTH: return "the table is not 9 to 4,096 whole blocks of 2,048 bytes, or the tour is not 1 to 16";
-    case SPOT_LENT_LENGTH: return "the read map isn't 512 bytes, the work area is shorter than the table, there are not as many counts as ranges, or under 32,768 bytes are lent for a tour";
+    case SPOT_LENT_LENGTH: return "the read map isn't 512 bytes, the work area is shorter than the table, there are not as many counts as ranges, under 32,768 bytes are lent for a tour, or too few for a message or its changes";
     case SPOT_BROKEN: return "block 0, or a block that was read, breaks a rule of the layout";
     case SPOT_FULL: return "the table is full, and has no spot of this place and rank";
     case SPOT_OUTPUT: return "there are more spots than the output has room for";
     case SPOT_TOO_MANY_RANGES: return "there are more than 64 ranges";
     case SPOT_NOT_PRESSABLE: return "there are more than 512 spots, the last is cut short, or they don't strictly rise by place, then rank";
+    case SPOT_NOT_A_MESSAGE: return "the bytes are no message, or no list of changes";
     case SPOT_PLACE_OUTSIDE: return "a place does not lie from -1,000,000 to 1,000,000 cm";
     default: return "no number of the spot table";
     }
@@ -169,6 +203,25 @@ static inline void spot_write(uint8_t *bytes, struct spot s) {
 
 /* The length of the tour that begins with these four bytes. */
 static inline size_t spot_tour_len(const uint8_t *tour) { return spot_read_u32(tour); }
+
+/* The change in 13 bytes of a list, as spot_read_message gives them. */
+static inline struct spot_change spot_read_change(const uint8_t *bytes) {
+    struct spot_change c;
+    c.kind = bytes[0] == SPOT_ADD ? SPOT_ADD : SPOT_WITHDRAW;
+    c.spot = spot_read(bytes + 1);
+    return c;
+}
+
+/* Writes the change to 13 bytes of a list, as spot_write_message takes them; the track of a withdrawal is left out. */
+static inline void spot_write_change(uint8_t *bytes, struct spot_change c) {
+    bytes[0] = (uint8_t)c.kind;
+    if (c.kind != SPOT_ADD) c.spot.track = 0;
+    spot_write(bytes + 1, c.spot);
+}
+
+/* The length of the message that begins with these seven bytes, and the number of its changes. */
+static inline size_t spot_message_len(const uint8_t *message) { return spot_read_u32(message); }
+static inline size_t spot_message_changes(const uint8_t *message) { return (size_t)message[5] << 8 | message[6]; }
 
 /* Whether a read map of 512 bytes marks the block: the bit of value 2^(block mod 8) in byte block div 8. No block from 4,096 on is marked. */
 static inline int spot_marked(const uint8_t *map, size_t block) {
@@ -220,6 +273,20 @@ uint64_t spot_withdraw(uint8_t *table, size_t table_len, uint8_t *work, size_t w
 
 /* Lays the live spots out anew: no change waits in the table then. */
 uint64_t spot_rebuild(uint8_t *table, size_t table_len, uint8_t *work, size_t work_len);
+
+/* Applies a message: its changes one after another, as spot_add and spot_withdraw would, or none of them. Of several changes to one place and rank the last decides. If one would be
+ * turned down, the table stays as it was, and the number is that one's, with its position from 0 as detail: 4 for the first addition that finds no room, judged on the spots as the
+ * changes before it leave them, even if all would fit in the end. The slice is the message and nothing behind it: message_len is the length in its first four bytes. Asked in this
+ * order: 1, 2 (the work area), 8, 9 with a position, 3, 4 with a position. After 4, 8 and 9 the work area is as it was, too. */
+uint64_t spot_apply(uint8_t *table, size_t table_len, uint8_t *work, size_t work_len, const uint8_t *message, size_t message_len);
+
+/* The message of up to 4,096 changes, SPOT_CHANGE_BYTES each (spot_write_change). It stands at the front of the lent bytes, 7 bytes and 13 for each addition and 9 for each withdrawal
+ * (spot_message_len); those behind it stay as they were. Asked in this order: 8, 2 (the message finds no room), 9 with a position. */
+uint64_t spot_write_message(const uint8_t *changes, size_t changes_len, uint8_t *message, size_t message_len);
+
+/* The changes of a message, SPOT_CHANGE_BYTES each (spot_read_change), spot_message_changes of them, at the front of the lent bytes; those behind them stay as they were. The slice is
+ * the message and nothing behind it. Asked in this order: 8, 2 (the changes find no room), 9 with a position. */
+uint64_t spot_read_message(const uint8_t *message, size_t message_len, uint8_t *changes, size_t changes_len);
 
 /* Presses a tour, a read-only table for a show that is hung once: up to 512 spots, 12 bytes each as spot_report gives them, strictly rising in place order (by place, then by
  * rank). At least SPOT_TOUR_BYTES are lent. The tour stands at their front: 1 block for no spots, else 2 for each 64 spots or part of them, 16 at most; its first four bytes are

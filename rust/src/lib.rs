@@ -1,7 +1,7 @@
-//! Safe Rust over the proved spot table: up to 65,520 spots (a place, a rank, a track) in lent memory; and pressed tours, read-only tables of up
-//! to 512 spots.
+//! Safe Rust over the proved spot table: up to 65,520 spots (a place, a rank, a track) in lent memory; messages, lists of changes to a table; and pressed tours, read-only tables
+//! of up to 512 spots.
 //!
-//! [`Table`] and [`Tour`] answer with `Result`; the twelve functions of the crate ([`format`], [`add`], ...) give the library's own [`Answer`]. Every call ends on any bytes and
+//! [`Table`], [`Message`] and [`Tour`] answer with `Result`; the fifteen functions of the crate ([`format`], [`add`], ...) give the library's own [`Answer`]. Every call ends on any bytes and
 //! arguments, touches only what it was lent, and allocates nothing; a refused call changes no byte but its work area (see [`Refusal`]). Places lie from [`LOWEST_PLACE`] to
 //! [`HIGHEST_PLACE`]; the ends of a range may be any numbers.
 //!
@@ -25,13 +25,18 @@
 #![no_std]
 #![warn(missing_docs)]
 
+mod message;
 mod raw;
 mod refusal;
 mod spots;
 mod table;
 mod tour;
 
-pub use raw::{add, check, count, format, press, rebuild, report, report_many, top, top_within, tour_report, withdraw, Answer};
+pub use message::{changes, message_len, Change, Changes, Message, MessageRefusal};
+pub use raw::{
+    add, apply, check, count, format, press, read_message, rebuild, report, report_many, top, top_within, tour_report, withdraw,
+    write_message, Answer,
+};
 pub use refusal::Refusal;
 pub use spots::{marked, reports, spots, Blocks, Range, ReadMap, Reports, Spot, Spots, Within};
 pub use table::Table;
@@ -59,8 +64,14 @@ pub const TOUR: usize = TOUR_BLOCKS * BLOCK;
 pub const TOUR_BLOCKS: usize = 16;
 /// The most spots of a tour.
 pub const TOUR_SPOTS: usize = 512;
+/// The most changes of a message.
+pub const MOST_CHANGES: usize = 4096;
+/// Bytes of a change in a list: a kind, 1 for an addition or 2 for a withdrawal, and the spot, with zeros for the track of a withdrawal.
+pub const CHANGE: usize = 13;
+/// Bytes of the longest message: 4,096 additions.
+pub const MESSAGE: usize = 7 + MOST_CHANGES * CHANGE;
 /// Bytes of stack that suffice for every call: the largest figure of `include/spot_table.h`, which `measure/stack` holds against the built archive.
-pub const STACK: usize = 245_760;
+pub const STACK: usize = 311_296;
 
 /// The spots that a table of this many bytes holds: 16 for each block after the first.
 pub const fn capacity(table_len: usize) -> usize {

@@ -55,6 +55,9 @@ extern "C" {
     fn spot_add(table: *mut u8, len: usize, work: *mut u8, work_len: usize, place: i32, rank: i32, track: u32) -> u64;
     fn spot_withdraw(table: *mut u8, len: usize, work: *mut u8, work_len: usize, place: i32, rank: i32) -> u64;
     fn spot_rebuild(table: *mut u8, len: usize, work: *mut u8, work_len: usize) -> u64;
+    fn spot_apply(table: *mut u8, len: usize, work: *mut u8, work_len: usize, message: *const u8, message_len: usize) -> u64;
+    fn spot_write_message(changes: *const u8, changes_len: usize, message: *mut u8, message_len: usize) -> u64;
+    fn spot_read_message(message: *const u8, message_len: usize, changes: *mut u8, changes_len: usize) -> u64;
     fn spot_press(spots: *const u8, spots_len: usize, tour: *mut u8, tour_len: usize) -> u64;
     fn spot_tour_report(
         tour: *const u8,
@@ -69,13 +72,14 @@ extern "C" {
     ) -> u64;
 }
 
-/// What a call answers: 0 with its detail, or one of the eight numbers of refusal.
+/// What a call answers: 0 with its detail, or one of the nine numbers of refusal.
 #[must_use = "the answer may be a refusal"]
 #[derive(Clone, Copy, Debug, PartialEq, Eq, Hash)]
 pub struct Answer {
     /// 0, or the number of the refusal.
     pub number: u32,
-    /// The number of spots for Report, Report of many ranges, Top, Top within an allowance, Report of a tour and Count, 1 or 0 for Check, how many spots there are after refusal 5, else 0.
+    /// The number of spots for Report, Report of many ranges, Top, Top within an allowance, Report of a tour and Count, 1 or 0 for Check, how many spots there are after
+    /// refusal 5, the position of a change after 4 and 9 of a message, else 0.
     pub detail: u32,
 }
 
@@ -85,7 +89,7 @@ impl Answer {
         Answer { number, detail }
     }
 
-    /// The detail of an accepted call, or the refusal.
+    /// The detail of an accepted call, or the refusal; the position of a change is in `detail`.
     ///
     /// ```
     /// use spot_table::{count, format, Answer, Refusal};
@@ -97,11 +101,11 @@ impl Answer {
     ///
     /// # Panics
     ///
-    /// Where the number is one that no call answers: 8, or over 9.
+    /// Where the number is one that no call answers: over 9.
     pub fn result(self) -> Result<u32, Refusal> {
         match self.number {
             0 => Ok(self.detail),
-            number => Err(Refusal::new(number, self.detail).expect("a call answers 0 to 7, or 9")),
+            number => Err(Refusal::new(number, self.detail).expect("a call answers 0 to 9")),
         }
     }
 
@@ -237,6 +241,48 @@ pub fn withdraw(table: &mut [u8], work: &mut [u8], place: i32, rank: i32) -> Ans
 /// Lays the live spots out anew, with a work area of at least the table's length.
 pub fn rebuild(table: &mut [u8], work: &mut [u8]) -> Answer {
     Answer::unpack(unsafe { spot_rebuild(table.as_mut_ptr(), table.len(), work.as_mut_ptr(), work.len()) })
+}
+
+/// Applies a message, which is lent exactly, with a work area of at least the table's length: its changes one after another, as [`add`] and [`withdraw`] would, or none of them. If one
+/// would be turned down, the table stays as it was: 4, with the position, from 0, of the first addition that finds no room after the changes before it. 8 where the bytes are no
+/// message, then 9 with the position of the first change whose place lies outside the limits; both come before 3. After 4, 8 and 9 the work area is as it was, too.
+///
+/// ```
+/// use spot_table::{apply, count, format, message_len, write_message, Answer, Change, Spot};
+/// let (mut table, mut work) = ([0; 9 * 2048], [0; 9 * 2048]);
+/// assert_eq!(format(&mut table), Answer::new(0, 0));
+/// let changes = [Change::Add(Spot { place: 0, rank: 5, track: 1 }), Change::Withdraw { place: 0, rank: 6 }].map(Change::to_bytes).concat();
+/// let mut lent = [0; 100];
+/// assert_eq!(write_message(&changes, &mut lent), Answer::new(0, 0));
+/// let message = &lent[..message_len(&lent)];
+/// assert_eq!(apply(&mut table, &mut work, message), Answer::new(0, 0));
+/// assert_eq!(count(&table), Answer::new(0, 1));
+/// assert_eq!(apply(&mut table, &mut work, &message[1..]), Answer::new(8, 0));
+/// ```
+pub fn apply(table: &mut [u8], work: &mut [u8], message: &[u8]) -> Answer {
+    Answer::unpack(unsafe { spot_apply(table.as_mut_ptr(), table.len(), work.as_mut_ptr(), work.len(), message.as_ptr(), message.len()) })
+}
+
+/// The message of up to 4,096 changes of 13 bytes ([`Change::to_bytes`](crate::Change::to_bytes)). It stands at the front of the lent bytes, as long as its first four bytes say
+/// ([`message_len`](crate::message_len)), and the bytes behind it stay as they were. Asked in this order: 8 where the bytes are no list of changes, 2 where the message finds no room, 9
+/// with the position of the first change whose place lies outside the limits.
+pub fn write_message(changes: &[u8], message: &mut [u8]) -> Answer {
+    Answer::unpack(unsafe { spot_write_message(changes.as_ptr(), changes.len(), message.as_mut_ptr(), message.len()) })
+}
+
+/// The changes of a message, which is lent exactly: 13 bytes each ([`changes`](crate::changes)), at the front of the lent bytes; those behind them stay as they were. Asked in this order: 8
+/// where the bytes are no message, 2 where the changes find no room, 9 with the position of the first change whose place lies outside the limits.
+///
+/// ```
+/// use spot_table::{read_message, Answer};
+/// let message = [0, 0, 0, 16, 1, 0, 1, 2, 0, 0, 0, 240, 0, 0, 0, 7];
+/// let mut changes = [9; 14];
+/// assert_eq!(read_message(&message, &mut changes), Answer::new(0, 0));
+/// assert_eq!(changes, [2, 0, 0, 0, 240, 0, 0, 0, 7, 0, 0, 0, 0, 9]);
+/// assert_eq!(read_message(&message, &mut changes[..12]), Answer::new(2, 0));
+/// ```
+pub fn read_message(message: &[u8], changes: &mut [u8]) -> Answer {
+    Answer::unpack(unsafe { spot_read_message(message.as_ptr(), message.len(), changes.as_mut_ptr(), changes.len()) })
 }
 
 /// Presses a tour, a read-only table: up to 512 spots of 12 bytes ([`Spot::to_bytes`]), strictly rising by place, then by rank. At least [`TOUR`](crate::TOUR) bytes are lent; the tour

@@ -1,4 +1,4 @@
-use crate::{capacity, raw, reports, spots, Range, ReadMap, Refusal, Reports, Spot, Spots, Within};
+use crate::{capacity, raw, reports, spots, Message, MessageRefusal, Range, ReadMap, Refusal, Reports, Spot, Spots, Within};
 
 /// A table in bytes that are owned or borrowed: `Vec<u8>`, `&mut [u8]`, or `&[u8]` for reading alone.
 ///
@@ -190,6 +190,26 @@ impl<B: AsMut<[u8]>> Table<B> {
     /// Takes out the spot of this place and rank, if there is one; a place outside the limits is refused as for `add`. The work area is at least as long as the table.
     pub fn withdraw(&mut self, place: i32, rank: i32, work: &mut [u8]) -> Result<(), Refusal> {
         raw::withdraw(self.bytes.as_mut(), work, place, rank).result().map(drop)
+    }
+
+    /// Applies a message: its changes one after another, or, if any would be turned down, none. The refusal says which. The work area is at least as long as the table.
+    ///
+    /// ```
+    /// use spot_table::{Change, Message, MessageRefusal, Refusal, Spot, Table};
+    /// let mut work = vec![0; 9 * 2048];
+    /// let mut table = Table::format(vec![0; 9 * 2048]).unwrap();
+    /// let changes: Vec<_> = (0..129).map(|place| Change::Add(Spot { place, rank: 1, track: 7 })).collect();
+    /// let mut lent = vec![0; 2000];
+    /// let refused = table.apply(&Message::write(&changes, &mut lent)?, &mut work).unwrap_err();
+    /// assert_eq!((refused.refusal, refused.position), (Refusal::Full, Some(128)));
+    /// assert_eq!(table.count(), Ok(0));
+    ///
+    /// table.apply(&Message::write(&changes[..128], &mut lent)?, &mut work)?;
+    /// assert_eq!(table.count(), Ok(128));
+    /// # Ok::<(), MessageRefusal>(())
+    /// ```
+    pub fn apply<M: AsRef<[u8]>>(&mut self, message: &Message<M>, work: &mut [u8]) -> Result<(), MessageRefusal> {
+        message.apply(self.bytes.as_mut(), work)
     }
 
     /// Lays the live spots out anew: no change waits then. The work area is at least as long as the table.

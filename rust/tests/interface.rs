@@ -4,14 +4,14 @@ use spot_table::*;
 
 #[test]
 fn refusals() {
-    for number in [1, 2, 3, 4, 5, 6, 7, 9] {
+    for number in 1..=9 {
         let r = Refusal::new(number, 7).unwrap();
         assert_eq!((r.number(), r.detail()), (number, if number == 5 { 7 } else { 0 }));
         assert_eq!(Answer::new(number, 7).result(), Err(r));
         let e: &dyn std::error::Error = &r;
         assert!(!e.to_string().is_empty());
     }
-    assert_eq!([0, 8, 10, u32::MAX].map(|number| Refusal::new(number, 0)), [None; 4]);
+    assert_eq!([0, 10, u32::MAX].map(|number| Refusal::new(number, 0)), [None; 3]);
     assert_eq!(Answer::new(0, 9).result(), Ok(9));
     assert_eq!(Table::format(vec![0; 8 * BLOCK]).unwrap_err(), Refusal::TableLength);
     let mut table = Table::format(vec![0; 9 * BLOCK]).unwrap();
@@ -24,6 +24,36 @@ fn refusals() {
     assert_eq!(table.add(beyond, &mut work), Err(Refusal::PlaceOutside));
     assert_eq!(table.withdraw(LOWEST_PLACE - 1, 7, &mut work), Err(Refusal::PlaceOutside));
     assert_eq!(table.add(beyond, &mut work[1..]), Err(Refusal::LentLength));
+}
+
+#[test]
+fn messages() {
+    let spot = |place| Spot { place, rank: 7, track: 1 };
+    let changes = [Change::Add(spot(0)), Change::Withdraw { place: 240, rank: -1 }, Change::Add(spot(HIGHEST_PLACE))];
+    assert_eq!(changes.map(Change::identity), [(0, 7), (240, -1), (HIGHEST_PLACE, 7)]);
+    assert!(changes.iter().all(|c| Change::read(&c.to_bytes()) == Some(*c)));
+    assert_eq!([[0; CHANGE], [2; CHANGE], [3; CHANGE]].map(|row| Change::read(&row)), [None; 3]);
+    let mut lent = [9; 50];
+    let message = Message::write(&changes, &mut lent).unwrap().bytes().to_vec();
+    assert_eq!((message.len(), message_len(&lent), &lent[42..]), (42, 42, &[9; 8][..]));
+    let (message, mut list) = (Message::new(message), [9; 3 * CHANGE + 1]);
+    let read = message.read(&mut list).unwrap();
+    assert_eq!((read.len(), read.clone().collect::<Vec<_>>()), (3, changes.to_vec()));
+    assert_eq!((list[3 * CHANGE], message.clone().into_bytes().len()), (9, 42));
+    let refused = |refusal, position| MessageRefusal { refusal, position };
+    assert_eq!(message.read(&mut list[..38]).unwrap_err(), refused(Refusal::LentLength, None));
+    assert_eq!(Message::new(&message.bytes()[..41]).read(&mut list).unwrap_err(), refused(Refusal::NotAMessage, None));
+    let mut work = vec![0; 9 * BLOCK];
+    let mut table = Table::format(vec![0; 9 * BLOCK]).unwrap();
+    assert_eq!((table.apply(&message, &mut work), table.count()), (Ok(()), Ok(2)));
+    assert_eq!(table.apply(&message, &mut work[1..]), Err(refused(Refusal::LentLength, None)));
+    assert_eq!(Table::new([9; 9 * BLOCK]).apply(&message, &mut work), Err(refused(Refusal::Broken, None)));
+    let beyond = [changes[0], Change::Add(spot(HIGHEST_PLACE + 1))];
+    let outside = Message::write(&beyond, &mut lent).unwrap_err();
+    assert_eq!(outside, refused(Refusal::PlaceOutside, Some(1)));
+    assert_eq!(outside.to_string(), std::format!("the change at position 1, from 0: {}", Refusal::PlaceOutside));
+    assert_eq!(refused(Refusal::Broken, None).to_string(), Refusal::Broken.to_string());
+    assert_eq!(Refusal::from(outside), Refusal::PlaceOutside);
 }
 
 #[test]
@@ -112,13 +142,17 @@ fn header() {
         ("TOUR_BYTES", TOUR),
         ("TOUR_BLOCKS", TOUR_BLOCKS),
         ("TOUR_SPOTS", TOUR_SPOTS),
+        ("MOST_CHANGES", MOST_CHANGES),
+        ("CHANGE_BYTES", CHANGE),
+        ("MESSAGE_BYTES", MESSAGE),
     ] {
         has(&std::format!("#define SPOT_{name} {value}\n"));
     }
     has(&std::format!("#define SPOT_LOWEST_PLACE ({LOWEST_PLACE})\n#define SPOT_HIGHEST_PLACE {HIGHEST_PLACE}\n"));
     has(&std::format!("SPOT_NOT_PRESSABLE = {},\n", Refusal::NotPressable.number()));
+    has(&std::format!("SPOT_NOT_A_MESSAGE = {},\n", Refusal::NotAMessage.number()));
     has(&std::format!("SPOT_PLACE_OUTSIDE = {}\n", Refusal::PlaceOutside.number()));
-    for number in [1, 2, 3, 4, 6, 7, 9] {
+    for number in [1, 2, 3, 4, 6, 7, 8, 9] {
         has(&std::format!("return \"{}\";", Refusal::new(number, 0).unwrap()));
     }
 }
@@ -143,6 +177,12 @@ fn stack() {
         assert_eq!(table.top_within(1, 0, u32::MAX, u32::MAX, &mut output, &mut map).unwrap().spots.len(), 2999);
         let (ranges, mut counts, mut output) = ([Range { x1: 1, x2: 0, y: i32::MIN }; 64], [0; 64], vec![0; 64 * 2999 * SPOT]);
         assert_eq!(table.report_many(&ranges, &mut counts, &mut output, &mut map).unwrap().all().len(), 64 * 2999);
+        let changes: Vec<Change> = (0..4096).map(|i| Change::Add(Spot { place: 7919 * i % 4096, rank: i, track: 0 })).collect();
+        let (mut lent, mut list) = (vec![0; MESSAGE], vec![0; CHANGE * MOST_CHANGES]);
+        let message = Message::write(&changes, &mut lent).unwrap();
+        assert_eq!(message.read(&mut list).unwrap().len(), 4096);
+        table.apply(&message, &mut work).unwrap();
+        table.apply(&Message::write(&changes[..1], &mut vec![0; MESSAGE]).unwrap(), &mut work).unwrap();
         let spots: Vec<Spot> = (0..512).map(|i| Spot { place: i, rank: 37 * i % 512, track: 0 }).collect();
         let mut lent = vec![0; TOUR];
         let tour = Tour::press(&spots, &mut lent).unwrap();

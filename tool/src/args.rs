@@ -22,6 +22,8 @@ The spots usually stand in a spreadsheet with columns named place, rank and trac
   spotcard report show.card 0 2400 5       what is heard from 0 to 2400 cm with rank 5 or more
   spotcard picture show.card -o show.svg   a picture to look at
   spotcard check show.card                 whether the card is sound
+  spotcard send old.csv new.csv -o monday  the changes from one sheet to the next, to be sent to the guides
+  spotcard apply show.card monday          all of these changes, or none
   spotcard press sheet.csv -o show.tour    a small card that is never changed, of up to 512 spots
 
 A card is changed as one: whatever happens in between, the file is the old card or the new one. Beside it stand show.card.sha256, by which \
@@ -35,6 +37,11 @@ const IMPORT_EXAMPLES: &str = "\
 Examples:
   spotcard import sheet.csv show.card             add all rows
   spotcard import sheet.csv show.card --replace   exactly the rows of the sheet";
+
+const SEND_EXAMPLES: &str = "\
+Examples:
+  spotcard send old.csv new.csv -o monday.changes
+  spotcard apply show.card monday.changes      on every card that holds the spots of old.csv";
 
 const REPORT_EXAMPLES: &str = "\
 Examples:
@@ -125,6 +132,41 @@ pub enum Command {
         /// As CSV: only_in, place, rank, track, line
         #[arg(long)]
         csv: bool,
+    },
+    /// Write the changes that turn one sheet into another, as they are sent to the guides
+    ///
+    /// First stand the withdrawals of the spots that only the old sheet has, then the additions of those that are new or have another track. Both sheets are judged as `import`
+    /// judges them.
+    ///
+    /// The file is a message of up to 4,096 changes, or several one behind the other if there are more. It says neither who sent it nor whether it was changed on the way: whoever sends
+    /// it signs it.
+    #[command(after_help = SEND_EXAMPLES)]
+    Send {
+        /// The sheet of the spots that the cards hold now
+        #[arg(value_name = "OLD.csv")]
+        old: PathBuf,
+        /// The sheet of those that they shall hold
+        #[arg(value_name = "NEW.csv")]
+        new: PathBuf,
+        /// The file of changes
+        #[arg(short, long, value_name = "CHANGES")]
+        output: PathBuf,
+        /// Replace the file if it exists
+        #[arg(long)]
+        force: bool,
+    },
+    /// Carry out a file of changes on a card: all of them or none
+    ///
+    /// The changes are carried out in their order: an addition puts its spot in the place of one of the same place and rank, and a withdrawal of a spot that is not there changes nothing. If
+    /// one finds no room, it is named, and the card stays as it is.
+    #[command(after_help = "Example: spotcard apply show.card monday.changes")]
+    Apply {
+        /// The card
+        card: PathBuf,
+        /// The file of changes, as `send` writes it
+        changes: PathBuf,
+        #[command(flatten)]
+        wait: Wait,
     },
     /// Put one spot on a card; one of the same place and rank is replaced
     #[command(after_help = "Example: spotcard add show.card 2400 7 51         at 24 metres, rank 7, track 51")]

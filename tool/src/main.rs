@@ -2,6 +2,7 @@
 
 mod args;
 mod card;
+mod changes;
 mod commands;
 mod digest;
 mod lock;

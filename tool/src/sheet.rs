@@ -94,8 +94,8 @@ fn text_of(bytes: &[u8]) -> Result<&[u8], String> {
     Err(format!("{what} {SAVE}"))
 }
 
-/// Whether someone named the card where the sheet belongs: a card begins with its own length.
-fn is_card(bytes: &[u8]) -> bool {
+/// Whether someone named the card where another file belongs: a card begins with its own length.
+pub fn is_card(bytes: &[u8]) -> bool {
     let length = bytes.len() as u64;
     is_length(length) && bytes.starts_with(&(length as u32).to_be_bytes())
 }

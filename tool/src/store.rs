@@ -1,8 +1,8 @@
-//! The proved calls, over a table or a pressed tour in memory. No other module knows the library.
+//! The proved calls, over a table, a message or a pressed tour in memory. No other module knows the library.
 
 use crate::spot::{Key, Spot};
-use spot_table::{Answer, Range, MAP, MOST_RANGES, SPOT, TOUR, TOUR_BLOCKS};
-pub use spot_table::{BLOCK, HIGHEST_PLACE, LOWEST_PLACE, TOUR_SPOTS};
+use spot_table::{Answer, Range, CHANGE, MAP, MESSAGE, MOST_RANGES, SPOT, TOUR, TOUR_BLOCKS};
+pub use spot_table::{BLOCK, HIGHEST_PLACE, LOWEST_PLACE, MOST_CHANGES, TOUR_SPOTS};
 use std::collections::BTreeSet;
 
 pub const LEAST_BLOCKS: usize = 9;
@@ -10,7 +10,7 @@ pub const MOST_BLOCKS: usize = 4096;
 /// Capacity: spots for each block after block 0.
 pub const SPOTS_A_BLOCK: usize = 16;
 
-/// A call takes 240 KB of stack at most (`spot_table::STACK`); the rest is room for the thread itself.
+/// A call takes 304 KB of stack at most (`spot_table::STACK`); the rest is room for the thread itself.
 const STACK: usize = 8 << 20;
 
 /// The library's numbers of refusal.
@@ -30,6 +30,8 @@ pub enum Refusal {
     Ranges,
     #[error("a tour takes up to 512 spots in place order; this is a mistake in spotcard, please report it")]
     NotPressable,
+    #[error("these bytes are no message")]
+    NotAMessage,
     #[error("a place has to lie from {LOWEST_PLACE} to {HIGHEST_PLACE} cm")]
     Place,
 }
@@ -44,8 +46,14 @@ fn accepted(answer: Answer) -> Result<usize, Refusal> {
         5 => Err(Refusal::Room),
         6 => Err(Refusal::Ranges),
         7 => Err(Refusal::NotPressable),
+        8 => Err(Refusal::NotAMessage),
         _ => Err(Refusal::Place),
     }
+}
+
+/// The same of changes: a refusal comes with the position of the first change to which it applies, or 0.
+fn accepted_changes(answer: Answer) -> Result<(), (Refusal, usize)> {
+    accepted(answer).map(|_| ()).map_err(|refusal| (refusal, answer.detail as usize))
 }
 
 /// What a Report or a Top gives: the spots in its order, and the blocks that it read.
@@ -114,6 +122,11 @@ impl Table {
         accepted(spot_table::withdraw(bytes, work, key.place, key.rank)).map(|_| ())
     }
 
+    /// All changes of the message, or none and the position of the first that is turned down.
+    pub fn apply(&mut self, message: &Message) -> Result<(), (Refusal, usize)> {
+        accepted_changes(spot_table::apply(&mut self.bytes, &mut self.work, &message.bytes))
+    }
+
     pub fn rebuild(&mut self) -> Result<(), Refusal> {
         accepted(spot_table::rebuild(&mut self.bytes, &mut self.work)).map(|_| ())
     }
@@ -164,6 +177,63 @@ impl Table {
     /// A call that gives no spot more often than so many times.
     fn ask(&self, times: usize, call: impl FnOnce(&[u8], &mut [u8], &mut [u8]) -> Answer) -> Result<Found, Refusal> {
         ask(&self.bytes, self.capacity() * times, call)
+    }
+}
+
+/// A spot that is put on a card, or one that is taken off.
+#[derive(Clone, Copy, Debug, PartialEq, Eq)]
+pub enum Change {
+    Add(Spot),
+    Withdraw(Key),
+}
+
+impl std::fmt::Display for Change {
+    fn fmt(&self, f: &mut std::fmt::Formatter) -> std::fmt::Result {
+        match self {
+            Change::Add(spot) => write!(f, "add {} track {}", spot.key(), spot.track),
+            Change::Withdraw(key) => write!(f, "withdraw {key}"),
+        }
+    }
+}
+
+/// The bytes of a message without changes.
+pub const MESSAGE_HEAD: usize = 7;
+
+/// A message in memory, and its changes.
+#[derive(Debug)]
+pub struct Message {
+    bytes: Vec<u8>,
+    pub changes: Vec<Change>,
+}
+
+impl Message {
+    /// The message of up to `MOST_CHANGES` changes.
+    pub fn write(changes: &[Change]) -> Result<Message, Refusal> {
+        let row = |c: &Change| match *c {
+            Change::Add(Spot { place, rank, track }) => spot_table::Change::Add(spot_table::Spot { place, rank, track }),
+            Change::Withdraw(Key { place, rank }) => spot_table::Change::Withdraw { place, rank },
+        };
+        let list: Vec<u8> = changes.iter().flat_map(|c| row(c).to_bytes()).collect();
+        let mut bytes = vec![0; MESSAGE];
+        accepted(spot_table::write_message(&list, &mut bytes))?;
+        bytes.truncate(spot_table::message_len(&bytes));
+        Ok(Message { bytes, changes: changes.to_vec() })
+    }
+
+    /// The message in these bytes, if they are one; else the refusal with its position.
+    pub fn read(bytes: &[u8]) -> Result<Message, (Refusal, usize)> {
+        let mut list = vec![0; CHANGE * MOST_CHANGES];
+        accepted_changes(spot_table::read_message(bytes, &mut list))?;
+        let row = |c: spot_table::Change| match c {
+            spot_table::Change::Add(spot_table::Spot { place, rank, track }) => Change::Add(Spot { place, rank, track }),
+            spot_table::Change::Withdraw { place, rank } => Change::Withdraw(Key { place, rank }),
+        };
+        let count = usize::from(u16::from_be_bytes([bytes[5], bytes[6]]));
+        Ok(Message { bytes: bytes.to_vec(), changes: spot_table::changes(&list, count).map(row).collect() })
+    }
+
+    pub fn bytes(&self) -> &[u8] {
+        &self.bytes
     }
 }
 

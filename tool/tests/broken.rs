@@ -55,7 +55,7 @@ impl Node {
 
 /// A card with waiting changes in an inner root that has a full P.
 fn card(f: &Folder) -> Vec<u8> {
-    f.card("a.card", 128, &spots(1500, 5));
+    f.waiting_card("a.card", 128, &spots(1500, 5));
     let bytes = f.read("a.card");
     let root = Node::root(&bytes);
     assert!(root.children >= 2 && root.points > 32 && root.inserts > 0);

@@ -313,7 +313,7 @@ fn agree_with_a_plain_list(f: &Folder, card: &str, mut all: Vec<(i32, i32, u32)>
 #[test]
 fn info_and_rebuild_tell_what_waits() {
     let f = Folder::new();
-    f.card("a.card", 128, &spots(1500, 5));
+    f.waiting_card("a.card", 128, &spots(1500, 5));
     let info = f.run(&["info", "a.card"]).exit(0).says("1,500 of 2,032").says("additions and").says("levels").out;
     assert!(info.contains("128 of 2,048 bytes (262,144 bytes)"), "{info}");
     let before = f.run(&["export", "a.card"]).out;

@@ -9,6 +9,7 @@ const GUIDE: &str = include_str!("../../docs/CARDS.md");
 fn the_guide_prints_what_the_program_prints() {
     let f = Folder::new();
     f.write("route.csv", include_str!("../sample/route.csv"));
+    f.write("monday.csv", include_str!("../sample/monday.csv"));
     let mut lines = GUIDE.lines().peekable();
     let mut commands = 0;
     while let Some(line) = lines.next() {
@@ -28,5 +29,5 @@ fn the_guide_prints_what_the_program_prints() {
             assert_eq!(ran.out.lines().collect::<Vec<_>>(), printed, "{command}");
         }
     }
-    assert!(commands >= 9, "{commands} commands");
+    assert!(commands >= 17, "{commands} commands");
 }

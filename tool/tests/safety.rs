@@ -35,7 +35,7 @@ fn kill_at_random(f: &Folder, args: &[&str], rounds: usize, seed: u64) -> (usize
         long = long.min(begun.elapsed().as_micros() as u64);
     }
     let new = f.read("a.card");
-    assert_ne!(old[0], new);
+    assert!(old[0] != new);
     let mut random = Random(seed);
     let (mut olds, mut news, mut midst) = (0, 0, 0);
     for _ in 0..rounds {
@@ -68,9 +68,13 @@ fn killed_at_any_moment_the_card_is_the_old_or_the_new_one() {
     f.card("a.card", 256, &spots(2000, 5));
     f.write("new.csv", sheet(&spots(1000, 6)));
     let (olds, news, midst) = kill_at_random(&f, &["import", "new.csv", "a.card", "--replace"], 100, 11);
+    f.run(&["add", "a.card", "5", "-1", "5"]).exit(0);
     let (olds2, news2, midst2) = kill_at_random(&f, &["rebuild", "a.card"], 100, 12);
-    println!("import: old {olds}, new {news}; rebuild: old {olds2}, new {news2}; while replacing: {midst} and {midst2}");
-    assert!(olds > 0 && olds2 > 0);
+    f.write("other.csv", sheet(&spots(1500, 7)));
+    f.run(&["send", "new.csv", "other.csv", "-o", "m.changes"]).exit(0);
+    let (olds3, news3, midst3) = kill_at_random(&f, &["apply", "a.card", "m.changes"], 100, 13);
+    println!("import: old {olds}, new {news}; rebuild: old {olds2}, new {news2}; apply: old {olds3}, new {news3}; while replacing: {midst}, {midst2}, {midst3}");
+    assert!(olds > 0 && olds2 > 0 && olds3 > 0);
     f.run(&["check", "a.card"]).exit(0);
 }
 
@@ -132,7 +136,7 @@ fn readers_meet_whole_cards_while_writers_write() {
 #[test]
 fn a_file_that_may_not_grow_leaves_the_card_as_it_was() {
     let f = Folder::new();
-    f.card("a.card", 256, &spots(300, 5));
+    f.waiting_card("a.card", 256, &spots(300, 5));
     let before = ["a.card", "a.card.sha256"].map(|name| f.read(name));
     // Half of the card's length, in the shell's units of 512 bytes.
     let limit = 256 * BLOCK / 512 / 2;

@@ -2,7 +2,8 @@
 ghost use mathlib.Core.Path.{_≡_};
 ghost use Prim.Native.Nat.{_+_, _*_};
 ghost use Rattle.table.specs.Queries.{ReportPost, ManyPost, TopPost, TopWithinPost, CountPost, CheckPost};
-ghost use Rattle.table.specs.Updates.{FormatPost, AddPost, WithdrawPost, RebuildPost};
+ghost use Rattle.table.specs.Updates.{FormatPost, AddPost, WithdrawPost, RebuildPost, ApplyPost};
+ghost use Rattle.message.specs.Messages.{WritePost, ReadPost};
 ghost use Rattle.press.specs.Press.{PressPost};
 ghost use Rattle.tour.specs.Tour.{TourPost};
 ghost use Rattle.cabi.specs.Packed.{Packed};
@@ -87,6 +88,27 @@ pub extern "C" fn spot_rebuild(table: &mut [u8], scratch: &mut [u8]) -> u64
     ensures { λ r. ⌜ Packed r (λ a. RebuildPost (now (table .entry)) (now (scratch .entry)) a (now (table .exit)) (now (scratch .exit))) ⌝ }
 {
     pack(table::rebuild(table, scratch))
+}
+
+#[no_mangle]
+pub extern "C" fn spot_apply(table: &mut [u8], scratch: &mut [u8], message: &[u8]) -> u64
+    ensures { λ r. ⌜ Packed r (λ a. ApplyPost (now (message .entry)) (now (table .entry)) (now (scratch .entry)) a (now (table .exit)) (now (scratch .exit))) ⌝ }
+{
+    pack(apply::apply(table, scratch, message))
+}
+
+#[no_mangle]
+pub extern "C" fn spot_write_message(changes: &[u8], message: &mut [u8]) -> u64
+    ensures { λ r. ⌜ Packed r (λ a. WritePost (now (changes .entry)) (now (message .entry)) a (now (message .exit))) ⌝ }
+{
+    pack(message::write_message(changes, message))
+}
+
+#[no_mangle]
+pub extern "C" fn spot_read_message(message: &[u8], changes: &mut [u8]) -> u64
+    ensures { λ r. ⌜ Packed r (λ a. ReadPost (now (message .entry)) (now (changes .entry)) a (now (changes .exit))) ⌝ }
+{
+    pack(message::read_message(message, changes))
 }
 
 #[no_mangle]

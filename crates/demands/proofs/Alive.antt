@@ -1,7 +1,7 @@
 -- The live spots of a sound table as spots in whole numbers: which they are, each once, and in the two orders.
 -- Assumes nothing.
 use mathlib.Core.Path.{_≡_, refl, ap, ap₂, sym, subst, _∙_}
-use mathlib.Core.Logic.{⊎-elim}
+use mathlib.Core.Logic.{⊎-elim, _↔_}
 use mathlib.Core.Bool.{Bool, true}
 use mathlib.Core.List.{List, [], _∷_, map, List·Memᴰ, List·Memᴰ·head, List·Memᴰ·tail, List·Memᴰ·not-nil, List·Memᴰ·cases-cons}
 use mathlib.Core.Option.{some, Option·some-ne-none, Option·some-injective}
@@ -305,6 +305,26 @@ higher-apart x y f g a b =
     let m = ltb-true (tk (toKeySpot x)) (tk (toKeySpot y)) (sym (top-is y x g f) ∙ b) in
     omega arith
 
+-- ---- a list of spots as a set
+
+-- what is found is in the list
+pub find-listed : (ss : List Spot) → risingFrom 0 (keys ss) ≡ true → (s : Spot) → find (s .key) ss ≡ some (s .track) → List·Memᴰ s ss
+find-listed ss up s found =
+    let r = keys-from ss (find-mem (s .key) ss found) in
+    let same : s .track ≡ r .0 .track = Option·some-injective _ _ (sym found ∙ ap (λ (k : ℕ). find k ss) (r .2) ∙ find-member 0 ss up (r .1)) in
+    subst (λ (x : Spot). List·Memᴰ x ss) (sym (spot-eq s (r .0) (r .2) same)) (r .1)
+
+-- however a set is listed in place order, there are so many
+pub listed-count : (ss : List Spot) (L : PlainSpot → Type 0) → InOrder placeBefore (plain ss) → ((s : PlainSpot) → List·Memᴰ s (plain ss) ↔ L s) → ((s : PlainSpot) → L s → SpotFits s)
+    → (xs : List PlainSpot)
+    → InOrder placeBefore xs
+    → ((s : PlainSpot) → List·Memᴰ s xs ↔ L s)
+    → length xs ≡ length ss
+listed-count ss L up all fits xs o each =
+    ap length
+    (same-order placeBefore SpotFits before-apart xs (plain ss) o up (λ s i. let h = each s .0 i in (all s .1 h, fits s h)) (λ s i. each s .1 (all s .0 i)))
+    ∙ plain-length ss
+
 -- ---- a sound table
 
 pub alive-fits : (t : List ℕ) (s : PlainSpot) → LiveSpot t s → SpotFits s
@@ -321,12 +341,7 @@ module _ (t : List ℕ) (g : sound t ≡ true) where
   listed-live s i = sym (live-finds t g (s .key)) ∙ find-member 0 (liveSpots t) (live-rises t g) i
 
   live-listed : (s : Spot) → live t (s .key) ≡ some (s .track) → List·Memᴰ s (liveSpots t)
-  live-listed s e =
-      let found = live-finds t g (s .key) ∙ e in
-      let r = keys-from (liveSpots t) (find-mem (s .key) (liveSpots t) found) in
-      let same : s .track ≡ r .0 .track =
-      Option·some-injective _ _ (sym found ∙ ap (λ (k : ℕ). find k (liveSpots t)) (r .2) ∙ find-member 0 (liveSpots t) (live-rises t g) (r .1)) in
-      subst (λ (x : Spot). List·Memᴰ x (liveSpots t)) (sym (spot-eq s (r .0) (r .2) same)) (r .1)
+  live-listed s e = find-listed (liveSpots t) (live-rises t g) s (live-finds t g (s .key) ∙ e)
 
   pub lives-small : Small (liveSpots t)
   lives-small s i = live-small (s .key) (s .track) (listed-live s i)
@@ -362,9 +377,4 @@ module _ (t : List ℕ) (g : sound t ≡ true) where
 
   -- however they are listed, there are so many
   pub live-count : (ss : List PlainSpot) → AllLive t ss → length ss ≡ length (liveSpots t)
-  live-count ss h =
-      ap length
-      (same-order placeBefore SpotFits before-apart ss (plain (liveSpots t)) (h .rise) (all-live .rise)
-      (λ s i. let l = h .each s .0 i in (all-live .each s .1 l, alive-fits t s l))
-      (λ s i. h .each s .1 (all-live .each s .0 i)))
-      ∙ plain-length (liveSpots t)
+  live-count ss h = listed-count (liveSpots t) (LiveSpot t) (all-live .rise) (all-live .each) (alive-fits t) ss (h .rise) (h .each)

@@ -27,8 +27,8 @@ use Rattle.within_theory.specs.Reading.{reading, givenOf}
 use Rattle.within_theory.proofs.Certain.{within-once}
 use Rattle.ranges.specs.declared.Range.{Range}
 use Rattle.report.specs.Joined.{reportOf}
-use Rattle.table.specs.Calls.{Call, format, add, withdraw, report, top, count, check, rebuild, reportMany, topWithin, queries, Lengths, rangeFits, argumentsFit}
-use Rattle.demands.specs.Model.{Plain, PlainSpot, Reply, begunEmpty, outputAfter, countsAfter, refuse, accept, badTable, badLent, tooMany, changesOutside, handOut, ownReply, reply, toldCall, highest}
+use Rattle.table.specs.Calls.{Call, format, add, withdraw, report, top, count, check, rebuild, reportMany, topWithin, apply, queries, Lengths, rangeFits, argumentsFit}
+use Rattle.demands.specs.Model.{Plain, PlainSpot, Reply, begunEmpty, outputAfter, countsAfter, refuse, accept, badTable, badLent, tooMany, noMessage, changesOutside, handOut, ownReply, reply, toldCall, highest}
 use Rattle.demands.specs.TopMarks.{MarksFew}
 use Rattle.demands.specs.History.{Event, MetBy, History, Agreed, FullExactly, MarksExactly, UnionMarked, TopMarksFew, SaidWithin, WithinSaid, TopReached, AllAgreed, Demand3, lengthsIn, certainIn, replyIn, modelAfter}
 use Rattle.tree.proofs.Fresh.{fresh-sized, fresh-sound, fresh-empty}
@@ -117,7 +117,7 @@ union-marked c t e s a p rs q z b l =
 -- an accepted Top of the model gives the highest
 gives-highest : (l : Lengths) (x1 x2 : ℤ) (k : ℕ) (ps : Plain) → reply l (top x1 x2 k) ps .answer .number ≡ 0
     → reply l (top x1 x2 k) ps .given ≡ highest x1 x2 k (ps .spots)
-unfolding reply tooMany changesOutside ownReply handOut refuse accept
+unfolding reply tooMany noMessage changesOutside ownReply handOut refuse accept
 gives-highest l x1 x2 k ps = go (badTable (l .table)) (badLent l queries) (ltb (l .output / 12) (length (highest x1 x2 k (ps .spots))))
   where
     found : List PlainSpot
@@ -174,6 +174,7 @@ told-fits count t h = h
 told-fits check t h = h
 told-fits rebuild t h = h
 told-fits (reportMany rs) t h = h
+told-fits (apply m) t h = h
 told-fits (topWithin x1 x2 k a) t h =
     let n = length (givenOf k (reading t x1 x2 k a)) in
     let b = and-left (signed32 x1 && signed32 x2 && unsigned32 k) (unsigned32 a) h in
@@ -182,7 +183,7 @@ told-fits (topWithin x1 x2 k a) t h =
 
 -- equal spots make equal replies to a Top
 same-reply : (l : Lengths) (x1 x2 : ℤ) (n k : ℕ) (ps : Plain) → highest x1 x2 n (ps .spots) ≡ highest x1 x2 k (ps .spots) → reply l (top x1 x2 n) ps ≡ reply l (top x1 x2 k) ps
-unfolding reply changesOutside ownReply
+unfolding reply noMessage changesOutside ownReply
 same-reply l x1 x2 n k ps e =
     ap (λ (found : List PlainSpot). cond (badTable (l .table)) (refuse 1 0 ps)
     (cond (badLent l queries) (refuse 2 0 ps) (cond (tooMany queries) (refuse 6 0 ps) (handOut (l .output) found [] ps))))

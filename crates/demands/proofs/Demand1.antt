@@ -10,13 +10,13 @@ use native.Mathlib.Omega.{arith}
 use lib.Dec.{eqb, ltb}
 use lib.IntN.{ℤ, pos}
 use lib.ListN.{length}
-use borrow.Author.Tests.{ne-eqb, eqb-true}
+use borrow.Author.Tests.{ne-eqb, eqb-true, eqb-false}
 use Rattle.octets.specs.Lists.{every, has}
 use Rattle.octets.specs.Bitmap.{bit}
 use Rattle.octets.proofs.Lists.{mem-same}
 use Rattle.octets.proofs.Order.{same-or-not}
 use Rattle.octets.proofs.Sets.{has-mem}
-use Rattle.octets.proofs.Tests.{every-mem, every-make, or-left, or-right}
+use Rattle.octets.proofs.Tests.{every-mem, every-make, neither, or-left, or-right}
 use Rattle.spot.specs.declared.Spot.{Spot}
 use Rattle.spot.specs.Query.{query, wants}
 use Rattle.block.specs.declared.Answer.{Answer}
@@ -32,13 +32,16 @@ use Rattle.tree.proofs.Marks.{zero-marked}
 use Rattle.tree.proofs.Sources.{walk-sources, read-in-table, read-marked}
 use Rattle.ranges.specs.declared.Range.{Range}
 use Rattle.report.specs.Joined.{reportOf, joined, countsOf}
-use Rattle.table.specs.Calls.{Call, format, add, withdraw, report, top, count, check, rebuild, reportMany, topWithin, kind, isQuery, isCounting, hasCeiling, Lengths}
-use Rattle.table.specs.Answers.{ofTable, withScratch, withOutput, withCounts, lent, fewEnough, placeInside, earlyNumber, unlessRefused, spotsAnswer, outputLeft, countsLeft, outcomes}
+use Rattle.table.specs.Calls.{Call, format, add, withdraw, report, top, count, check, rebuild, reportMany, topWithin, apply, kind, isQuery, isCounting, hasCeiling, hasPosition, Lengths}
+use Rattle.table.specs.Answers.{ofTable, withScratch, withOutput, withCounts, lent, fewEnough, earlyNumber, unlessRefused, spotsAnswer, outputLeft, countsLeft, outcomes}
 use Rattle.table.specs.Queries.{walkAnswer, countAnswer, WalkPost, ReportPost, ManyPost, SearchPost, HandsOut, HandsOutEach}
 use Rattle.table.specs.Updates.{UpdatePost}
 use Rattle.table.proofs.Given.{report-limited}
+use Rattle.table.proofs.Changes.{number-is, detail-is, early-detail}
+use Rattle.demands.specs.Model.{noMessage, changesOutside}
 use Rattle.demands.specs.History.{Event, MetBy}
-use Rattle.demands.specs.Demands.{refusals, TurnedDown, OnlyMarked, Demand1}
+use Rattle.demands.specs.Demands.{refusals, positioned, TurnedDown, OnlyMarked, Demand1}
+use Rattle.demands.proofs.Plain.{argument-number}
 use Rattle.demands.proofs.Histories.{map-accepted, walk-accepted, output-refused, map-refused, counts-refused, no-counts, no-ceiling}
 use Rattle.report.proofs.Reports.{report-spots, report-blocks}
 use Rattle.report.proofs.Joined.{spots-joined, blocks-joined, read-joined}
@@ -50,20 +53,23 @@ use Rattle.demands.proofs.Onward.{from-on-mem}
 of-refusals : (n : ℕ) (xs : List ℕ) → every (λ m. eqb m 0 || has m refusals) xs ≡ true → has n xs ≡ true → (n ≡ 0 → ⊥) → has n refusals ≡ true
 of-refusals n xs h i z = or-left (eqb n 0) (has n refusals) (every-mem (λ m. eqb m 0 || has m refusals) xs h (has-mem n xs i)) (ne-eqb n 0 z)
 
--- 1, 2, 6 and 9, by lengths and arguments
+-- 1, 2, 6, 8 and 9, by lengths and arguments
 abbrev early : List ℕ
-early = 0 ∷ 1 ∷ 2 ∷ 6 ∷ 9 ∷ []
+early = 0 ∷ 1 ∷ 2 ∷ 6 ∷ 8 ∷ 9 ∷ []
 
 by-lengths : (l : Lengths) (c : Call) → has (earlyNumber l c) early ≡ true
 unfolding earlyNumber
-by-lengths l c = go (tableSized (l .table)) (lent l (kind c)) (fewEnough (kind c)) (placeInside c)
+by-lengths l c =
+    ap (λ (n : ℕ). has (cond (tableSized (l .table)) (cond (lent l (kind c)) (cond (fewEnough (kind c)) n 6) 2) 1) early) (argument-number c) ∙
+    go (tableSized (l .table)) (lent l (kind c)) (fewEnough (kind c)) (noMessage c) (changesOutside c)
   where
-    go : (a b d f : Bool) → has (cond a (cond b (cond d (cond f 0 9) 6) 2) 1) early ≡ true
-    go true true true true = refl
-    go true true true false = refl
-    go true true false f = refl
-    go true false d f = refl
-    go false b d f = refl
+    go : (a b d f g : Bool) → has (cond a (cond b (cond d (cond f 8 (cond g 9 0)) 6) 2) 1) early ≡ true
+    go true true true true g = refl
+    go true true true false true = refl
+    go true true true false false = refl
+    go true true false f g = refl
+    go true false d f g = refl
+    go false b d f g = refl
 
 -- an answer that is 0, or a refusal with detail 0, but for 5
 record Refusal (r : Answer) : Type 0 where
@@ -115,7 +121,21 @@ module _ (c : Call) (due : Answer) (after : ℕ → Option ℕ) (t : List ℕ) (
       z)
       (same-or-not (earlyNumber (withScratch t (e .scratch)) c) 0)
 
-  update-down : every (λ m. eqb m 0 || has m refusals) (outcomes c) ≡ true → isQuery c ≡ false → e .answer .detail ≡ 0 → (e .answer .number ≡ 0 → ⊥) → TurnedDown c t e
+  -- a refusal has detail 0, but for 4 and 9
+  update-detail : has (e .answer .number) positioned ≡ false → e .answer .detail ≡ 0
+  update-detail h =
+      let n = neither (eqb (e .answer .number) 4) (has (e .answer .number) (9 ∷ [])) h in
+      let early : ℕ = earlyNumber (withScratch t (e .scratch)) c in
+      ⊎-elim (λ l. p .detail (eqb-false (e .answer .number) 4 (n .0)) l)
+      (λ l.
+      let a = p .refusals l in
+      detail-is a ∙ early-detail c early (ap (λ (i : ℕ). eqb i 9) (sym (number-is a)) ∙ neither (eqb (e .answer .number) 9) false (n .1) .0))
+      (same-or-not early 0)
+
+  update-down : every (λ m. eqb m 0 || has m refusals) (outcomes c) ≡ true → isQuery c ≡ false
+      → ((hasPosition c ≡ true → has (e .answer .number) positioned ≡ false) → e .answer .detail ≡ 0)
+      → (e .answer .number ≡ 0 → ⊥)
+      → TurnedDown c t e
   update-down h q d z =
       record {
         number = update-number h z;
@@ -133,7 +153,7 @@ still-down : (c : Call) (t : List ℕ) (e : Event) → Refusal (e .answer) → e
 still-down c t e r same q z =
     record {
       number = r .number z;
-      detail = r .detail z;
+      detail = λ y i. r .detail z y;
       table = same;
       output = λ i. absurd (false≢true (sym q ∙ i));
       readMap = λ i. absurd (false≢true (sym q ∙ i));
@@ -148,7 +168,7 @@ module _ (l : ℕ) (w : Walk) (e : Event) (p : WalkPost l w (e .output) (e .read
   walk-down c t h same z counts n =
       record {
         number = r .number z;
-        detail = r .detail z;
+        detail = λ y i. r .detail z y;
         table = same;
         output = λ i. p .output ∙ output-refused (e .answer .number) (spots w) (e .output) z;
         readMap = λ i. p .marks ∙ map-refused (e .answer .number) (blocksRead w) (e .readMap) z;
@@ -240,7 +260,7 @@ module _ (c : Call) (x1 x2 : ℤ) (exactly : Type 0) (t : List ℕ) (e : Event) 
   search-down n ceiling z =
       record {
         number = search-number z;
-        detail = search-detail z;
+        detail = λ y i. search-detail z y;
         table = same;
         output = λ i. p .unchanged z .0;
         readMap = λ i. p .unchanged z .1;
@@ -272,7 +292,7 @@ ends format t e p =
     let r = subst Refusal (sym (p .promised .answered)) (refusal-lengths _ (answer 0 0) (by-lengths (ofTable t) format) (refusal-zero 0)) in (
       λ z. record {
         number = r .number z;
-        detail = r .detail z;
+        detail = λ y i. r .detail z y;
         table = format-down t e p z;
         output = λ i. absurd (false≢true i);
         readMap = λ i. absurd (false≢true i);
@@ -281,8 +301,8 @@ ends format t e p =
       },
       formatted-long t (e .table′) (p .promised .written),
     )
-ends (add place rank track) t e p = (update-down (add place rank track) _ _ t e (p .promised .update) refl refl (p .promised .detail), p .promised .update .sized)
-ends (withdraw place rank) t e p = (update-down (withdraw place rank) _ _ t e (p .promised .update) refl refl (p .promised .detail), p .promised .update .sized)
+ends (add place rank track) t e p = (update-down (add place rank track) _ _ t e (p .promised .update) refl refl (λ i. p .promised .detail), p .promised .update .sized)
+ends (withdraw place rank) t e p = (update-down (withdraw place rank) _ _ t e (p .promised .update) refl refl (λ i. p .promised .detail), p .promised .update .sized)
 ends (report x1 x2 y) t e p = (
   λ z. walk-down _ (reportTable t x1 x2 y) e (p .promised) (report x1 x2 y) t (by-lengths (withOutput t (e .output) (e .readMap)) (report x1 x2 y)) (p .unchanged refl) z
       (λ i. absurd (false≢true i))
@@ -301,7 +321,7 @@ ends check t e p = (
   still-down check t e (subst Refusal (sym (p .promised .answered)) (refusal-lengths _ _ (by-lengths (ofTable t) check) (refusal-zero _))) (p .unchanged refl) refl,
   ap length (p .unchanged refl),
 )
-ends rebuild t e p = (update-down rebuild _ _ t e (p .promised .update) refl refl (p .promised .detail), p .promised .update .sized)
+ends rebuild t e p = (update-down rebuild _ _ t e (p .promised .update) refl refl (λ i. p .promised .detail), p .promised .update .sized)
 ends (reportMany rs) t e p = (
   λ z. walk-down _ (joined t rs) e (p .promised .handed) (reportMany rs) t (by-lengths (withCounts t (e .output) (e .readMap) (e .counts)) (reportMany rs)) (p .unchanged refl) z
       (λ i. p .promised .counted ∙ counts-refused (e .answer .number) (countsOf t rs) (e .counts) z)
@@ -311,6 +331,10 @@ ends (reportMany rs) t e p = (
 ends (topWithin x1 x2 k a) t e p = (
   search-down (topWithin x1 x2 k a) x1 x2 _ t e (p .unchanged refl) refl (p .promised .search) refl (λ i. p .promised .refused),
   ap length (p .unchanged refl),
+)
+ends (apply m) t e p = (
+  update-down (apply m) _ _ t e (p .promised .update) refl refl (λ i. update-detail (apply m) _ _ t e (p .promised .update) (i refl)),
+  p .promised .update .sized,
 )
 
 only-marked : (c : Call) (t : List ℕ) (e : Event) → MetBy c t e → e .answer .number ≡ 0 → OnlyMarked c t e

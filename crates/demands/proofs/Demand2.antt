@@ -2,39 +2,44 @@
 -- Assumes nothing.
 use mathlib.Core.Path.{_≡_, refl, ap, ap₂, sym, subst, _∙_}
 use mathlib.Core.Logic.{_⊎_, inl, inr, ⊎-elim, _↔_}
-use mathlib.Core.Bool.{Bool, true, false, cond, not, _&&_, true≢false}
-use mathlib.Core.List.{List, _++_, List·Memᴰ}
+use mathlib.Core.Bool.{Bool, true, false, cond, not, _&&_, _||_, true≢false}
+use mathlib.Core.List.{List, [], _∷_, _++_, List·Memᴰ}
 use mathlib.Core.Option.{Option, none, some, Option·some-injective, Option·none-ne-some}
 use Prim.Native.Nat.{ℕ, _-_, _*_, _/_, _≤_, _<_}
 use native.Mathlib.Omega.{arith}
 use lib.ListN.{length, take, drop, length-take}
 use lib.Seq.{take-all}
-use lib.Dec.{leb}
+use lib.Dec.{leb, ltb, eqb}
 use lib.IntN.{ℤ}
 use lib.Signed.{leZ}
-use borrow.Author.Tests.{leb-true, le-leb, eq-eqb, eqb-true}
-use Rattle.octets.specs.Lists.{every, keep}
+use borrow.Author.Tests.{leb-true, le-leb, lt-ltb, eq-eqb, eqb-true, ne-eqb}
+use Rattle.octets.specs.Lists.{every, has, keep}
 use Rattle.octets.proofs.Lists.{mem-same, mem-take}
-use Rattle.octets.proofs.Tests.{and-left, and-right, and-both, refuted, every-mem}
-use Rattle.octets.proofs.Order.{less-or-not}
+use Rattle.octets.proofs.Tests.{and-left, and-right, and-both, or-left, or-right, refuted, every-mem, every-make}
+use Rattle.octets.proofs.Order.{less-or-not, same-or-not}
 use Rattle.spot.specs.declared.Spot.{Spot}
-use Rattle.spot.specs.Keys.{key, signed32, unsigned32}
-use Rattle.spot.specs.Spots.{spotsBytes, byTop, fromOn}
+use Rattle.spot.specs.Keys.{allKeys, key, signed32, unsigned32}
+use Rattle.spot.specs.Spots.{keys, find, spotsBytes, byTop, fromOn}
 use Rattle.spot.specs.Range.{ofRange}
 use Rattle.spot.specs.Query.{query, topQuery, fromOf, wants}
 use Rattle.spot.proofs.Signed.{Fits, fits-signed}
-use Rattle.spot.proofs.Orders.{key-inj, report-wants, top-wants}
+use Rattle.spot.proofs.Orders.{report-wants, top-wants}
 use Rattle.spot.proofs.Ranks.{byTop-from, byTop-in}
 use Rattle.spot.proofs.Canon.{keep-rises}
+use Rattle.spot.proofs.Buffers.{keys-from}
 use Rattle.block.specs.declared.Answer.{Answer}
 use Rattle.block.specs.Header.{headOf}
+use Rattle.block.specs.Table.{tableSized}
 use Rattle.block.proofs.Facts.{head-facts}
+use Rattle.message.specs.declared.Change.{Change}
+use Rattle.message.specs.Effects.{afterAll, appliedAnswer}
+use Rattle.message.proofs.Effects.{applied-is, applied-number}
 use Rattle.tree.specs.Lookup.{live, isLive, withKey}
 use Rattle.tree.specs.Walk.{Walk, spots, Finds, liveSpots, liveCount}
 use Rattle.tree.specs.Report.{reportTable}
 use Rattle.tree.specs.Top.{topTable}
 use Rattle.tree.specs.Sound.{sound}
-use Rattle.tree.proofs.Tables.{live-rises, report-finds, counted, sound-header}
+use Rattle.tree.proofs.Tables.{live-rises, live-finds, report-finds, counted, sound-header}
 use Rattle.tree.proofs.Tops.{top-finds, top-rises}
 use Rattle.within_theory.specs.Reading.{reading, givenOf, withinTable}
 use Rattle.within_theory.proofs.Certain.{within-once, within-first}
@@ -42,14 +47,16 @@ use Rattle.revise.specs.Numbers.{addNumber}
 use Rattle.ranges.specs.Ranges.{forEach}
 use Rattle.ranges.specs.declared.Range.{Range}
 use Rattle.report.specs.Joined.{joined, countsOf}
-use Rattle.table.specs.Calls.{add, withdraw, report, top, reportMany, topWithin, rangeFits, argumentsFit}
+use Rattle.table.specs.Calls.{add, withdraw, report, top, reportMany, topWithin, apply, rangeFits, argumentsFit}
 use Rattle.table.specs.Answers.{withScratch, withOutput, withCounts, earlyNumber, unlessRefused, spotsAnswer, outputLeft, countsLeft}
 use Rattle.table.specs.Queries.{walkAnswer, WalkPost, ReportPost, ManyPost, TopPost, TopWithinPost}
-use Rattle.table.specs.Updates.{AddPost, WithdrawPost}
-use Rattle.demands.specs.Model.{PlainSpot, hasIdentity, topBefore, asBytes}
+use Rattle.table.specs.Updates.{AddPost, WithdrawPost, ApplyPost}
+use Rattle.demands.specs.Model.{PlainSpot, PlainChange, plainMessage, noMessage, nothingSaid, saidIn, changesOutside, hasIdentity, topBefore, asBytes}
 use Rattle.demands.specs.TopMarks.{MarksFew}
-use Rattle.demands.specs.Demands.{LiveSpot, OfPlaces, InOrder, reportBefore, AtCapacity, ReportOf, TopOf, WithinOf, HandedOut, CountedOut, AddedTo, WithdrawnFrom, Demand2}
-use Rattle.demands.proofs.Plain.{toKeySpot, SpotFits, identity-key, keyed-bytes, two-fit, three-fit, range-fit}
+use Rattle.demands.specs.Demands.{LiveSpot, OfPlaces, InOrder, reportBefore, AtCapacity, ReportOf, TopOf, WithinOf, HandedOut, CountedOut, AddedTo, WithdrawnFrom, FirstDown, AppliedTo, Demand2}
+use Rattle.demands.proofs.Plain.{toKeySpot, SpotFits, identity-key, keyed-bytes, two-fit, three-fit, range-fit, early-is}
+use Rattle.demands.proofs.Messages.{keyedChanges, changes-fit, changes-are}
+use Rattle.demands.proofs.Applying.{same-identity, Lives, holds-all, none-down, first-down}
 use Rattle.table.proofs.Changes.{number-is}
 use Rattle.demands.proofs.Keyed.{singlyIn, highestBy}
 use Rattle.demands.proofs.Histories.{map-accepted, output-refused, counts-refused, many-finds, many-counts}
@@ -59,7 +66,7 @@ use Rattle.demands.proofs.Withins.{given-few, within-finds, within-left
 use Rattle.report.proofs.Reports.{report-turned}
 use Rattle.report.proofs.Joined.{for-each-map, for-each-mem, count-each-same}
 use Rattle.demands.proofs.Onward.{from-on-mem, mem-from-on, report-apart, turned-small, turned-in-order}
-use Rattle.demands.proofs.Alive.{toPlain, plain, Small, keyed-plain, plain-length, plain-take, plain-fit, plain-mem, mem-plain, falls-in-order, take-order, take-first, same-order, first-order, higher-apart, alive-fits, kept-small, kept-live, live-kept, all-live, live-count}
+use Rattle.demands.proofs.Alive.{toPlain, plain, Small, keyed-plain, plain-length, plain-take, plain-fit, plain-mem, mem-plain, falls-in-order, take-order, take-first, same-order, first-order, higher-apart, alive-fits, lives-small, kept-small, kept-live, live-kept, all-live, live-count}
 
 -- ---- what a query hands out
 
@@ -307,12 +314,7 @@ with-key : (k : ℕ) (o : Option ℕ) (before : ℕ → Option ℕ) → withKey 
 unfolding withKey
 with-key k o before = rw (eq-eqb k k refl)
 
--- a spot that has the identity
 module _ (place rank : ℤ) (fp : Fits place) (fr : Fits rank) where
-  same-identity : (s : PlainSpot) → SpotFits s → hasIdentity place rank s ≡ true → (s .place ≡ place) × (s .rank ≡ rank)
-  same-identity s f h =
-      key-inj (s .place) (s .rank) place rank (f .place) (f .rank) fp fr (eqb-true _ _ (sym (identity-key place rank fp fr s f) ∙ h))
-
   -- what is live once the track of the identity is changed
   module _ (t t′ : List ℕ) (o : Option ℕ) (after : (k : ℕ) → live t′ k ≡ withKey (key place rank) o (live t) k) where
     now : (s : PlainSpot) → SpotFits s → (b : Bool) → hasIdentity place rank s ≡ b → live t′ (key (s .place) (s .rank)) ≡ cond b o (live t (key (s .place) (s .rank)))
@@ -340,7 +342,7 @@ module _ (place rank : ℤ) (fp : Fits place) (fr : Fits rank) where
     none-live = (
       λ n s h. refuted (hasIdentity place rank s)
           (λ e.
-          let i = same-identity s (alive-fits t s h) e in
+          let i = same-identity place rank fp fr s (alive-fits t s h) e in
           true≢false (ap isLive (sym (h .there) ∙ ap₂ (λ (p q : ℤ). live t (key p q)) (i .0) (i .1)) ∙ n)),
       λ h. go (live t (key place rank)) refl h,
     )
@@ -402,7 +404,7 @@ module _ (place rank : ℤ) (fp : Fits place) (fr : Fits rank) where
           after = λ z s. (
             λ h. ⊎-elim
                 (λ (e : (hasIdentity place rank s ≡ true) × (some track ≡ some (s .track))).
-                let i = same-identity s (alive-fits t′ s h) (e .0) in
+                let i = same-identity place rank fp fr s (alive-fits t′ s h) (e .0) in
                 inl (λ j. record { place = i .0 j; rank = i .1 j; track = Option·some-injective _ _ (sym (e .1)) j }))
                 (λ (e : LiveSpot t s × (hasIdentity place rank s ≡ false)). inr e)
                 (of-either t t′ (some track) (p .update .liveAfter g z) s h),
@@ -434,6 +436,69 @@ module _ (place rank : ℤ) (fp : Fits place) (fr : Fits rank) where
           staysSound = p .update .staysSound g;
         }
 
+-- ---- a message
+
+zero-or-four : (n : ℕ) → has n (0 ∷ 4 ∷ []) ≡ true → (n ≡ 0) ⊎ (n ≡ 4)
+zero-or-four n h =
+    ⊎-elim (λ (e : n ≡ 0). inl e)
+    (λ (d : n ≡ 0 → ⊥). inr (eqb-true n 4 (or-right (eqb n 4) false (or-left (eqb n 0) (eqb n 4 || false) h (ne-eqb n 0 d)) refl)))
+    (same-or-not n 0)
+
+module _ (t : List ℕ) (g : sound t ≡ true) where
+  all-lives : Lives (length t) (liveSpots t) (LiveSpot t)
+  all-lives =
+      record {
+        holds = λ s. (
+          λ h. (alive-fits t s h, live-finds t g (key (s .place) (s .rank)) ∙ h .there),
+          λ i. record { placeFits = fits-signed (s .place) (i .0 .place); rankFits = fits-signed (s .rank) (i .0 .rank); there = sym (live-finds t g (key (s .place) (s .rank))) ∙ i .1 },
+        );
+        small = every-make (λ k. ltb k allKeys) (keys (liveSpots t)) (λ k i. let r = keys-from (liveSpots t) i in ap (λ (j : ℕ). ltb j allKeys) (r .2) ∙ lt-ltb (r .0 .key) allKeys (lives-small t g (r .0) (r .1)));
+        rises = live-rises t g;
+        few = omega (arith, counted t g, head-facts (length t) (headOf t) (sound-header t g) .bound-most);
+      }
+
+  module _ (m w : List ℕ) (r : Answer) (t′ w′ : List ℕ) (l : earlyNumber (withScratch t w) (apply m) ≡ 0) (p : ApplyPost m t w r t′ w′) where
+    is-said : plainMessage m ≡ some (saidIn (plainMessage m))
+    unfolding noMessage
+    is-said =
+        go (tableSized (length t)) (leb (length t) (length w)) (plainMessage m) (changesOutside (apply m)) (sym (early-is (withScratch t w) (apply m)) ∙ l)
+      where
+        go : (a b : Bool) (o : Option (List PlainChange)) (f : Bool) → _≡_ {A = ℕ} (cond a (cond b (cond (nothingSaid o) 8 (cond f 9 0)) 2) 1) 0 → o ≡ some (saidIn o)
+        go true true none f h = absurd (omega (arith, h))
+        go true true (some cs) f h = refl
+        go true false o f h = absurd (omega (arith, h))
+        go false b o f h = absurd (omega (arith, h))
+
+    message-due : r ≡ appliedAnswer (length t) (keyedChanges (saidIn (plainMessage m))) (liveSpots t)
+    message-due = p .update .answered g l ∙ ap (λ (ks : List Change). appliedAnswer (length t) ks (liveSpots t)) (changes-are m)
+
+    number-due : r .number ≡ appliedAnswer (length t) (keyedChanges (saidIn (plainMessage m))) (liveSpots t) .number
+    number-due = ap (λ (a : Answer). a .number) message-due
+
+    applied-to : AppliedTo (saidIn (plainMessage m)) t r t′
+    applied-to =
+        let cs = saidIn (plainMessage m) in
+        let fit = changes-fit m in
+        record {
+          numbers = zero-or-four (r .number) (ap (λ (n : ℕ). has n (0 ∷ 4 ∷ [])) number-due ∙ applied-number (length t) 0 (keyedChanges cs) (liveSpots t));
+          turnedDown = λ z.
+              let d = first-down (length t) 0 cs fit (liveSpots t) (LiveSpot t) all-lives (sym number-due ∙ z) in
+              let at : d .0 ≡ r .detail = sym (ap (λ (a : Answer). a .detail) message-due ∙ d .1 ∙ omega arith) in
+              (subst (λ (i : ℕ). FirstDown (length t) i cs (LiveSpot t)) at (d .2), p .update .unchanged (λ y. omega (arith, y, z)));
+          accepted = λ z. (
+            ap (λ (a : Answer). a .detail) (message-due ∙ applied-is (length t) 0 (keyedChanges cs) (liveSpots t) .done (sym number-due ∙ z)),
+            none-down (length t) 0 cs fit (liveSpots t) (LiveSpot t) all-lives (sym number-due ∙ z),
+          );
+          after = λ z s.
+              let h = holds-all cs fit (liveSpots t) (LiveSpot t) (all-lives .holds) s in
+              let now : live t′ (key (s .place) (s .rank)) ≡ find (key (s .place) (s .rank)) (afterAll (keyedChanges cs) (liveSpots t)) =
+              p .update .liveAfter g z (key (s .place) (s .rank)) ∙ ap (λ (ks : List Change). find (key (s .place) (s .rank)) (afterAll ks (liveSpots t))) (changes-are m) in (
+                λ a. h .1 (alive-fits t′ s a, sym now ∙ a .there),
+                λ a. let i = h .0 a in record { placeFits = fits-signed (s .place) (i .0 .place); rankFits = fits-signed (s .rank) (i .0 .rank); there = now ∙ i .1 },
+              );
+          staysSound = p .update .staysSound g;
+        }
+
 -- ---- the demand
 
 pub demand2 : Demand2
@@ -457,4 +522,6 @@ demand2 =
           let b = and-left (signed32 x1 && signed32 x2 && unsigned32 k) (unsigned32 a) (h .arguments) in
           let f = two-fit x1 x2 (and-left (signed32 x1 && signed32 x2) (unsigned32 k) b) in
           within-given t (h .table) x1 x2 (f .0) (f .1) k a out map r out′ map′ c (h .lent) p;
+      applies = λ m t w r t′ w′ h p.
+          (saidIn (plainMessage m), is-said t (h .table) m w r t′ w′ (h .lent) p, applied-to t (h .table) m w r t′ w′ (h .lent) p);
     }

@@ -26,6 +26,10 @@ use Rattle.block.specs.Header.{headOf}
 use Rattle.block.specs.HeaderRules.{headerOk}
 use Rattle.block.specs.Fresh.{formatted}
 use Rattle.block.specs.declared.Answer.{Answer}
+use Rattle.message.specs.Changes.{changesOf}
+use Rattle.message.specs.Messages.{readMessage}
+use Rattle.message.specs.Effects.{afterAll}
+use Rattle.message.proofs.Effects.{after-rises}
 use Rattle.tree.specs.Walk.{Finds, Walk, broken, walked, isBroken, spots, blocksRead, walkTable, liveSpots, liveCount}
 use Rattle.tree.specs.Report.{reportTable}
 use Rattle.tree.specs.Top.{topWalk, topTable}
@@ -37,8 +41,8 @@ use Rattle.tree.proofs.Says.{find-replaced, replaced-rises}
 use Rattle.ranges.specs.Ranges.{forEach, countEach}
 use Rattle.ranges.specs.declared.Range.{Range}
 use Rattle.report.specs.Joined.{reportOf, joined, countsOf}
-use Rattle.table.specs.Calls.{Call, format, add, withdraw, report, top, count, check, rebuild, reportMany, topWithin, Kind, makes, updates, queries, queriesEach, tells, kind, takesOutput, takesCounts, isQuery, isCounting, hasCeiling}
-use Rattle.table.specs.Answers.{withScratch, withOutput, withCounts, earlyNumber, spotsAnswer, outputLeft, unlessRefused, mapLeft, countsLeft}
+use Rattle.table.specs.Calls.{Call, format, add, withdraw, report, top, count, check, rebuild, reportMany, topWithin, apply, Kind, makes, updates, queries, queriesEach, tells, kind, takesOutput, takesCounts, isQuery, isCounting, hasCeiling}
+use Rattle.table.specs.Answers.{withScratch, withOutput, withCounts, earlyNumber, earlyDetail, spotsAnswer, outputLeft, unlessRefused, mapLeft, countsLeft}
 use Rattle.table.specs.Queries.{walkAnswer, countAnswer, WalkPost}
 use Rattle.table.specs.Updates.{UpdatePost}
 use Rattle.demands.specs.Model.{toldCall}
@@ -75,14 +79,14 @@ pub record TreeLaws : Type 0 where
       → reading u x1 x2 k a ≡ reading t x1 x2 k a
 
 -- a refusal by the lengths is the same on both sides
-refused-same : (l : ℕ) (ss : List Spot) (a : Answer) (r : KeyReply) → a ≡ r .answer → unlessRefused l a ≡ refusedOr l ss r .answer
+refused-same : (l : ℕ) (ss : List Spot) (a : Answer) (r : KeyReply) → a ≡ r .answer → unlessRefused l a ≡ refusedOr l 0 ss r .answer
 unfolding unlessRefused refusedOr
 refused-same zero ss a r e = e
 refused-same (suc l) ss a r e = refl
 
 -- what a query is due where l refuses it or nothing does: these spots, these counts
 abbrev queryDue : ℕ → ℕ → List Spot → List ℕ → List Spot → KeyReply
-queryDue l bytes found counts ss = refusedOr l ss (gives bytes found counts ss)
+queryDue l bytes found counts ss = refusedOr l 0 ss (gives bytes found counts ss)
 
 output-same : (l bytes : ℕ) (found : List Spot) (counts : List ℕ) (ss : List Spot) (out : List ℕ)
     → outputLeft (queryDue l bytes found counts ss .answer .number) found out
@@ -251,23 +255,23 @@ counts-long t out map counts rs = go (tableSized (length t)) (eqb (length map) 5
     go false b c e d h = absurd (omega (arith, h))
 
 -- an update: the answer, then what is held afterwards
-changed-answer : (l : ℕ) (due : Answer) (ss next : List Spot) (r : Answer) → (l ≢ 0 → r ≡ answer l 0) → (l ≡ 0 → r ≡ due)
-    → r ≡ refusedOr l ss (changed due ss next) .answer
+changed-answer : (l d : ℕ) (due : Answer) (ss next : List Spot) (r : Answer) → (l ≢ 0 → r ≡ answer l d) → (l ≡ 0 → r ≡ due)
+    → r ≡ refusedOr l d ss (changed due ss next) .answer
 unfolding refusedOr changed
-changed-answer zero due ss next r a b = b refl
-changed-answer (suc l) due ss next r a b = a (λ e. omega arith)
+changed-answer zero d due ss next r a b = b refl
+changed-answer (suc l) d due ss next r a b = a (λ e. omega arith)
 
 -- refused, and the list is as it was; or accepted, with the next list
-changed-next : (l : ℕ) (due : Answer) (ss next : List Spot)
-    → ((refusedOr l ss (changed due ss next) .answer .number ≢ 0) × (refusedOr l ss (changed due ss next) .next ≡ ss)) ⊎
-    ((refusedOr l ss (changed due ss next) .answer .number ≡ 0) × (refusedOr l ss (changed due ss next) .next ≡ next))
+changed-next : (l d : ℕ) (due : Answer) (ss next : List Spot)
+    → ((refusedOr l d ss (changed due ss next) .answer .number ≢ 0) × (refusedOr l d ss (changed due ss next) .next ≡ ss)) ⊎
+    ((refusedOr l d ss (changed due ss next) .answer .number ≡ 0) × (refusedOr l d ss (changed due ss next) .next ≡ next))
 unfolding refusedOr changed nextBy
-changed-next zero due ss next = go (due .number)
+changed-next zero d due ss next = go (due .number)
   where
     go : (n : ℕ) → ((n ≢ 0) × (nextBy n ss next ≡ ss)) ⊎ ((n ≡ 0) × (nextBy n ss next ≡ next))
     go zero = inr (refl, refl)
     go (suc n) = inl (λ e. omega arith, refl)
-changed-next (suc l) due ss next = inl (λ e. omega arith, refl)
+changed-next (suc l) d due ss next = inl (λ e. omega arith, refl)
 
 -- a call that hands out no spots hands out no counts
 pub no-counts : (c : Call) → isQuery c ≡ false → isCounting c ≡ false
@@ -292,6 +296,7 @@ no-ceiling check h = refl
 no-ceiling rebuild h = refl
 no-ceiling (reportMany rs) h = refl
 no-ceiling (topWithin x1 x2 k a) h = h
+no-ceiling (apply m) h = refl
 
 no-query : (c : Call) (t : List ℕ) (due : Answer) (left counted : List ℕ) (e : Event) → isQuery c ≡ false → e .answer ≡ due → sound (e .table′) ≡ true
     → Agreed c t due left counted e
@@ -310,7 +315,7 @@ module _ (laws : TreeLaws) where
   update-kept : (c : Call) (due : Answer) (after : ℕ → Option ℕ) (t : List ℕ) (e : Event) (next : List Spot) → sound t ≡ true
       → UpdatePost c due after t (e .scratch) (e .answer) (e .table′) (e .scratch′)
       → keyReplyIn c t (liveSpots t) e
-      ≡ refusedOr (earlyNumber (withScratch t (e .scratch)) c) (liveSpots t) (changed due (liveSpots t) next)
+      ≡ refusedOr (earlyNumber (withScratch t (e .scratch)) c) (earlyDetail c (earlyNumber (withScratch t (e .scratch)) c)) (liveSpots t) (changed due (liveSpots t) next)
       → rising (keys next) ≡ true
       → ((k : ℕ) → find k next ≡ after k)
       → isQuery c ≡ false
@@ -324,7 +329,7 @@ module _ (laws : TreeLaws) where
             (⊎-elim
             (λ h. h .1 ∙ ap liveSpots (sym (p .unchanged (λ z. h .0 (sym (ap (λ (a : Answer). a .number) number) ∙ z)))))
             (λ h. h .1 ∙ held (ap (λ (a : Answer). a .number) number ∙ h .0))
-            (changed-next l due ss next));
+            (changed-next l (earlyDetail c l) due ss next));
       }
     where
       ss : List Spot
@@ -333,8 +338,8 @@ module _ (laws : TreeLaws) where
       l : ℕ
       l = earlyNumber (withScratch t (e .scratch)) c
 
-      number : e .answer ≡ refusedOr l ss (changed due ss next) .answer
-      number = changed-answer l due ss next (e .answer) (p .refusals) (p .answered s)
+      number : e .answer ≡ refusedOr l (earlyDetail c l) ss (changed due ss next) .answer
+      number = changed-answer l (earlyDetail c l) due ss next (e .answer) (p .refusals) (p .answered s)
 
       held : e .answer .number ≡ 0 → next ≡ liveSpots (e .table′)
       held z =
@@ -468,3 +473,6 @@ module _ (laws : TreeLaws) where
         counts = λ q. absurd (false≢true q);
         ceiling = λ q r. h .met .promised .ceiling (same .0 ∙ once) ∙ rw (r, same .2) (sym (p .promised .ceiling once));
       })
+  step (apply m) t e z s p =
+      let cs = changesOf (readMessage m) in
+      update-kept (apply m) _ _ t e (afterAll cs (liveSpots t)) s (p .promised .update) refl (after-rises cs (liveSpots t) (laws .rises t s)) (λ k. refl) refl

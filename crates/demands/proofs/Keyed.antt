@@ -11,12 +11,15 @@ use Rattle.spot.specs.Spots.{without, find, put, byTop, fromOn}
 use Rattle.spot.specs.Query.{query, topQuery, fromOf, wants}
 use Rattle.block.specs.declared.Answer.{Answer}
 use Rattle.block.specs.Answers.{answer}
+use Rattle.message.specs.Changes.{changesOf}
+use Rattle.message.specs.Messages.{readMessage}
+use Rattle.message.specs.Effects.{afterAll, appliedAnswer}
 use Rattle.tree.specs.Lookup.{isLive}
 use Rattle.ranges.specs.Ranges.{forEach, countEach}
 use Rattle.ranges.specs.declared.Range.{Range}
-use Rattle.table.specs.Calls.{Call, format, add, withdraw, report, top, count, check, rebuild, reportMany, topWithin, Lengths}
+use Rattle.table.specs.Calls.{Call, format, add, withdraw, report, top, count, check, rebuild, reportMany, topWithin, apply, Lengths}
 use Rattle.revise.specs.Numbers.{addNumber}
-use Rattle.table.specs.Answers.{earlyNumber, spotsAnswer, countsLeft}
+use Rattle.table.specs.Answers.{earlyNumber, earlyDetail, spotsAnswer, countsLeft}
 
 -- what it answers, hands out (counts only where the call is accepted), and holds afterwards
 pub record KeyReply : Type 0 where
@@ -29,10 +32,10 @@ pub record KeyReply : Type 0 where
 unfoldable pub accepted : ℕ → List Spot → KeyReply
 accepted detail next = record { answer = record { number = 0; detail = detail }; given = []; counts = []; next = next }
 
--- a refusal with detail 0 where the number is not 0: "A refused call leaves the list as it was"
-unfoldable pub refusedOr : ℕ → List Spot → KeyReply → KeyReply
-refusedOr zero ss r = r
-refusedOr (suc n) ss r = record { answer = record { number = suc n; detail = 0 }; given = []; counts = []; next = ss }
+-- a refusal with its detail where the number is not 0: "A refused call leaves the list as it was"
+unfoldable pub refusedOr : ℕ → ℕ → List Spot → KeyReply → KeyReply
+refusedOr zero d ss r = r
+refusedOr (suc n) d ss r = record { answer = record { number = suc n; detail = d }; given = []; counts = []; next = ss }
 
 -- a call that changes the list, with its answer: accepted, and the list is the next; or refused, and it is as it was
 unfoldable pub nextBy : ℕ → List Spot → List Spot → List Spot
@@ -77,7 +80,8 @@ replyTo l check ss = accepted 1 ss
 replyTo l rebuild ss = changed (answer 0 0) ss ss
 replyTo l (reportMany rs) ss = gives (l .output) (forEach (singlyIn ss) rs) (countEach (singlyIn ss) rs) ss
 replyTo l (topWithin x1 x2 k a) ss = gives (l .output) (highestBy x1 x2 k ss) [] ss
+replyTo l (apply m) ss = changed (appliedAnswer (l .table) (changesOf (readMessage m)) ss) ss (afterAll (changesOf (readMessage m)) ss)
 
 -- what the model answers, in keys
 unfoldable pub keyReply : Lengths → Call → List Spot → KeyReply
-keyReply l c ss = refusedOr (earlyNumber l c) ss (replyTo l c ss)
+keyReply l c ss = refusedOr (earlyNumber l c) (earlyDetail c (earlyNumber l c)) ss (replyTo l c ss)

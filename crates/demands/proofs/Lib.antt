@@ -1,4 +1,5 @@
 pub mod Orders
+pub mod Messages
 pub mod Keyed
 pub mod Plain
 pub mod Alive
@@ -9,6 +10,7 @@ pub mod MarksFew
 pub mod Withins
 pub mod Demand
 pub mod Worked
+pub mod Applying
 pub mod Demand2
 pub mod Demand1
 pub mod LittleReading

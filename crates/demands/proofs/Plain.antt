@@ -1,35 +1,40 @@
 -- The model against the plain list over keys: as long as all numbers are within their 32 bits they answer alike, and hold the same spots.
 -- Assumes nothing.
-use mathlib.Core.Path.{_≡_, refl, sym, ap, ap₂, _∙_}
-use mathlib.Core.Bool.{Bool, true, false, cond, not, _&&_, _||_}
+use mathlib.Core.Path.{_≡_, refl, sym, ap, ap₂, subst, _∙_}
+use mathlib.Core.Bool.{Bool, true, false, cond, not, _&&_, _||_, false≢true}
 use mathlib.Core.List.{List, [], _∷_, _++_, map, map-append, List·Memᴰ}
 use mathlib.Core.Option.{Option, some}
-use Prim.Native.Nat.{ℕ, zero, suc, _*_, _/_, _%_}
+use Prim.Native.Nat.{ℕ, zero, suc, _-_, _*_, _/_, _%_}
 use lib.ListN.{length, take, drop}
 use lib.Dec.{leb, ltb, eqb}
 use lib.IntN.{ℤ}
 use lib.Signed.{leZ, ltZ}
-use Rattle.octets.specs.Lists.{all, every, keep}
+use Rattle.octets.specs.Lists.{all, every, has, keep}
 use Rattle.octets.proofs.Tests.{and-left, and-right, cond-not, every-mem}
 use Rattle.octets.proofs.Order.{eqb-flip, not-leb}
 use Rattle.spot.specs.declared.Spot.{Spot}
-use Rattle.spot.specs.Keys.{key, topKey, signed32, unsigned32}
-use Rattle.spot.specs.Spots.{spotBytes, spotsBytes, find, put, putTop, byTop, fromOn, without}
+use Rattle.spot.specs.Keys.{key, topKey, inLimits, signed32, unsigned32}
+use Rattle.spot.specs.Spots.{spotBytes, spotsBytes, keys, find, put, putTop, byTop, fromOn, without}
 use Rattle.spot.specs.Range.{ofRange}
 use Rattle.spot.specs.Query.{query, topQuery, fromOf, wants}
 use Rattle.spot.proofs.Signed.{Fits, signed-fits}
 use Rattle.spot.proofs.Orders.{report-wants, top-wants}
+use Rattle.block.specs.declared.Answer.{Answer}
 use Rattle.block.specs.Answers.{answer}
 use Rattle.block.specs.Table.{sizedFor, tableSized}
+use Rattle.message.specs.declared.Change.{Change}
+use Rattle.message.specs.Effects.{afterChange, afterAll, turnsDown, appliedFrom, appliedAnswer}
 use Rattle.tree.specs.Lookup.{isLive}
 use Rattle.ranges.specs.Ranges.{forEach, countEach}
 use Rattle.ranges.specs.declared.Range.{Range}
 use Rattle.report.proofs.Joined.{for-each-same, for-each-map, count-each-same}
-use Rattle.table.specs.Calls.{Call, format, add, withdraw, report, top, count, check, rebuild, reportMany, topWithin, Kind, makes, updates, queries, queriesEach, tells, kind, Lengths, rangeFits, argumentsFit}
+use Rattle.table.specs.Calls.{Call, format, add, withdraw, report, top, count, check, rebuild, reportMany, topWithin, apply, Kind, makes, updates, queries, queriesEach, tells, kind, Lengths, rangeFits, argumentsFit}
 use Rattle.revise.specs.Numbers.{addNumber}
-use Rattle.table.specs.Answers.{lent, fewEnough, placeInside, earlyNumber, spotsAnswer, outputLeft, countsLeft}
-use Rattle.demands.specs.Model.{PlainSpot, hasIdentity, placeBefore, topBefore, ofPlaces, ofReport, chosen, fromOnward, reported, reportedIn, insertBy, sortBy, listed, takenOut, broughtIn, highest, fourBytes, complement, asBytes, Plain, begunEmpty, Reply, outputAfter, refuse, accept, badTable, badLent, tooMany, changesOutside, full, handOut, ownReply, reply}
+use Rattle.table.proofs.Changes.{early-detail}
+use Rattle.table.specs.Answers.{lent, fewEnough, argumentNumber, earlyNumber, earlyDetail, spotsAnswer, outputLeft, countsLeft}
+use Rattle.demands.specs.Model.{PlainSpot, hasIdentity, placeBefore, topBefore, ofPlaces, ofReport, chosen, fromOnward, reported, reportedIn, insertBy, sortBy, listed, takenOut, broughtIn, highest, fourBytes, complement, asBytes, Plain, begunEmpty, Reply, outputAfter, refuse, accept, badTable, badLent, tooMany, PlainChange, hang, takeDown, plainMessage, changesIn, noMessage, saidIn, outside, positionOutside, changesOutside, full, turnedDown, changedBy, applied, handOut, ownReply, reply}
 use Rattle.demands.proofs.Keyed.{KeyReply, keyReply, replyTo, refusedOr, accepted, changed, nextBy, gives, singly, singlyIn, highestBy}
+use Rattle.demands.proofs.Messages.{toKeyChange, keyedChanges, ChangeFits, ChangesFit, changes-fit, changes-are, message-number, message-detail}
 use Rattle.demands.proofs.Orders.{not-both, outside-limits, model-places, model-tops, model-identity, model-from, model-under, four-bytes, key-bytes}
 
 -- a spot of the model as the table's definitions have it
@@ -185,6 +190,11 @@ module _ (place rank : ℤ) (fp : Fits place) (fr : Fits rank) where
       ap₂ (λ (a b : Bool). a || b) (identity-key s (h .0) ∙ eqb-flip (toKeySpot s .key) (key place rank)) (listed-live ss (h .1)) ∙
       sym (live-cond (eqb (key place rank) (toKeySpot s .key)) (s .track) (find (key place rank) (keyed ss)))
 
+  listed-has : (ss : List PlainSpot) → AllFit ss → listed place rank ss ≡ has (key place rank) (keys (keyed ss))
+  listed-has [] h = refl
+  listed-has (s ∷ ss) h =
+      ap₂ (λ (a b : Bool). a || b) (identity-key s (h .0) ∙ eqb-flip (toKeySpot s .key) (key place rank)) (listed-has ss (h .1))
+
   module _ (track : ℕ) where
     -- the new spot
     abbrev pub new : PlainSpot
@@ -198,7 +208,7 @@ module _ (place rank : ℤ) (fp : Fits place) (fr : Fits rank) where
         keyed-put new (takenOut place rank ss) (record { place = fp; rank = fr }) (out-fit ss h) ∙
         ap (put (record { key = key place rank; track = track })) (keyed-out ss h)
 
-    in-fit : (ss : List PlainSpot) → AllFit ss → AllFit (broughtIn new ss)
+    pub in-fit : (ss : List PlainSpot) → AllFit ss → AllFit (broughtIn new ss)
     unfolding broughtIn
     in-fit ss h = insert-fit placeBefore new (takenOut place rank ss) (record { place = fp; rank = fr }) (out-fit ss h)
 
@@ -283,16 +293,26 @@ unfolding accept accepted outputAfter outputLeft
 like-accept d next f = record { answer = refl; output = λ out. refl; counts = refl; next = refl; fit = f }
 
 module _ (ps : Plain) (fit : AllFit (ps .spots)) where
-  -- 1, 2, 6 and 9, by lengths and arguments
-  like-early : (sized lent few inside : Bool) (x : Reply) (y : KeyReply) → Like x y
-      → Like (cond (not sized) (refuse 1 0 ps) (cond (not lent) (refuse 2 0 ps) (cond (not few) (refuse 6 0 ps) (cond (not inside) (refuse 9 0 ps) x))))
-      (refusedOr (cond sized (cond lent (cond few (cond inside 0 9) 6) 2) 1) (keyed (ps .spots)) y)
+  -- a refusal that both give
+  like-refused : (n d e : ℕ) (y : KeyReply) → e ≡ d → Like (refuse (suc n) d ps) (refusedOr (suc n) e (keyed (ps .spots)) y)
   unfolding refuse refusedOr outputAfter outputLeft
-  like-early true true true true x y h = h
-  like-early true true true false x y h = record { answer = refl; output = λ out. refl; counts = refl; next = refl; fit = fit }
-  like-early true true false inside x y h = record { answer = refl; output = λ out. refl; counts = refl; next = refl; fit = fit }
-  like-early true false few inside x y h = record { answer = refl; output = λ out. refl; counts = refl; next = refl; fit = fit }
-  like-early false lent few inside x y h = record { answer = refl; output = λ out. refl; counts = refl; next = refl; fit = fit }
+  like-refused n d e y q = record { answer = ap (answer (suc n)) (sym q); output = λ out. refl; counts = refl; next = refl; fit = fit }
+
+  -- 1, 2, 6, 8 and 9, by lengths and arguments; 9 has the detail d
+  module _ (detail : ℕ → ℕ) (plain : (n : ℕ) → eqb n 9 ≡ false → detail n ≡ 0) (d : ℕ) (x : Reply) (y : KeyReply) (own : Like x y) where
+    early : Bool → Bool → Bool → Bool → Bool → ℕ
+    early sized lent few nothing out = cond sized (cond lent (cond few (cond nothing 8 (cond out 9 0)) 6) 2) 1
+
+    like-early : (sized lent few nothing out : Bool) → (nothing ≡ false → out ≡ true → detail 9 ≡ d)
+        → Like (cond (not sized) (refuse 1 0 ps) (cond (not lent) (refuse 2 0 ps) (cond (not few) (refuse 6 0 ps) (cond nothing (refuse 8 0 ps) (cond out (refuse 9 d ps) x)))))
+        (refusedOr (early sized lent few nothing out) (detail (early sized lent few nothing out)) (keyed (ps .spots)) y)
+    unfolding early refusedOr
+    like-early true true true false false h = own
+    like-early true true true false true h = like-refused 8 d (detail 9) y (h refl refl)
+    like-early true true true true out h = like-refused 7 0 (detail 8) y (plain 8 refl)
+    like-early true true false nothing out h = like-refused 5 0 (detail 6) y (plain 6 refl)
+    like-early true false few nothing out h = like-refused 1 0 (detail 2) y (plain 2 refl)
+    like-early false lent few nothing out h = like-refused 0 0 (detail 1) y (plain 1 refl)
 
   -- 4, or the list is another
   like-full : (b : Bool) (next : Plain) (keys : List Spot) → AllFit (next .spots) → keyed (next .spots) ≡ keys
@@ -300,6 +320,16 @@ module _ (ps : Plain) (fit : AllFit (ps .spots)) where
   unfolding refuse accept changed nextBy outputAfter outputLeft
   like-full true next keys f e = record { answer = refl; output = λ out. refl; counts = refl; next = refl; fit = fit }
   like-full false next keys f e = record { answer = refl; output = λ out. refl; counts = refl; next = e; fit = f }
+
+  -- 4 of a message
+  like-turned : (i : ℕ) (keys : List Spot) → Like (refuse 4 i ps) (changed (answer 4 i) (keyed (ps .spots)) keys)
+  unfolding refuse changed nextBy outputAfter outputLeft
+  like-turned i keys = record { answer = refl; output = λ out. refl; counts = refl; next = refl; fit = fit }
+
+  turned-or : (b : Bool) (i : ℕ) (x : Reply) (a : Answer) (keys : List Spot) → Like x (changed a (keyed (ps .spots)) keys)
+      → Like (cond b (refuse 4 i ps) x) (changed (cond b (answer 4 i) a) (keyed (ps .spots)) keys)
+  turned-or true i x a keys h = like-turned i keys
+  turned-or false i x a keys h = h
 
   -- 5
   like-out : (b : Bool) (found : List PlainSpot) (counts : List ℕ) → AllFit found
@@ -354,25 +384,90 @@ too-many queries = refl
 too-many (queriesEach n) = sym (not-leb n 64)
 too-many tells = refl
 
--- 9
-pub changes-outside : (c : Call) → changesOutside c ≡ not (placeInside c)
-unfolding changesOutside
-changes-outside format = refl
-changes-outside (add place rank track) = outside-limits place
-changes-outside (withdraw place rank) = outside-limits place
-changes-outside (report x1 x2 y) = refl
-changes-outside (top x1 x2 k) = refl
-changes-outside count = refl
-changes-outside check = refl
-changes-outside rebuild = refl
-changes-outside (reportMany rs) = refl
-changes-outside (topWithin x1 x2 k a) = refl
+-- 8 and 9
+plain-number : (b : Bool) → cond {A = ℕ} (not b) 9 0 ≡ cond b 0 9
+plain-number true = refl
+plain-number false = refl
+
+place-number : (place : ℤ) → cond {A = ℕ} (inLimits place) 0 9 ≡ cond (outside place || false) 9 0
+place-number place = sym (ap (λ (b : Bool). cond {A = ℕ} b 9 0) (or-none (outside place) ∙ outside-limits place) ∙ plain-number (inLimits place))
+  where
+    or-none : (b : Bool) → b || false ≡ b
+    or-none true = refl
+    or-none false = refl
+
+pub argument-number : (c : Call) → argumentNumber c ≡ cond (noMessage c) 8 (cond (changesOutside c) 9 0)
+unfolding noMessage changesOutside
+argument-number format = refl
+argument-number (add place rank track) = place-number place
+argument-number (withdraw place rank) = place-number place
+argument-number (report x1 x2 y) = refl
+argument-number (top x1 x2 k) = refl
+argument-number count = refl
+argument-number check = refl
+argument-number rebuild = refl
+argument-number (reportMany rs) = refl
+argument-number (topWithin x1 x2 k a) = refl
+argument-number (apply m) = message-number m
+
+-- and the detail of 9
+place-position : (b : Bool) → b || false ≡ true → _≡_ {A = ℕ} 0 (cond b 0 1)
+place-position true h = refl
+place-position false h = absurd (false≢true h)
+
+outside-detail : (c : Call) → noMessage c ≡ false → changesOutside c ≡ true → earlyDetail c 9 ≡ positionOutside (saidIn (changesIn c))
+unfolding noMessage changesOutside
+outside-detail format n h = refl
+outside-detail (add place rank track) n h = place-position (outside place) h
+outside-detail (withdraw place rank) n h = place-position (outside place) h
+outside-detail (report x1 x2 y) n h = refl
+outside-detail (top x1 x2 k) n h = refl
+outside-detail count n h = refl
+outside-detail check n h = refl
+outside-detail rebuild n h = refl
+outside-detail (reportMany rs) n h = refl
+outside-detail (topWithin x1 x2 k a) n h = refl
+outside-detail (apply m) n h = message-detail m n h
 
 -- 4
 full-number : (bytes : ℕ) (place rank : ℤ) (ss : List PlainSpot) → Fits place → Fits rank → AllFit ss
     → addNumber bytes (length (keyed ss)) (isLive (find (key place rank) (keyed ss))) ≡ cond (full bytes place rank ss) 4 0
 unfolding full addNumber
 full-number bytes place rank ss fp fr h = rw (keyed-length ss, ← listed-live place rank fp fr ss h)
+
+-- ---- a message
+
+-- one change of it
+keyed-change : (c : PlainChange) (ss : List PlainSpot) → ChangeFits c → AllFit ss → keyed (changedBy c ss) ≡ afterChange (toKeyChange c) (keyed ss)
+unfolding changedBy afterChange
+keyed-change (hang s) ss f h = keyed-in (s .place) (s .rank) (f .0) (f .1) (s .track) ss h
+keyed-change (takeDown place rank) ss f h = keyed-out place rank (f .0) (f .1) ss h
+
+change-fit : (c : PlainChange) (ss : List PlainSpot) → ChangeFits c → AllFit ss → AllFit (changedBy c ss)
+unfolding changedBy
+change-fit (hang s) ss f h = in-fit (s .place) (s .rank) (f .0) (f .1) (s .track) ss h
+change-fit (takeDown place rank) ss f h = out-fit place rank (f .0) (f .1) ss h
+
+turned-down : (bytes : ℕ) (c : PlainChange) (ss : List PlainSpot) → ChangeFits c → AllFit ss → turnedDown bytes c ss ≡ turnsDown bytes (toKeyChange c) (keyed ss)
+unfolding turnedDown turnsDown full
+turned-down bytes (hang s) ss f h =
+    ap₂ (λ (n : ℕ) (b : Bool). leb (16 * (bytes / 2048 - 1)) n && not b) (sym (keyed-length ss)) (listed-has (s .place) (s .rank) (f .0) (f .1) ss h)
+turned-down bytes (takeDown place rank) ss f h = refl
+
+-- all of them, one after another
+module _ (bytes : ℕ) (ps : Plain) (fit : AllFit (ps .spots)) where
+  like-applied : (i : ℕ) (cs : List PlainChange) (ss : List PlainSpot) → ChangesFit cs → AllFit ss
+      → Like (applied bytes i cs ss ps) (changed (appliedFrom bytes i (keyedChanges cs) (keyed ss)) (keyed (ps .spots)) (afterAll (keyedChanges cs) (keyed ss)))
+  unfolding accept changed nextBy outputAfter outputLeft
+  like-applied i [] ss f h = record { answer = refl; output = λ out. refl; counts = refl; next = refl; fit = h }
+  like-applied i (c ∷ cs) ss f h =
+      let due : Reply = applied bytes i (c ∷ cs) ss ps in
+      let ks : List Change = keyedChanges cs in
+      let next : List Spot = keyed (changedBy c ss) in
+      subst (λ (l : List Spot). Like due (changed (cond (turnsDown bytes (toKeyChange c) (keyed ss)) (answer 4 i) (appliedFrom bytes (suc i) ks l)) (keyed (ps .spots)) (afterAll ks l)))
+      (keyed-change c ss (f .0) h)
+      (subst (λ (b : Bool). Like due (changed (cond b (answer 4 i) (appliedFrom bytes (suc i) ks next)) (keyed (ps .spots)) (afterAll ks next))) (turned-down bytes c ss (f .0) h)
+      (turned-or ps fit (turnedDown bytes c ss) i _ _ _ (like-applied (suc i) cs (changedBy c ss) (f .1) (change-fit c ss (f .0) h))))
 
 -- the highest, for a call of Top's kind
 like-top : (l : Lengths) (x1 x2 : ℤ) (k : ℕ) (ps : Plain) → signed32 x1 && signed32 x2 ≡ true → (h : AllFit (ps .spots))
@@ -408,9 +503,23 @@ like-own l (reportMany rs) ps a h =
     (counts-each (ps .spots) h rs a)
 like-own l (topWithin x1 x2 k a) ps b h =
     like-top l x1 x2 k ps (and-left (signed32 x1 && signed32 x2) (unsigned32 k) (and-left (signed32 x1 && signed32 x2 && unsigned32 k) (unsigned32 a) b)) h
+like-own l (apply m) ps a h =
+    subst (λ (ks : List Change). Like (ownReply l (apply m) ps) (changed (appliedAnswer (l .table) ks (keyed (ps .spots))) (keyed (ps .spots)) (afterAll ks (keyed (ps .spots)))))
+    (sym (changes-are m))
+    (like-applied (l .table) ps h 0 (saidIn (plainMessage m)) (ps .spots) (changes-fit m) h)
+
+-- lengths and arguments decide alike
+pub early-is : (l : Lengths) (c : Call)
+    → earlyNumber l c
+    ≡ cond (tableSized (l .table)) (cond (lent l (kind c)) (cond (fewEnough (kind c)) (cond (noMessage c) 8 (cond (changesOutside c) 9 0)) 6) 2) 1
+unfolding earlyNumber
+early-is l c = ap (λ (n : ℕ). cond (tableSized (l .table)) (cond (lent l (kind c)) (cond (fewEnough (kind c)) n 6) 2) 1) (argument-number c)
 
 pub like : (l : Lengths) (c : Call) (ps : Plain) → argumentsFit c ≡ true → AllFit (ps .spots) → Like (reply l c ps) (keyReply l c (keyed (ps .spots)))
-unfolding reply keyReply earlyNumber
+unfolding reply keyReply early
 like l c ps a h =
-    rw (bad-table (l .table), bad-lent l (kind c), too-many (kind c), changes-outside c)
-    (like-early ps h (tableSized (l .table)) (lent l (kind c)) (fewEnough (kind c)) (placeInside c) _ _ (like-own l c ps a h))
+    subst (λ (n : ℕ). Like (reply l c ps) (refusedOr n (earlyDetail c n) (keyed (ps .spots)) (replyTo l c (keyed (ps .spots))))) (sym (early-is l c))
+    (rw (bad-table (l .table), bad-lent l (kind c), too-many (kind c))
+    (like-early ps h (earlyDetail c) (early-detail c) (positionOutside (saidIn (changesIn c))) _ _ (like-own l c ps a h) (tableSized (l .table)) (lent l (kind c)) (fewEnough (kind c)) (noMessage c)
+    (changesOutside c)
+    (outside-detail c)))

@@ -1,18 +1,19 @@
--- Request 2026-07: 9 from the promises of the calls alone, places from what is live in a sound table.
+-- Requests 2026-06 and 2026-07: 8 and 9 from the promises of the calls alone, places from what is live in a sound table.
 -- Assumes nothing.
 use mathlib.Core.Path.{_≡_, refl, ap, sym, _∙_}
 use mathlib.Core.Logic.{⊎-elim}
-use mathlib.Core.Bool.{Bool, true, false, cond, true≢false, false≢true}
+use mathlib.Core.Bool.{Bool, true, false, cond, true≢false}
 use mathlib.Core.List.{List}
-use mathlib.Core.Option.{Option}
-use Prim.Native.Nat.{ℕ, zero, suc, _/_}
+use mathlib.Core.Option.{Option, some}
+use Prim.Native.Nat.{ℕ, zero, suc, _/_, _≤_, _<_}
 use native.Mathlib.Omega.{arith}
-use lib.Dec.{ltb}
+use lib.Dec.{leb, ltb}
 use lib.IntN.{ℤ, _-ℤ_}
 use lib.ListN.{length}
-use borrow.Author.Tests.{le-leb, not-true, not-false}
-use Rattle.octets.specs.Lists.{has}
+use borrow.Author.Tests.{le-leb, leb-true, not-true}
+use Rattle.octets.specs.Lists.{every, has}
 use Rattle.octets.proofs.Order.{same-or-not}
+use Rattle.octets.proofs.Sets.{every-has}
 use Rattle.spot.specs.Keys.{key, inLimits, limited}
 use Rattle.spot.proofs.Limits.{limited-key, gap-fits}
 use Rattle.spot.proofs.Signed.{signed-fits, fits-signed}
@@ -27,109 +28,161 @@ use Rattle.tree.specs.Sound.{sound}
 use Rattle.tree.specs.Walk.{Walk, broken, walked}
 use Rattle.tree.proofs.Legal.{lookup-outside}
 use Rattle.tree.proofs.Tables.{sound-tree}
-use Rattle.table.specs.Calls.{Call, format, add, withdraw, report, top, count, check, rebuild, reportMany, topWithin, kind, Lengths}
-use Rattle.table.specs.Answers.{ofTable, withScratch, withOutput, withCounts, lent, fewEnough, placeInside, earlyNumber, unlessRefused, spotsAnswer, outcomes}
+use Rattle.table.specs.Calls.{Call, format, add, withdraw, report, top, count, check, rebuild, reportMany, topWithin, apply, kind, Lengths}
+use Rattle.table.specs.Answers.{ofTable, withScratch, withOutput, withCounts, lent, fewEnough, argumentNumber, earlyNumber, earlyDetail, unlessRefused, spotsAnswer, outcomes}
 use Rattle.table.specs.Queries.{walkAnswer, countAnswer, SearchPost}
 use Rattle.table.specs.Updates.{scratchLeft, UpdatePost}
-use Rattle.table.proofs.Answering.{number-outside}
+use Rattle.table.proofs.Answering.{number-argument}
 use Rattle.table.proofs.Changes.{number-is}
-use Rattle.demands.specs.Model.{PlainSpot, outside}
+use Rattle.message.specs.Messages.{messageAnswer}
+use Rattle.demands.specs.Model.{PlainSpot, PlainChange, plainMessage, noMessage, nothingSaid, saidIn, outside, someOutside, positionOutside, changesOutside}
 use Rattle.demands.specs.History.{Event, MetBy}
-use Rattle.demands.specs.Demands.{LiveSpot, RefusedOutside, PlacesEnd}
+use Rattle.demands.specs.Demands.{LiveSpot, RefusedMessages, RefusedOutside, PlacesEnd}
 use Rattle.demands.proofs.Orders.{outside-limits}
-use Rattle.demands.proofs.Plain.{changes-outside}
+use Rattle.demands.proofs.Plain.{early-is}
+use Rattle.demands.proofs.Messages.{message-number, message-detail}
 
 -- ---- outside
 
-outside-not : (place : ℤ) → outside place ≡ true → inLimits place ≡ false
-outside-not place o = not-true (inLimits place) (sym (outside-limits place) ∙ o)
+outside-nine : (place : ℤ) → outside place ≡ true → cond {A = ℕ} (inLimits place) 0 9 ≡ 9
+outside-nine place o = ap (λ (b : Bool). cond {A = ℕ} b 0 9) (not-true (inLimits place) (sym (outside-limits place) ∙ o))
 
+-- refused by the arguments: everything is as it was
 module _ (c : Call) (due : Answer) (after : ℕ → Option ℕ) (t w : List ℕ) (r : Answer) (t′ w′ : List ℕ) (p : UpdatePost c due after t w r t′ w′) where
-  refused-nine : earlyNumber (withScratch t w) c ≡ 9 → (r ≡ answer 9 0) × (t′ ≡ t) × (w′ ≡ w)
+  refused-by : (n : ℕ) → 5 < n → scratchLeft (length t) n w ≡ w → tableSized (length t) ≡ true → lent (withScratch t w) (kind c) ≡ true → fewEnough (kind c) ≡ true → argumentNumber c ≡ n
+      → (r ≡ answer n (earlyDetail c n)) × (t′ ≡ t) × (w′ ≡ w)
+  refused-by n late same z l f o =
+      let e : earlyNumber (withScratch t w) c ≡ n = number-argument (withScratch t w) c z l f ∙ o in
+      let a : r ≡ answer n (earlyDetail c n) = p .refusals (λ x. omega arith) ∙ ap (λ (i : ℕ). answer i (earlyDetail c i)) e in
+      let m : r .number ≡ n = number-is a in
+      (a, p .unchanged (λ x. omega arith), p .scratch ∙ ap (λ (i : ℕ). scratchLeft (length t) i w) m ∙ same)
+
+  refused-eight : tableSized (length t) ≡ true → lent (withScratch t w) (kind c) ≡ true → fewEnough (kind c) ≡ true → argumentNumber c ≡ 8
+      → (r ≡ answer 8 (earlyDetail c 8)) × (t′ ≡ t) × (w′ ≡ w)
   unfolding scratchLeft
-  refused-nine e =
-      let a : r ≡ answer 9 0 = p .refusals (λ z. omega arith) ∙ ap (λ (i : ℕ). answer i 0) e in
-      let n : r .number ≡ 9 = number-is a in
-      (a, p .unchanged (λ z. omega arith), p .scratch ∙ ap (λ (i : ℕ). scratchLeft (length t) i w) n)
+  refused-eight = refused-by 8 (omega arith) refl
+
+  refused-nine : tableSized (length t) ≡ true → lent (withScratch t w) (kind c) ≡ true → fewEnough (kind c) ≡ true → argumentNumber c ≡ 9
+      → (r ≡ answer 9 (earlyDetail c 9)) × (t′ ≡ t) × (w′ ≡ w)
+  unfolding scratchLeft
+  refused-nine = refused-by 9 (omega arith) refl
 
 -- ---- and nothing else
 
--- lengths and arguments don't decide on 9
-inside-early : (l : Lengths) (c : Call) → placeInside c ≡ true → earlyNumber l c ≡ 9 → ⊥
-unfolding earlyNumber
-inside-early l c = go (tableSized (l .table)) (lent l (kind c)) (fewEnough (kind c)) (placeInside c)
+-- lengths and arguments don't decide on 8 or on 9
+early-by : (l : Lengths) (c : Call) (n : ℕ) → 6 < n → earlyNumber l c ≡ n → cond (noMessage c) 8 (cond (changesOutside c) 9 0) ≡ n
+early-by l c n late h =
+    go (tableSized (l .table)) (lent l (kind c)) (fewEnough (kind c)) (cond (noMessage c) 8 (cond (changesOutside c) 9 0)) (sym (early-is l c) ∙ h)
   where
-    go : (a b d f : Bool) → f ≡ true → _≡_ {A = ℕ} (cond a (cond b (cond d (cond f 0 9) 6) 2) 1) 9 → ⊥
-    go true true true true i h = omega (arith, h)
-    go true true true false i h = false≢true i
-    go true true false f i h = omega (arith, h)
-    go true false d f i h = omega (arith, h)
-    go false b d f i h = omega (arith, h)
+    go : (a b d : Bool) (k : ℕ) → _≡_ {A = ℕ} (cond a (cond b (cond d k 6) 2) 1) n → k ≡ n
+    go true true true k i = i
+    go true true false k i = absurd (omega arith)
+    go true false d k i = absurd (omega arith)
+    go false b d k i = absurd (omega arith)
 
--- nor is it the number of an answer that is none of theirs
-unless-nine : (n : ℕ) (r a : Answer) → r ≡ unlessRefused n a → (n ≡ 9 → ⊥) → (a .number ≡ 9 → ⊥) → r .number ≡ 9 → ⊥
+-- a number above 5 is theirs
+unless-late : (n : ℕ) (r a : Answer) → r ≡ unlessRefused n a → a .number ≤ 5 → 5 < r .number → n ≡ r .number
 unfolding unlessRefused
-unless-nine zero r a e f g h = g (sym (ap (λ (x : Answer). x .number) e) ∙ h)
-unless-nine (suc n) r a e f g h = f (sym (ap (λ (x : Answer). x .number) e) ∙ h)
+unless-late zero r a e f h = let i : r .number ≡ a .number = ap (λ (x : Answer). x .number) e in absurd (omega arith)
+unless-late (suc n) r a e f h = sym (ap (λ (x : Answer). x .number) e)
 
-outcome-nine : (c : Call) (n : ℕ) → has 9 (outcomes c) ≡ false → has n (outcomes c) ≡ true → n ≡ 9 → ⊥
-outcome-nine c n none h e = true≢false (sym h ∙ ap (λ (i : ℕ). has i (outcomes c)) e ∙ none)
+outcome-late : (c : Call) (n : ℕ) → every (λ m. leb m 5) (outcomes c) ≡ true → has n (outcomes c) ≡ true → n ≤ 5
+outcome-late c n few h = leb-true n 5 (every-has (λ m. leb m 5) n (outcomes c) few h)
 
-walk-nine : (bytes : ℕ) (w : Walk) → walkAnswer bytes w .number ≡ 9 → ⊥
+walk-late : (bytes : ℕ) (w : Walk) → walkAnswer bytes w .number ≤ 5
 unfolding walkAnswer spotsAnswer
-walk-nine bytes broken h = omega (arith, h)
-walk-nine bytes (walked found blocks) h = go (ltb (bytes / 12) (length found)) h
+walk-late bytes broken = omega arith
+walk-late bytes (walked found blocks) = go (ltb (bytes / 12) (length found))
   where
-    go : (b : Bool) → _≡_ {A = ℕ} (cond b 5 0) 9 → ⊥
-    go true x = omega (arith, x)
-    go false x = omega (arith, x)
+    go : (b : Bool) → cond b 5 0 ≤ 5
+    go true = omega arith
+    go false = omega arith
 
-count-nine : (w : Walk) → countAnswer w .number ≡ 9 → ⊥
+count-late : (w : Walk) → countAnswer w .number ≤ 5
 unfolding countAnswer
-count-nine broken h = omega (arith, h)
-count-nine (walked found blocks) h = omega (arith, h)
+count-late broken = omega arith
+count-late (walked found blocks) = omega arith
 
-module _ (c : Call) (t : List ℕ) (e : Event) (inside : placeInside c ≡ true) (none : has 9 (outcomes c) ≡ false) where
+module _ (c : Call) (t : List ℕ) (e : Event) (late : 5 < e .answer .number) (few : every (λ m. leb m 5) (outcomes c) ≡ true) where
   -- a call that changes the table
-  update-nine : (due : Answer) (after : ℕ → Option ℕ) → UpdatePost c due after t (e .scratch) (e .answer) (e .table′) (e .scratch′) → e .answer .number ≡ 9 → ⊥
-  update-nine due after p h =
-      ⊎-elim (λ l. outcome-nine c (e .answer .number) none (p .numbers l) h)
-      (λ l. inside-early (withScratch t (e .scratch)) c inside (sym (number-is (p .refusals l)) ∙ h))
+  update-late : (due : Answer) (after : ℕ → Option ℕ) → UpdatePost c due after t (e .scratch) (e .answer) (e .table′) (e .scratch′)
+      → earlyNumber (withScratch t (e .scratch)) c ≡ e .answer .number
+  update-late due after p =
+      ⊎-elim (λ l. let m = outcome-late c (e .answer .number) few (p .numbers l) in absurd (omega arith)) (λ l. sym (number-is (p .refusals l)))
       (same-or-not (earlyNumber (withScratch t (e .scratch)) c) 0)
 
   -- a best-first search
-  search-nine : (x1 x2 : ℤ) (exactly : Type 0) → SearchPost c x1 x2 exactly t (e .output) (e .readMap) (e .answer) (e .output′) (e .readMap′) → e .answer .number ≡ 9 → ⊥
-  search-nine x1 x2 exactly p h =
-      ⊎-elim (λ l. outcome-nine c (e .answer .number) none (p .refusals l) h)
-      (λ l. inside-early (withOutput t (e .output) (e .readMap)) c inside (sym (number-is (p .byLengths l)) ∙ h))
+  search-late : (x1 x2 : ℤ) (exactly : Type 0) → SearchPost c x1 x2 exactly t (e .output) (e .readMap) (e .answer) (e .output′) (e .readMap′)
+      → earlyNumber (withOutput t (e .output) (e .readMap)) c ≡ e .answer .number
+  search-late x1 x2 exactly p =
+      ⊎-elim (λ l. let m = outcome-late c (e .answer .number) few (p .refusals l) in absurd (omega arith)) (λ l. sym (number-is (p .byLengths l)))
       (same-or-not (earlyNumber (withOutput t (e .output) (e .readMap)) c) 0)
 
-never-nine : (c : Call) (t : List ℕ) (e : Event) → MetBy c t e → placeInside c ≡ true → e .answer .number ≡ 9 → ⊥
-never-nine format t e p i = unless-nine _ _ (answer 0 0) (p .promised .answered) (inside-early (ofTable t) format i) (λ h. omega (arith, h))
-never-nine (add place rank track) t e p i = update-nine (add place rank track) t e i refl _ _ (p .promised .update)
-never-nine (withdraw place rank) t e p i = update-nine (withdraw place rank) t e i refl _ _ (p .promised .update)
-never-nine (report x1 x2 y) t e p i =
-    unless-nine _ _ _ (p .promised .answered) (inside-early (withOutput t (e .output) (e .readMap)) (report x1 x2 y) i) (walk-nine (length (e .output)) _)
-never-nine (top x1 x2 k) t e p i = search-nine (top x1 x2 k) t e i refl x1 x2 _ (p .promised)
-never-nine count t e p i = unless-nine _ _ _ (p .promised .answered) (inside-early (ofTable t) count i) (count-nine _)
-never-nine check t e p i = unless-nine _ _ (answer 0 _) (p .promised .answered) (inside-early (ofTable t) check i) (λ h. omega (arith, h))
-never-nine rebuild t e p i = update-nine rebuild t e i refl _ _ (p .promised .update)
-never-nine (reportMany rs) t e p i =
-    unless-nine _ _ _ (p .promised .handed .answered) (inside-early (withCounts t (e .output) (e .readMap) (e .counts)) (reportMany rs) i) (walk-nine (length (e .output)) _)
-never-nine (topWithin x1 x2 k a) t e p i = search-nine (topWithin x1 x2 k a) t e i refl x1 x2 _ (p .promised .search)
+late-early : (c : Call) (t : List ℕ) (e : Event) → MetBy c t e → 5 < e .answer .number → (l : Lengths) × (earlyNumber l c ≡ e .answer .number)
+late-early format t e p h = (ofTable t, unless-late _ _ (answer 0 0) (p .promised .answered) (omega arith) h)
+late-early (add place rank track) t e p h = (withScratch t (e .scratch), update-late (add place rank track) t e h refl _ _ (p .promised .update))
+late-early (withdraw place rank) t e p h = (withScratch t (e .scratch), update-late (withdraw place rank) t e h refl _ _ (p .promised .update))
+late-early (report x1 x2 y) t e p h = (withOutput t (e .output) (e .readMap), unless-late _ _ _ (p .promised .answered) (walk-late (length (e .output)) _) h)
+late-early (top x1 x2 k) t e p h = (withOutput t (e .output) (e .readMap), search-late (top x1 x2 k) t e h refl x1 x2 _ (p .promised))
+late-early count t e p h = (ofTable t, unless-late _ _ _ (p .promised .answered) (count-late _) h)
+late-early check t e p h = (ofTable t, unless-late _ _ (answer 0 _) (p .promised .answered) (omega arith) h)
+late-early rebuild t e p h = (withScratch t (e .scratch), update-late rebuild t e h refl _ _ (p .promised .update))
+late-early (reportMany rs) t e p h = (
+  withCounts t (e .output) (e .readMap) (e .counts),
+  unless-late _ _ _ (p .promised .handed .answered) (walk-late (length (e .output)) _) h,
+)
+late-early (topWithin x1 x2 k a) t e p h = (withOutput t (e .output) (e .readMap), search-late (topWithin x1 x2 k a) t e h refl x1 x2 _ (p .promised .search))
+late-early (apply m) t e p h = (withScratch t (e .scratch), update-late (apply m) t e h refl _ _ (p .promised .update))
 
--- ---- the request
+-- so 8 and 9 come from a message and from places
+decided : (c : Call) (t : List ℕ) (e : Event) → MetBy c t e → 6 < e .answer .number → cond (noMessage c) 8 (cond (changesOutside c) 9 0) ≡ e .answer .number
+decided c t e p h = let r = late-early c t e p (omega arith) in early-by (r .0) c (e .answer .number) h (r .1)
+
+never-eight : (c : Call) (t : List ℕ) (e : Event) → MetBy c t e → noMessage c ≡ false → e .answer .number ≡ 8 → ⊥
+never-eight c t e p n h =
+    go (changesOutside c) (ap (λ (b : Bool). cond b 8 (cond (changesOutside c) 9 0)) (sym n) ∙ decided c t e p (omega arith) ∙ h)
+  where
+    go : (b : Bool) → _≡_ {A = ℕ} (cond b 9 0) 8 → ⊥
+    go true i = omega (arith, i)
+    go false i = omega (arith, i)
+
+never-nine : (c : Call) (t : List ℕ) (e : Event) → MetBy c t e → changesOutside c ≡ false → e .answer .number ≡ 9 → ⊥
+never-nine c t e p n h =
+    go (noMessage c) (ap (λ (b : Bool). cond (noMessage c) 8 (cond b 9 0)) (sym n) ∙ decided c t e p (omega arith) ∙ h)
+  where
+    go : (b : Bool) → _≡_ {A = ℕ} (cond b 8 0) 9 → ⊥
+    go true i = omega (arith, i)
+    go false i = omega (arith, i)
+
+-- ---- the requests
+
+pub refused-messages : RefusedMessages
+refused-messages =
+    record {
+      applies = λ m t w r t′ w′ p z l e.
+          refused-eight (apply m) _ _ t w r t′ w′ (p .update) z (le-leb (length t) (length w) l) refl (message-number m ∙ rw e);
+      else = λ t e p n. never-eight (e .call) t e p n;
+    }
+
+-- a message with a change outside
+module _ (m : List ℕ) (cs : List PlainChange) (e : plainMessage m ≡ some cs) (o : someOutside cs ≡ true) where
+  nine-number : messageAnswer m .number ≡ 9
+  nine-number = message-number m ∙ rw (e, o)
+
+  nine-position : messageAnswer m .detail ≡ positionOutside cs
+  nine-position = message-detail m (ap nothingSaid e) (ap (λ (x : Option (List PlainChange)). someOutside (saidIn x)) e ∙ o) ∙ ap (λ (x : Option (List PlainChange)). positionOutside (saidIn x)) e
 
 pub refused-outside : RefusedOutside
 refused-outside =
     record {
       adds = λ place rank track t w r t′ w′ p z l o.
-          refused-nine (add place rank track) _ _ t w r t′ w′ (p .update)
-          (number-outside (withScratch t w) (add place rank track) z (le-leb (length t) (length w) l) refl (outside-not place o));
+          refused-nine (add place rank track) _ _ t w r t′ w′ (p .update) z (le-leb (length t) (length w) l) refl (outside-nine place o);
       withdraws = λ place rank t w r t′ w′ p z l o.
-          refused-nine (withdraw place rank) _ _ t w r t′ w′ (p .update)
-          (number-outside (withScratch t w) (withdraw place rank) z (le-leb (length t) (length w) l) refl (outside-not place o));
-      else = λ t e p o. never-nine (e .call) t e p (not-false (placeInside (e .call)) (sym (changes-outside (e .call)) ∙ o));
+          refused-nine (withdraw place rank) _ _ t w r t′ w′ (p .update) z (le-leb (length t) (length w) l) refl (outside-nine place o);
+      applies = λ m t w r t′ w′ cs p z l e o.
+          let n = refused-nine (apply m) _ _ t w r t′ w′ (p .update) z (le-leb (length t) (length w) l) refl (nine-number m cs e o) in
+          (n .0 ∙ ap (answer 9) (nine-position m cs e o), n .1, n .2);
+      else = λ t e p o. never-nine (e .call) t e p o;
     }
 
 -- ---- places have an end

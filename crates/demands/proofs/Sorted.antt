@@ -14,11 +14,13 @@ use Rattle.octets.specs.Lists.{every, keep}
 use Rattle.octets.proofs.Tests.{and-left, and-right, and-both, every-mem, every-make, keep-in, keep-length, neither}
 use Rattle.octets.proofs.Order.{less-or-not}
 use Rattle.spot.specs.Keys.{key, signed32, unsigned32}
+use Rattle.spot.proofs.Signed.{Fits}
 use Rattle.ranges.specs.Ranges.{forEach}
-use Rattle.table.specs.Calls.{Call, format, add, withdraw, report, top, count, check, rebuild, reportMany, topWithin, kind, Lengths, argumentsFit}
-use Rattle.demands.specs.Model.{PlainSpot, hasIdentity, placeBefore, chosen, reported, reportedIn, insertBy, listed, takenOut, broughtIn, highest, Plain, Reply, refuse, accept, badTable, badLent, tooMany, outside, changesOutside, full, handOut, ownReply, reply}
+use Rattle.table.specs.Calls.{Call, format, add, withdraw, report, top, count, check, rebuild, reportMany, topWithin, apply, kind, Lengths, argumentsFit}
+use Rattle.demands.specs.Model.{PlainSpot, PlainChange, hang, takeDown, plainMessage, saidIn, noMessage, turnedDown, changedBy, applied, hasIdentity, placeBefore, chosen, reported, reportedIn, insertBy, listed, takenOut, broughtIn, highest, Plain, Reply, refuse, accept, badTable, badLent, tooMany, outside, changesOutside, full, handOut, ownReply, reply}
 use Rattle.demands.specs.Demands.{InOrder}
-use Rattle.demands.proofs.Plain.{toKeySpot, SpotFits, AllFit, before-is, identity-key, out-fit, two-fit}
+use Rattle.demands.proofs.Plain.{toKeySpot, SpotFits, AllFit, before-is, identity-key, out-fit, in-fit, two-fit}
+use Rattle.demands.proofs.Messages.{ChangeFits, ChangesFit, changes-fit}
 
 -- no identity stands twice
 abbrev pub IdentityOnce : List PlainSpot → Type 0
@@ -142,14 +144,28 @@ module _ (P : List PlainSpot → Type 0) (l : Lengths) (ps : Plain) (kept : P (p
 
   -- what holds of no spots, and after an addition and a withdrawal, holds after every call
   module _ (none : P [])
-      (added : (place rank : ℤ) (track : ℕ) → argumentsFit (add place rank track) ≡ true → full (l .table) place rank (ps .spots) ≡ false
-      → P (broughtIn (record { place = place; rank = rank; track = track }) (ps .spots)))
-      (withdrawn : (place rank : ℤ) → P (takenOut place rank (ps .spots))) where
+      (added : (place rank : ℤ) (track : ℕ) (ss : List PlainSpot) → Fits place → Fits rank → P ss → full (l .table) place rank ss ≡ false
+      → P (broughtIn (record { place = place; rank = rank; track = track }) ss))
+      (withdrawn : (place rank : ℤ) (ss : List PlainSpot) → Fits place → Fits rank → P ss → P (takenOut place rank ss)) where
+    after-change : (c : PlainChange) (ss : List PlainSpot) → ChangeFits c → P ss → turnedDown (l .table) c ss ≡ false → P (changedBy c ss)
+    unfolding changedBy turnedDown
+    after-change (hang s) ss f p h = added (s .place) (s .rank) (s .track) ss (f .0) (f .1) p h
+    after-change (takeDown place rank) ss f p h = withdrawn place rank ss (f .0) (f .1) p
+
+    -- a message
+    after-changes : (i : ℕ) (cs : List PlainChange) (ss : List PlainSpot) → ChangesFit cs → P ss → P (applied (l .table) i cs ss ps .next .spots)
+    unfolding accept
+    after-changes i [] ss f p = p
+    after-changes i (c ∷ cs) ss f p =
+        refused-or (turnedDown (l .table) c ss) 4 i _ (λ z. after-changes (suc i) cs (changedBy c ss) (f .1) (after-change c ss (f .0) p z))
+
     after-call : (c : Call) → argumentsFit c ≡ true → P (ownReply l c ps .next .spots)
-    unfolding ownReply accept handOut
+    unfolding ownReply accept handOut argumentsFit
     after-call format a = none
-    after-call (add place rank track) a = refused-or (full (l .table) place rank (ps .spots)) 4 0 _ (added place rank track a)
-    after-call (withdraw place rank) a = withdrawn place rank
+    after-call (add place rank track) a =
+        let f = two-fit place rank (and-left (signed32 place && signed32 rank) (unsigned32 track) a) in
+        refused-or (full (l .table) place rank (ps .spots)) 4 0 _ (added place rank track (ps .spots) (f .0) (f .1) kept)
+    after-call (withdraw place rank) a = let f = two-fit place rank a in withdrawn place rank (ps .spots) (f .0) (f .1) kept
     after-call (report x1 x2 y) a = refused-or (ltb (l .output / 12) (length (reported x1 x2 y (ps .spots)))) 5 _ _ (λ z. kept)
     after-call (top x1 x2 k) a = refused-or (ltb (l .output / 12) (length (highest x1 x2 k (ps .spots)))) 5 _ _ (λ z. kept)
     after-call count a = kept
@@ -157,27 +173,35 @@ module _ (P : List PlainSpot → Type 0) (l : Lengths) (ps : Plain) (kept : P (p
     after-call rebuild a = kept
     after-call (reportMany rs) a = refused-or (ltb (l .output / 12) (length (forEach (reportedIn (ps .spots)) rs))) 5 _ _ (λ z. kept)
     after-call (topWithin x1 x2 k b) a = refused-or (ltb (l .output / 12) (length (highest x1 x2 k (ps .spots)))) 5 _ _ (λ z. kept)
+    after-call (apply m) a = after-changes 0 (saidIn (plainMessage m)) (ps .spots) (changes-fit m) kept
 
     stays : (c : Call) → argumentsFit c ≡ true → P (reply l c ps .next .spots)
     unfolding reply
     stays c a =
         refused-or (badTable (l .table)) 1 0 _
-        (λ z. refused-or (badLent l (kind c)) 2 0 _ (λ y. refused-or (tooMany (kind c)) 6 0 _ (λ x. refused-or (changesOutside c) 9 0 _ (λ w. after-call c a))))
+        (λ z.
+        refused-or (badLent l (kind c)) 2 0 _
+        (λ y. refused-or (tooMany (kind c)) 6 0 _ (λ x. refused-or (noMessage c) 8 0 _ (λ v. refused-or (changesOutside c) 9 _ _ (λ w. after-call c a)))))
+
+-- in place order, with numbers that fit
+abbrev Sorted : List PlainSpot → Type 0
+Sorted ss = AllFit ss × InOrder placeBefore ss
 
 -- "It holds spots, no identity twice": every call keeps the list in place order
 pub stays-in-order : (l : Lengths) (c : Call) (ps : Plain) → argumentsFit c ≡ true → AllFit (ps .spots) → InOrder placeBefore (ps .spots) → InOrder placeBefore (reply l c ps .next .spots)
-unfolding argumentsFit takenOut broughtIn
+unfolding takenOut broughtIn
 stays-in-order l c ps a h o =
-    stays (InOrder placeBefore) l ps o tt
-    (λ place rank track b n.
-    let f = two-fit place rank (and-left (signed32 place && signed32 rank) (unsigned32 track) b) in
-    order-insert (record { place = place; rank = rank; track = track }) (takenOut place rank (ps .spots)) (record { place = f .0; rank = f .1 })
-    (out-fit place rank (f .0) (f .1) (ps .spots) h)
-    (listed-out place rank (ps .spots))
-    (order-chosen (λ s. not (hasIdentity place rank s)) (ps .spots) o))
-    (λ place rank. order-chosen (λ s. not (hasIdentity place rank s)) (ps .spots) o)
+    stays Sorted l ps (h, o) (tt, tt)
+    (λ place rank track ss f g p n. (
+      in-fit place rank f g track ss (p .0),
+      order-insert (record { place = place; rank = rank; track = track }) (takenOut place rank ss) (record { place = f; rank = g }) (out-fit place rank f g ss (p .0))
+          (listed-out place rank ss)
+          (order-chosen (λ s. not (hasIdentity place rank s)) ss (p .1)),
+    ))
+    (λ place rank ss f g p. (out-fit place rank f g ss (p .0), order-chosen (λ s. not (hasIdentity place rank s)) ss (p .1)))
     c
     a
+    .1
 
 -- ---- the number of spots
 
@@ -230,8 +254,8 @@ held-add bytes place rank track ss h e =
 -- no call makes more
 pub stays-held : (l : Lengths) (c : Call) (ps : Plain) → argumentsFit c ≡ true → Held (l .table) (ps .spots) → Held (l .table) (reply l c ps .next .spots)
 stays-held l c ps a h =
-    stays (Held (l .table)) l ps h (omega arith) (λ place rank track b n. held-add (l .table) place rank track (ps .spots) h n)
-    (λ place rank. let j = fewer-out place rank (ps .spots) in omega arith)
+    stays (Held (l .table)) l ps h (omega arith) (λ place rank track ss f g p n. held-add (l .table) place rank track ss p n)
+    (λ place rank ss f g p. let j = fewer-out place rank ss in omega arith)
     c
     a
 
@@ -239,7 +263,7 @@ stays-held l c ps a h =
 pub says-full : (l : Lengths) (place rank : ℤ) (track : ℕ) (ps : Plain) → badTable (l .table) ≡ false → l .table ≤ l .scratch → outside place ≡ false
     → length (ps .spots) ≤ 16 * (l .table / 2048 - 1)
     → (reply l (add place rank track) ps .answer .number ≡ 4) ↔ ((length (ps .spots) ≡ 16 * (l .table / 2048 - 1)) × (listed place rank (ps .spots) ≡ false))
-unfolding reply badLent tooMany changesOutside ownReply full refuse accept
+unfolding reply badLent tooMany noMessage changesOutside ownReply full refuse accept
 says-full l place rank track ps z w i h =
     rw (z, le-ltb (l .scratch) (l .table) w, i) (four (leb (16 * (l .table / 2048 - 1)) (length (ps .spots))) refl (listed place rank (ps .spots)) refl)
   where

@@ -1,14 +1,14 @@
--- The marked cases M1 to M8 of the paper and those of rings, of many ranges, of an allowance, of a full table, of lengths and of the ends of 32 bits, as rows of one table: a test that antt
+-- The marked cases M1 to M8 of the paper and those of rings, of many ranges, of an allowance, of messages, of a full table, of lengths and of the ends of 32 bits, as rows of one table: a test that antt
 -- computes over all of them, and one law that turns it into the equations. A row asks the model, but for M1's, which is of the table's bytes.
 -- Assumes nothing.
 use mathlib.Core.Path.{_≡_, refl, ap, ap₂, _∙_}
 use mathlib.Core.Bool.{Bool, true, cond, _&&_}
 use mathlib.Core.List.{List, [], _∷_, _++_}
-use Prim.Native.Nat.{ℕ, zero, suc, _*_, _/_, _<_}
+use Prim.Native.Nat.{ℕ, zero, suc, _+_, _*_, _/_, _<_}
 use native.Mathlib.Omega.{arith}
 use lib.Dec.{eqb}
 use borrow.Author.Tests.{eqb-true, eq-eqb, le-ltb}
-use lib.ListN.{length, getD, replicate, drop}
+use lib.ListN.{length, getD, replicate, take, drop}
 use lib.IntN.{ℤ, pos, negsuc}
 use Rattle.octets.specs.Lists.{all, every, sameList}
 use Rattle.octets.proofs.Tests.{and-left, and-right, all-at, every-at, same-lists}
@@ -25,10 +25,10 @@ use Rattle.tree.specs.Report.{reportTable}
 use Rattle.tree.specs.Sound.{sound}
 use Rattle.tree.proofs.Fresh.{fresh-sized, fresh-walk, fresh-sound, fresh-levels}
 use Rattle.ranges.specs.declared.Range.{Range}
-use Rattle.table.specs.Calls.{Call, format, add, withdraw, report, top, count, check, rebuild, reportMany, topWithin, Lengths, rangeFits, argumentsFit}
+use Rattle.table.specs.Calls.{Call, format, add, withdraw, report, top, count, check, rebuild, reportMany, topWithin, apply, Lengths, rangeFits, argumentsFit}
 use Rattle.table.specs.Answers.{withOutput, spotsAnswer, outputLeft}
 use Rattle.table.specs.Queries.{walkAnswer, ReportPost}
-use Rattle.demands.specs.Model.{Plain, begunEmpty, eqZ, hasIdentity, placeBefore, topBefore, ofPlaces, ofReport, fromOnward, reported, takenOut, broughtIn, highest, fourBytes, complement, Reply, outputAfter, countsAfter, refuse, accept, badTable, badLent, tooMany, outside, changesOutside, full, handOut, ownReply, reply, toldCall}
+use Rattle.demands.specs.Model.{Plain, begunEmpty, eqZ, hasIdentity, placeBefore, topBefore, ofPlaces, ofReport, fromOnward, reported, takenOut, broughtIn, highest, fourBytes, complement, Reply, outputAfter, countsAfter, refuse, accept, badTable, badLent, tooMany, outside, twoNumber, fourNumber, ofComplement, hungBy, takenDownBy, beginsRight, plainMessage, noMessage, changesOutside, full, turnedDown, changedBy, handOut, ownReply, reply, toldCall}
 use Rattle.table.proofs.Answering.{long-enough}
 
 -- a table of this many blocks, a read map and a work area as they should be, an output of this many bytes, and this many counts
@@ -131,6 +131,28 @@ within = topWithin (pos 0) (pos 240) 4294967295 4294967295
 -- the range of place 0, n times
 abbrev times : ℕ → Call
 times n = reportMany (replicate n (range (pos 0) (pos 0) least))
+
+-- a message of so many changes, under 256 bytes, with its length in front
+abbrev message : ℕ → List ℕ → List ℕ
+message n changes = 0 ∷ 0 ∷ 0 ∷ (7 + length changes) ∷ 1 ∷ 0 ∷ n ∷ changes
+
+-- such changes
+abbrev hung : ℕ → ℕ → ℕ → List ℕ
+hung place rank track = 1 ∷ 0 ∷ 0 ∷ 0 ∷ place ∷ 0 ∷ 0 ∷ 0 ∷ rank ∷ 0 ∷ 0 ∷ 0 ∷ track ∷ []
+
+abbrev down : ℕ → ℕ → List ℕ
+down place rank = 2 ∷ 0 ∷ 0 ∷ 0 ∷ place ∷ 0 ∷ 0 ∷ 0 ∷ rank ∷ []
+
+-- (0, 7) goes out and (100, -1) with track 9 comes in, byte by byte
+abbrev exchanging : List ℕ
+exchanging =
+    0 ∷ 0 ∷ 0 ∷ 29 ∷ 1 ∷ 0 ∷ 2 ∷
+    2 ∷ 0 ∷ 0 ∷ 0 ∷ 0 ∷ 0 ∷ 0 ∷ 0 ∷ 7 ∷
+    1 ∷ 0 ∷ 0 ∷ 0 ∷ 100 ∷ 255 ∷ 255 ∷ 255 ∷ 255 ∷ 0 ∷ 0 ∷ 0 ∷ 9 ∷ []
+
+-- the place of its second change is 1,000,001
+abbrev leaving : List ℕ
+leaving = message 3 (hung 0 7 1 ++ (2 ∷ 0 ∷ 15 ∷ 66 ∷ 65 ∷ 0 ∷ 0 ∷ 0 ∷ 7 ∷ []) ++ (2 ∷ 255 ∷ 240 ∷ 189 ∷ 191 ∷ 0 ∷ 0 ∷ 0 ∷ 7 ∷ []))
 
 -- the rows
 pub rows : List Row
@@ -257,6 +279,36 @@ rows =
     asks (record { before = two; call = add most (pos 7) 3; lent = record { table = 18432; output = 0; readMap = 0; scratch = 18431; counts = 0 }; number = 2; detail = 0; front = [] }) ∷
     asks (record { before = two; call = withdraw most (pos 7); lent = record { table = 18431; output = 0; readMap = 0; scratch = 0; counts = 0 }; number = 1; detail = 0; front = [] }) ∷
     asks (record { before = corners ++ (withdraw firstPlace least ∷ withdraw lastPlace most ∷ []); call = count; lent = room 0; number = 0; detail = 4; front = [] }) ∷
+    -- a message: its changes one after another, the later one of an identity holds, and one with no change
+    asks (record { before = two; call = apply exchanging; lent = room 0; number = 0; detail = 0; front = [] }) ∷
+    asks (record { before = two ++ (apply exchanging ∷ []); call = report (pos 0) (pos 240) least; lent = room 24; number = 0; detail = 2; front = 0 ∷ 0 ∷ 0 ∷ 100 ∷ 255 ∷ 255 ∷ 255 ∷ 255 ∷ 0 ∷ 0 ∷ 0 ∷ 9 ∷ 0 ∷ 0 ∷ 0 ∷ 240 ∷ 0 ∷ 0 ∷ 0 ∷ 7 ∷ 0 ∷ 0 ∷ 0 ∷ 2 ∷ [] }) ∷
+    asks (record { before = apply (message 3 (hung 5 6 1 ++ down 5 6 ++ hung 5 6 2)) ∷ []; call = report (pos 5) (pos 5) least; lent = room 12; number = 0; detail = 1; front = 0 ∷ 0 ∷ 0 ∷ 5 ∷ 0 ∷ 0 ∷ 0 ∷ 6 ∷ 0 ∷ 0 ∷ 0 ∷ 2 ∷ [] }) ∷
+    asks (record { before = apply (message 2 (hung 5 6 1 ++ down 5 6)) ∷ []; call = count; lent = room 0; number = 0; detail = 0; front = [] }) ∷
+    asks (record { before = two; call = apply (message 0 []); lent = room 0; number = 0; detail = 0; front = [] }) ∷
+    -- 8: too short, another length or version, another count, a byte behind, a kind that is none, a change cut off, a count of 4,097; the list is as it was
+    asks (record { before = two; call = apply []; lent = room 0; number = 8; detail = 0; front = [] }) ∷
+    asks (record { before = two; call = apply (0 ∷ 0 ∷ 0 ∷ 6 ∷ 1 ∷ 0 ∷ []); lent = room 0; number = 8; detail = 0; front = [] }) ∷
+    asks (record { before = two; call = apply (0 ∷ 0 ∷ 0 ∷ 8 ∷ 1 ∷ 0 ∷ 0 ∷ []); lent = room 0; number = 8; detail = 0; front = [] }) ∷
+    asks (record { before = two; call = apply (0 ∷ 0 ∷ 0 ∷ 7 ∷ 2 ∷ 0 ∷ 0 ∷ []); lent = room 0; number = 8; detail = 0; front = [] }) ∷
+    asks (record { before = two; call = apply (message 1 []); lent = room 0; number = 8; detail = 0; front = [] }) ∷
+    asks (record { before = two; call = apply (message 1 (down 0 7 ++ (0 ∷ []))); lent = room 0; number = 8; detail = 0; front = [] }) ∷
+    asks (record { before = two; call = apply (message 1 (3 ∷ drop 1 (down 0 7))); lent = room 0; number = 8; detail = 0; front = [] }) ∷
+    asks (record { before = two; call = apply (message 2 (down 0 7 ++ take 12 (hung 0 7 1))); lent = room 0; number = 8; detail = 0; front = [] }) ∷
+    asks (record { before = two; call = apply (0 ∷ 0 ∷ 0 ∷ 7 ∷ 1 ∷ 16 ∷ 1 ∷ []); lent = room 0; number = 8; detail = 0; front = [] }) ∷
+    asks (record { before = two ++ (apply (message 2 (down 0 7)) ∷ []); call = count; lent = room 0; number = 0; detail = 2; front = [] }) ∷
+    -- 9 with the first position, also where one before it would be turned down; 8, 2 and 1 before it
+    asks (record { before = two; call = apply leaving; lent = room 0; number = 9; detail = 1; front = [] }) ∷
+    asks (record { before = two ++ (apply leaving ∷ []); call = count; lent = room 0; number = 0; detail = 2; front = [] }) ∷
+    asks (record { before = filling 128; call = apply leaving; lent = room 0; number = 9; detail = 1; front = [] }) ∷
+    asks (record { before = two; call = apply (leaving ++ (0 ∷ [])); lent = room 0; number = 8; detail = 0; front = [] }) ∷
+    asks (record { before = two; call = apply leaving; lent = record { table = 18432; output = 0; readMap = 0; scratch = 18431; counts = 0 }; number = 2; detail = 0; front = [] }) ∷
+    asks (record { before = two; call = apply []; lent = record { table = 18432; output = 0; readMap = 0; scratch = 18431; counts = 0 }; number = 2; detail = 0; front = [] }) ∷
+    asks (record { before = two; call = apply []; lent = record { table = 18431; output = 0; readMap = 0; scratch = 0; counts = 0 }; number = 1; detail = 0; front = [] }) ∷
+    -- 4 with the first position, judged on what the earlier ones leave, and nothing is applied; room made by an earlier change is room
+    asks (record { before = filling 128; call = apply (message 2 (hung 5 6 9 ++ down 5 5)); lent = room 0; number = 4; detail = 0; front = [] }) ∷
+    asks (record { before = filling 128; call = apply (message 4 (down 5 5 ++ hung 5 6 9 ++ hung 5 6 8 ++ hung 5 7 9)); lent = room 0; number = 4; detail = 3; front = [] }) ∷
+    asks (record { before = filling 128 ++ (apply (message 4 (down 5 5 ++ hung 5 6 9 ++ hung 5 6 8 ++ hung 5 7 9)) ∷ []); call = report (pos 5) (pos 5) least; lent = room 12; number = 0; detail = 1; front = 0 ∷ 0 ∷ 0 ∷ 5 ∷ 0 ∷ 0 ∷ 0 ∷ 5 ∷ 0 ∷ 0 ∷ 0 ∷ 1 ∷ [] }) ∷
+    asks (record { before = filling 128; call = apply (message 3 (down 5 5 ++ hung 5 6 9 ++ hung 5 6 8)); lent = room 0; number = 0; detail = 0; front = [] }) ∷
     -- the ends of the places and of 32 bits, in place order, in Top's order, and with no spot left out; a range's ends may be any number
     asks (record {
       before = corners;
@@ -368,7 +420,7 @@ pub some-row : Row
 some-row = asks (record { before = []; call = count; lent = room 0; number = 0; detail = 0; front = [] })
 
 all-right : every right rows ≡ true
-unfolding all asked right rows found after filling sizedFor signed32 unsigned32 rangeFits argumentsFit eqZ hasIdentity placeBefore topBefore ofPlaces ofReport fromOnward reported takenOut broughtIn highest fourBytes complement outputAfter countsAfter refuse accept badTable badLent tooMany outside changesOutside full handOut ownReply reply
+unfolding all asked right rows found after filling sizedFor signed32 unsigned32 rangeFits argumentsFit eqZ hasIdentity placeBefore topBefore ofPlaces ofReport fromOnward reported takenOut broughtIn highest fourBytes complement outputAfter countsAfter refuse accept twoNumber fourNumber ofComplement hungBy takenDownBy beginsRight plainMessage badTable badLent tooMany outside noMessage changesOutside full turnedDown changedBy handOut ownReply reply
 all-right = refl
 
 -- every row of the table says what the definitions give

@@ -6,7 +6,7 @@ use mathlib.Core.Logic.{_⊎_, _↔_}
 use Prim.Native.Nat.{ℕ, _-_, _*_, _/_, _≤_, _<_}
 use mathlib.Core.Bool.{Bool, true, false, cond, _&&_, _||_}
 use mathlib.Core.List.{List, [], _∷_, _++_, List·Memᴰ}
-use mathlib.Core.Option.{some}
+use mathlib.Core.Option.{none, some}
 use lib.ListN.{length, drop}
 use lib.IntN.{ℤ, pos, _-ℤ_}
 use lib.Signed.{leZ, ltZ}
@@ -21,11 +21,11 @@ use Rattle.tree.specs.Lookup.{live}
 use Rattle.tree.specs.Sound.{sound}
 use Rattle.ranges.specs.Ranges.{forEach, countEach}
 use Rattle.ranges.specs.declared.Range.{Range}
-use Rattle.table.specs.Calls.{Call, add, withdraw, report, top, reportMany, topWithin, isQuery, isCounting, hasCeiling, argumentsFit}
+use Rattle.table.specs.Calls.{Call, add, withdraw, report, top, reportMany, topWithin, apply, isQuery, isCounting, hasCeiling, hasPosition, argumentsFit}
 use Rattle.table.specs.Answers.{lengths, earlyNumber, spotsAnswer}
 use Rattle.table.specs.Queries.{HandsOut, HandsOutEach, ReportPost, ManyPost, TopPost, TopWithinPost}
-use Rattle.table.specs.Updates.{AddPost, WithdrawPost}
-use Rattle.demands.specs.Model.{PlainSpot, hasIdentity, placeBefore, topBefore, asBytes, outside, changesOutside}
+use Rattle.table.specs.Updates.{AddPost, WithdrawPost, ApplyPost}
+use Rattle.demands.specs.Model.{PlainSpot, PlainChange, hang, takeDown, plainMessage, hasIdentity, placeBefore, topBefore, asBytes, noMessage, outside, someOutside, positionOutside, changesOutside}
 use Rattle.demands.specs.History.{Event, MetBy, SecondTable, SameOnSecond}
 use Rattle.demands.specs.TopMarks.{MarksFew}
 
@@ -33,14 +33,18 @@ use Rattle.demands.specs.TopMarks.{MarksFew}
 
 -- the numbers of a refusal: "6 and every later number join demand 1's five"
 abbrev pub refusals : List ℕ
-refusals = 1 ∷ 2 ∷ 3 ∷ 4 ∷ 5 ∷ 6 ∷ 9 ∷ []
+refusals = 1 ∷ 2 ∷ 3 ∷ 4 ∷ 5 ∷ 6 ∷ 8 ∷ 9 ∷ []
+
+-- those of them that come with a change's "position from 0 as detail" where a message is applied, requests 2026-06 and 2026-07
+abbrev pub positioned : List ℕ
+positioned = 4 ∷ 9 ∷ []
 
 -- a call c, turned down at the table t
 pub record TurnedDown (c : Call) (t : List ℕ) (e : Event) : Type 0 where
   -- "One that is turned down returns one of five numbers", or of those that joined them
   pub number : has (e .answer .number) refusals ≡ true
-  -- "detail 0", but for 5
-  pub detail : (e .answer .number ≡ 5 → ⊥) → e .answer .detail ≡ 0
+  -- "detail 0", but for 5, and for 4 and 9 of a message
+  pub detail : (e .answer .number ≡ 5 → ⊥) → (hasPosition c ≡ true → has (e .answer .number) positioned ≡ false) → e .answer .detail ≡ 0
   -- "and changes no byte of it but scratch"
   pub table : e .table′ ≡ t
   pub output : isQuery c ≡ true → e .output′ ≡ e .output
@@ -155,6 +159,51 @@ pub record WithdrawnFrom (place rank : ℤ) (t : List ℕ) (r : Answer) (t′ : 
   pub after : (s : PlainSpot) → LiveSpot t′ s ↔ (LiveSpot t s × (hasIdentity place rank s ≡ false))
   pub staysSound : sound t′ ≡ true
 
+-- request 2026-06: which spots are live after a change, and after changes "one after another", where these are live before
+abbrev pub AfterChange : PlainChange → (PlainSpot → Type 0) → PlainSpot → Type 0
+AfterChange (hang x) L s = (s ≡ x) ⊎ (L s × (hasIdentity (x .place) (x .rank) s ≡ false))
+AfterChange (takeDown place rank) L s = L s × (hasIdentity place rank s ≡ false)
+
+abbrev pub AfterAll : List PlainChange → (PlainSpot → Type 0) → PlainSpot → Type 0
+AfterAll [] L = L
+AfterAll (c ∷ cs) L = AfterAll cs (AfterChange c L)
+
+-- "Capacity is 16 spots for each block after block 0": so many are these, each counted once
+pub record SoMany (bytes : ℕ) (L : PlainSpot → Type 0) : Type 0 where
+  pub spots : List PlainSpot
+  pub rise : InOrder placeBefore spots
+  pub each : (s : PlainSpot) → List·Memᴰ s spots ↔ L s
+  pub many : length spots ≡ 16 * (bytes / 2048 - 1)
+
+-- a change is turned down where these are live: 4, "capacity live spots and the identity not live"
+abbrev pub TurnedDownAt : ℕ → PlainChange → (PlainSpot → Type 0) → Type 0
+TurnedDownAt bytes (hang x) L = SoMany bytes L × ((s : PlainSpot) → L s → hasIdentity (x .place) (x .rank) s ≡ false)
+TurnedDownAt bytes (takeDown place rank) L = ⊥
+
+-- none of the changes is, each judged on what the earlier ones leave
+abbrev pub NoneDown : ℕ → List PlainChange → (PlainSpot → Type 0) → Type 0
+NoneDown bytes [] L = Unit {0}
+NoneDown bytes (c ∷ cs) L = (TurnedDownAt bytes c L → ⊥) × NoneDown bytes cs (AfterChange c L)
+
+-- "the first such one .., with its position from 0": i come before it
+pub record FirstDown (bytes i : ℕ) (cs : List PlainChange) (L : PlainSpot → Type 0) : Type 0 where
+  pub earlier : List PlainChange
+  pub change : PlainChange
+  pub later : List PlainChange
+  pub are : cs ≡ earlier ++ (change ∷ later)
+  pub position : length earlier ≡ i
+  pub accepted : NoneDown bytes earlier L
+  pub down : TurnedDownAt bytes change (AfterAll earlier L)
+
+-- "Applying it .. leaves the live spots that the changes one after another would. If any would be turned down, nothing is applied and the first such one's number
+-- is returned"
+pub record AppliedTo (cs : List PlainChange) (t : List ℕ) (r : Answer) (t′ : List ℕ) : Type 0 where
+  pub numbers : (r .number ≡ 0) ⊎ (r .number ≡ 4)
+  pub turnedDown : r .number ≡ 4 → FirstDown (length t) (r .detail) cs (LiveSpot t) × (t′ ≡ t)
+  pub accepted : r .number ≡ 0 → (r .detail ≡ 0) × NoneDown (length t) cs (LiveSpot t)
+  pub after : r .number ≡ 0 → (s : PlainSpot) → LiveSpot t′ s ↔ AfterAll cs (LiveSpot t) s
+  pub staysSound : sound t′ ≡ true
+
 -- a sound table, arguments within their 32 bits, and lengths that are not refused
 pub record OnSound (c : Call) (t out map w counts : List ℕ) : Type 0 where
   pub table : sound t ≡ true
@@ -186,6 +235,9 @@ pub record Demand2 : Type 0 where
   pub withins : (x1 x2 : ℤ) (k a : ℕ) (t out map : List ℕ) (r : Answer) (out′ map′ : List ℕ) (c : ℤ) → OnSound (topWithin x1 x2 k a) t out map [] []
       → TopWithinPost x1 x2 k a t out map r out′ map′ c
       → (given : List PlainSpot) × WithinOf x1 x2 k t given r c × HandedOut given out r out′
+  -- request 2026-06
+  pub applies : (m t w : List ℕ) (r : Answer) (t′ w′ : List ℕ) → OnSound (apply m) t [] [] w [] → ApplyPost m t w r t′ w′
+      → (cs : List PlainChange) × (plainMessage m ≡ some cs) × AppliedTo cs t r t′
 
 -- ---- request 2026-09
 
@@ -202,6 +254,16 @@ pub record LittleReading : Type 0 where
       → SecondTable (top x1 x2 k) t e u f
       → SameOnSecond (top x1 x2 k) e f
 
+-- ---- request 2026-06
+
+-- "It refuses with 8, after 2 and before 3, if the length, version, a kind .. or the count of over 4,096 is wrong": on every table whose lengths are right, sound or
+-- not, with all that is lent as it was; and nothing else
+pub record RefusedMessages : Type 0 where
+  pub applies : (m t w : List ℕ) (r : Answer) (t′ w′ : List ℕ) → ApplyPost m t w r t′ w′ → tableSized (length t) ≡ true → length t ≤ length w
+      → plainMessage m ≡ none
+      → (r ≡ answer 8 0) × (t′ ≡ t) × (w′ ≡ w)
+  pub else : (t : List ℕ) (e : Event) → MetBy (e .call) t e → noMessage (e .call) ≡ false → e .answer .number ≡ 8 → ⊥
+
 -- ---- request 2026-07
 
 -- "It refuses with 9 an addition, withdrawal .. outside the limits, before 3 and after all others that come before 3": on every table whose lengths are right, sound
@@ -217,6 +279,12 @@ pub record RefusedOutside : Type 0 where
       → length t ≤ length w
       → outside place ≡ true
       → (r ≡ answer 9 0) × (t′ ≡ t) × (w′ ≡ w)
+  -- "applying a message give it there too, .. with the first such position"
+  pub applies : (m t w : List ℕ) (r : Answer) (t′ w′ : List ℕ) (cs : List PlainChange) → ApplyPost m t w r t′ w′ → tableSized (length t) ≡ true
+      → length t ≤ length w
+      → plainMessage m ≡ some cs
+      → someOutside cs ≡ true
+      → (r ≡ answer 9 (positionOutside cs)) × (t′ ≡ t) × (w′ ≡ w)
   pub else : (t : List ℕ) (e : Event) → MetBy (e .call) t e → changesOutside (e .call) ≡ false → e .answer .number ≡ 9 → ⊥
 
 -- "A place read from a card .. must lie in −1,000,000 to 1,000,000 centimetres", "The difference of any two such then fits in 32 bits"

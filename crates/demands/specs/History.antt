@@ -19,10 +19,10 @@ use Rattle.tree.specs.Sound.{sound}
 use Rattle.tree.specs.Read.{ReadBlock}
 use Rattle.within_theory.specs.Reading.{reading, givenOf, ceilingOf, readsInAll}
 use Rattle.ranges.specs.declared.Range.{Range}
-use Rattle.table.specs.Calls.{Call, format, add, withdraw, report, top, count, check, rebuild, reportMany, topWithin, kind, mayChange, isQuery, isCounting, hasCeiling, Lengths, argumentsFit}
+use Rattle.table.specs.Calls.{Call, format, add, withdraw, report, top, count, check, rebuild, reportMany, topWithin, apply, kind, mayChange, isQuery, isCounting, hasCeiling, Lengths, argumentsFit}
 use Rattle.table.specs.Answers.{lengths}
 use Rattle.table.specs.Queries.{ReportPost, ManyPost, TopPost, TopWithinPost, CountPost, CheckPost}
-use Rattle.table.specs.Updates.{FormatPost, AddPost, WithdrawPost, RebuildPost}
+use Rattle.table.specs.Updates.{FormatPost, AddPost, WithdrawPost, RebuildPost, ApplyPost}
 use Rattle.demands.specs.Model.{Plain, PlainSpot, begunEmpty, Reply, reply, toldCall, outputAfter, countsAfter, outside, listed, ofPlaces, highest}
 use Rattle.demands.specs.TopMarks.{MarksFew}
 
@@ -54,6 +54,7 @@ Promised check t e = CheckPost t (e .answer)
 Promised rebuild t e = RebuildPost t (e .scratch) (e .answer) (e .table′) (e .scratch′)
 Promised (reportMany rs) t e = ManyPost rs t (e .counts) (e .output) (e .readMap) (e .answer) (e .counts′) (e .output′) (e .readMap′)
 Promised (topWithin x1 x2 k a) t e = TopWithinPost x1 x2 k a t (e .output) (e .readMap) (e .answer) (e .output′) (e .readMap′) (e .ceiling′)
+Promised (apply m) t e = ApplyPost m t (e .scratch) (e .answer) (e .table′) (e .scratch′)
 
 -- the call met its post-condition on the table t; calls that are lent the table to be read leave it as it was
 pub record MetBy (c : Call) (t : List ℕ) (e : Event) : Type 0 where
@@ -81,6 +82,7 @@ certainIn check t = 0
 certainIn rebuild t = 0
 certainIn (reportMany rs) t = 0
 certainIn (topWithin x1 x2 k a) t = length (givenOf k (reading t x1 x2 k a))
+certainIn (apply m) t = 0
 
 -- the model's reply to it, and what the model holds afterwards. That number is all that the model is told of the table.
 abbrev pub replyIn : Call → List ℕ → Plain → Event → Reply
@@ -212,8 +214,13 @@ AllAgreed t ps (e ∷ es) =
 --   "With allowance or k 0 it reads only block 0 .."                                `SaidWithin .none`
 --   "If the allowance reaches what Top reads under this rule, the answer is Top's"  `TopReached`
 --   "(0 if refused)"; "Spots, ceiling and marks follow the second-table rule"       `Agreed .ceiling`; `SameOnSecond .ceiling`
+-- and of request 2026-06:
+--   "leaves the live spots that the changes one after another would"; "If any        `Agreed .answer`, and what the model holds afterwards: against `reply` of the
+--    would be turned down, nothing is applied and the first such one's number is    model, which reads the message's bytes by itself (`plainMessage`)
+--    returned, with its position from 0 as detail"; "It refuses with 8 .."
 -- and of request 2026-07:
 --   "It refuses with 9 an addition, withdrawal .. outside the limits, before 3 ..": `Agreed .answer`: against `reply` of the model, which gives it by itself
+--    "applying a message give it there too, .. with the first such position"
 -- "Demand 3 is a single claim about a whole history. The table starts as an accepted Format leaves it, whatever its bytes were"
 abbrev pub Demand3 : Type 0
 Demand3 = (bytes : ℕ) → tableSized bytes ≡ true → (es : List Event) → History (formatted bytes) es → AllAgreed (formatted bytes) begunEmpty es

@@ -1,17 +1,18 @@
 -- The plain list, called the model here: spots with their places and ranks as whole numbers, in place order, and the calls over them in the papers' own words,
 -- fed arguments and lengths alone. It is written apart: of the table's definitions it knows only what a call, its kind, lengths and an answer are.
 -- Assumes nothing.
-use Prim.Native.Nat.{ℕ, suc, _-_, _*_, _/_, _%_}
-use mathlib.Core.Bool.{Bool, false, cond, not, _&&_, _||_}
+use Prim.Native.Nat.{ℕ, zero, suc, _+_, _-_, _*_, _/_, _%_}
+use mathlib.Core.Bool.{Bool, true, false, cond, not, _&&_, _||_}
 use mathlib.Core.List.{List, [], _∷_, _++_}
-use lib.ListN.{length, take, drop}
+use mathlib.Core.Option.{Option, none, some}
+use lib.ListN.{length, getD, take, drop}
 use lib.Dec.{ltb, leb, eqb}
 use lib.IntN.{ℤ, pos, negsuc}
 use lib.Signed.{ltZ, leZ}
 use Rattle.block.specs.declared.Answer.{Answer}
 use Rattle.ranges.specs.declared.Range.{Range}
 use Rattle.ranges.specs.Ranges.{forEach, countEach}
-use Rattle.table.specs.Calls.{Call, format, add, withdraw, report, top, count, check, rebuild, reportMany, topWithin, Kind, makes, updates, queries, queriesEach, tells, kind, Lengths}
+use Rattle.table.specs.Calls.{Call, format, add, withdraw, report, top, count, check, rebuild, reportMany, topWithin, apply, Kind, makes, updates, queries, queriesEach, tells, kind, Lengths}
 
 -- "A spot has a place and a rank, and a track number"
 pub record PlainSpot : Type 0 where
@@ -101,6 +102,51 @@ abbrev pub asBytes : List PlainSpot → List ℕ
 asBytes [] = []
 asBytes (s ∷ ss) = (fourBytes (complement (s .place)) ++ fourBytes (complement (s .rank)) ++ fourBytes (s .track)) ++ asBytes ss
 
+-- request 2026-06: a change of a message, "1 add, 2 withdraw"
+pub data PlainChange : Type 0 where
+  hang : PlainSpot → PlainChange
+  takeDown : ℤ → ℤ → PlainChange
+
+-- "all big-endian": the number in the first two of these bytes, and in the first four
+unfoldable pub twoNumber : List ℕ → ℕ
+twoNumber bytes = 256 * getD bytes 0 0 + getD bytes 1 0
+
+unfoldable pub fourNumber : List ℕ → ℕ
+fourNumber bytes = 16777216 * getD bytes 0 0 + 65536 * getD bytes 1 0 + 256 * getD bytes 2 0 + getD bytes 3 0
+
+-- "signed ones two's complement": of 32 bits
+unfoldable pub ofComplement : ℕ → ℤ
+ofComplement u = cond (ltb (u % 4294967296) 2147483648) (pos (u % 4294967296)) (negsuc (4294967295 - u % 4294967296))
+
+-- "12 or 8 bytes as on the card": place, rank and track, or the first two of them
+unfoldable pub hungBy : List ℕ → PlainChange
+hungBy bytes = hang (record { place = ofComplement (fourNumber bytes); rank = ofComplement (fourNumber (drop 4 bytes)); track = fourNumber (drop 8 bytes) })
+
+unfoldable pub takenDownBy : List ℕ → PlainChange
+takenDownBy bytes = takeDown (ofComplement (fourNumber bytes)) (ofComplement (fourNumber (drop 4 bytes)))
+
+-- a change in front of others, if these are there
+abbrev pub followedBy : PlainChange → Option (List PlainChange) → Option (List PlainChange)
+followedBy c none = none
+followedBy c (some cs) = some (c ∷ cs)
+
+-- "for each change a kind byte (1 add, 2 withdraw) and 12 or 8 bytes": so many changes, and nothing behind them
+abbrev pub plainChanges : ℕ → List ℕ → Option (List PlainChange)
+plainChanges zero [] = some []
+plainChanges zero (b ∷ bytes) = none
+plainChanges (suc n) [] = none
+plainChanges (suc n) (b ∷ bytes) =
+    cond (eqb b 1 && leb 12 (length bytes)) (followedBy (hungBy bytes) (plainChanges n (drop 12 bytes)))
+    (cond (eqb b 2 && leb 8 (length bytes)) (followedBy (takenDownBy bytes) (plainChanges n (drop 8 bytes))) none)
+
+-- "A message has its whole length in four bytes, version byte 1, a count in two bytes", which is not "of over 4,096"
+unfoldable pub beginsRight : List ℕ → Bool
+beginsRight m = leb 7 (length m) && eqb (fourNumber m) (length m) && eqb (getD m 4 0) 1 && leb (twoNumber (drop 5 m)) 4096
+
+-- ".. then for each change .."
+unfoldable pub plainMessage : List ℕ → Option (List PlainChange)
+plainMessage m = cond (beginsRight m) (plainChanges (twoNumber (drop 5 m)) (drop 7 m)) none
+
 -- what the model holds: "spots, no identity twice". What else "the list keeps beside its spots" stands beside them here.
 pub record Plain : Type 0 where
   pub spots : List PlainSpot
@@ -156,22 +202,68 @@ tooMany tells = false
 unfoldable pub outside : ℤ → Bool
 outside place = ltZ place (negsuc 999999) || ltZ (pos 1000000) place
 
--- "It refuses with 9 an addition, withdrawal .. outside the limits"; "Range ends may be any number"
+-- the changes that a call asks for, if what it is handed says which
+abbrev pub changesIn : Call → Option (List PlainChange)
+changesIn format = some []
+changesIn (add place rank track) = some (hang (record { place = place; rank = rank; track = track }) ∷ [])
+changesIn (withdraw place rank) = some (takeDown place rank ∷ [])
+changesIn (report x1 x2 y) = some []
+changesIn (top x1 x2 k) = some []
+changesIn count = some []
+changesIn check = some []
+changesIn rebuild = some []
+changesIn (reportMany rs) = some []
+changesIn (topWithin x1 x2 k a) = some []
+changesIn (apply m) = plainMessage m
+
+-- 8, request 2026-06: "if the length, version, a kind .. or the count of over 4,096 is wrong"
+abbrev pub nothingSaid : Option (List PlainChange) → Bool
+nothingSaid none = true
+nothingSaid (some cs) = false
+
+unfoldable pub noMessage : Call → Bool
+noMessage c = nothingSaid (changesIn c)
+
+-- the changes, or none
+abbrev pub saidIn : Option (List PlainChange) → List PlainChange
+saidIn none = []
+saidIn (some cs) = cs
+
+abbrev pub placeOfChange : PlainChange → ℤ
+placeOfChange (hang s) = s .place
+placeOfChange (takeDown place rank) = place
+
+-- one of them is outside, ".. with the first such position"
+abbrev pub someOutside : List PlainChange → Bool
+someOutside [] = false
+someOutside (c ∷ cs) = outside (placeOfChange c) || someOutside cs
+
+abbrev pub positionOutside : List PlainChange → ℕ
+positionOutside [] = 0
+positionOutside (c ∷ cs) = cond (outside (placeOfChange c)) 0 (suc (positionOutside cs))
+
+-- "It refuses with 9 an addition, withdrawal .. outside the limits"; "applying a message give it there too"; "Range ends may be any number"
 unfoldable pub changesOutside : Call → Bool
-changesOutside format = false
-changesOutside (add place rank track) = outside place
-changesOutside (withdraw place rank) = outside place
-changesOutside (report x1 x2 y) = false
-changesOutside (top x1 x2 k) = false
-changesOutside count = false
-changesOutside check = false
-changesOutside rebuild = false
-changesOutside (reportMany rs) = false
-changesOutside (topWithin x1 x2 k a) = false
+changesOutside c = someOutside (saidIn (changesIn c))
 
 -- 4: "the list has 16 spots for each block after block 0 and none of this identity"
 unfoldable pub full : ℕ → ℤ → ℤ → List PlainSpot → Bool
 full bytes place rank ss = leb (16 * (bytes / 2048 - 1)) (length ss) && not (listed place rank ss)
+
+-- request 2026-06: whether a change "would be turned down", and the list after it
+unfoldable pub turnedDown : ℕ → PlainChange → List PlainSpot → Bool
+turnedDown bytes (hang s) ss = full bytes (s .place) (s .rank) ss
+turnedDown bytes (takeDown place rank) ss = false
+
+unfoldable pub changedBy : PlainChange → List PlainSpot → List PlainSpot
+changedBy (hang s) ss = broughtIn s ss
+changedBy (takeDown place rank) ss = takenOut place rank ss
+
+-- "Applying it .. leaves the live spots that the changes one after another would. If any would be turned down, nothing is applied and the first such one's number
+-- is returned, with its position from 0 as detail": i are carried out, which made ss of what was held, ps
+abbrev pub applied : ℕ → ℕ → List PlainChange → List PlainSpot → Plain → Reply
+applied bytes i [] ss ps = accept 0 [] [] (record { spots = ss })
+applied bytes i (c ∷ cs) ss ps = cond (turnedDown bytes c ss) (refuse 4 i ps) (applied bytes (suc i) cs (changedBy c ss) ps)
 
 -- 5: "more spots than output length div 12", detail the number of spots; else they are handed out, with their counts
 unfoldable pub handOut : ℕ → List PlainSpot → List ℕ → Plain → Reply
@@ -191,13 +283,17 @@ ownReply l check ps = accept 1 [] [] ps
 ownReply l rebuild ps = accept 0 [] [] ps
 ownReply l (reportMany rs) ps = handOut (l .output) (forEach (reportedIn (ps .spots)) rs) (countEach (reportedIn (ps .spots)) rs) ps
 ownReply l (topWithin x1 x2 k a) ps = handOut (l .output) (highest x1 x2 k (ps .spots)) [] ps
+ownReply l (apply m) ps = applied (l .table) 0 (saidIn (plainMessage m)) (ps .spots) ps
 
--- "Every call: 1 and 2 as the lengths give them; 3 never"; "The order is that of the table"; "It refuses with 6, after 2 and before 3"; 9 "before 3 and after all
--- others that come before 3"
+-- "It refuses with 8, after 2 and before 3"; 9 "before 3 and after all others that come before 3"
+abbrev pub byChanges : Lengths → Call → Plain → Reply
+byChanges l c ps =
+    cond (noMessage c) (refuse 8 0 ps) (cond (changesOutside c) (refuse 9 (positionOutside (saidIn (changesIn c))) ps) (ownReply l c ps))
+
+-- "Every call: 1 and 2 as the lengths give them; 3 never"; "The order is that of the table"; "It refuses with 6, after 2 and before 3"
 unfoldable pub reply : Lengths → Call → Plain → Reply
 reply l c ps =
-    cond (badTable (l .table)) (refuse 1 0 ps)
-    (cond (badLent l (kind c)) (refuse 2 0 ps) (cond (tooMany (kind c)) (refuse 6 0 ps) (cond (changesOutside c) (refuse 9 0 ps) (ownReply l c ps))))
+    cond (badTable (l .table)) (refuse 1 0 ps) (cond (badLent l (kind c)) (refuse 2 0 ps) (cond (tooMany (kind c)) (refuse 6 0 ps) (byChanges l c ps)))
 
 -- request 2026-10: how many spots a Top within an allowance can give hangs on the arrangement, of which the list knows nothing. Told that number, the list answers
 -- as to a Top for so many; untold, as to a Top with no allowance. Every other call is as it is.
@@ -212,3 +308,4 @@ toldCall check n = check
 toldCall rebuild n = rebuild
 toldCall (reportMany rs) n = reportMany rs
 toldCall (topWithin x1 x2 k a) n = top x1 x2 n
+toldCall (apply m) n = apply m

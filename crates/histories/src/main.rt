@@ -7,6 +7,7 @@ mod asks;
 mod batches;
 mod kinds;
 mod list;
+mod messages;
 
 // What a history has come to: its random number, how many calls were made, refused and answered wrongly, and a digest of all answers.
 struct Run {
@@ -17,11 +18,12 @@ struct Run {
     digest: u64,
 }
 
-// The same of the calls of many ranges and of those with an allowance, which are told apart.
+// The same of the calls of many ranges, of those with an allowance and of messages, which are told apart.
 struct Played {
     run: Run,
     many: Run,
     within: Run,
+    sent: Run,
 }
 
 // A change to be made, and the random number after it.
@@ -173,7 +175,63 @@ fn allow_at_times(table: &[u8], scratch: &mut [u8], list: &[u64; 9568], i: u64, 
     run
 }
 
-// A step, and the questions that are due.
+// A message after every 40 steps.
+fn send_at_times(
+    table: &mut [u8],
+    scratch: &mut [u8],
+    list: &mut [u64; 9568],
+    capacity: u64,
+    kind: u64,
+    i: u64,
+    run: Run,
+) -> Run
+    requires { ⌜ (0 < capacity) × (capacity ≤ 4784) × (i < 65536) ⌝ }
+{
+    if i % 40 == 39 {
+        messages::keep(table, scratch);
+        return messages::send(table, scratch, list, capacity, kind, i, run);
+    }
+    run
+}
+
+fn ask_all(table: &[u8], scratch: &mut [u8], list: &[u64; 9568], i: u64, played: Played) -> Played {
+    let run = look_at_times(table, list, i, played.run);
+    let many = ask_at_times(table, scratch, list, i, played.many);
+    let within = allow_at_times(table, scratch, list, i, played.within);
+    let sent = played.sent;
+    Played {
+        run,
+        many,
+        within,
+        sent,
+    }
+}
+
+// A step, and a message if one is due.
+fn step_and_send(
+    table: &mut [u8],
+    scratch: &mut [u8],
+    list: &mut [u64; 9568],
+    capacity: u64,
+    kind: u64,
+    i: u64,
+    played: Played,
+) -> Played
+    requires { ⌜ (0 < capacity) × (capacity ≤ 4784) × (i < 65536) ⌝ }
+{
+    let run = step(table, scratch, list, capacity, kind, i, played.run);
+    let sent = send_at_times(table, scratch, list, capacity, kind, i, played.sent);
+    let many = played.many;
+    let within = played.within;
+    Played {
+        run,
+        many,
+        within,
+        sent,
+    }
+}
+
+// Changes, and the questions that are due.
 fn turn(
     table: &mut [u8],
     scratch: &mut [u8],
@@ -185,11 +243,8 @@ fn turn(
 ) -> Played
     requires { ⌜ (0 < capacity) × (capacity ≤ 4784) × (i < 65536) ⌝ }
 {
-    let changed = step(table, scratch, list, capacity, kind, i, played.run);
-    let run = look_at_times(table, list, i, changed);
-    let many = ask_at_times(table, scratch, list, i, played.many);
-    let within = allow_at_times(table, scratch, list, i, played.within);
-    Played { run, many, within }
+    let changed = step_and_send(table, scratch, list, capacity, kind, i, played);
+    ask_all(table, scratch, list, i, changed)
 }
 
 fn turns(
@@ -217,14 +272,26 @@ fn see_all(table: &[u8], scratch: &mut [u8], list: &[u64; 9568], played: Played)
     let many = batches::ask(table, scratch, list, played.many);
     let within = allowances::ask(table, scratch, list, played.within);
     let run = asks::look_at_all(table, list, played.run);
-    Played { run, many, within }
+    let sent = played.sent;
+    Played {
+        run,
+        many,
+        within,
+        sent,
+    }
 }
 
 fn rebuild(table: &mut [u8], scratch: &mut [u8], played: Played) -> Played {
     let run = told(played.run, table::rebuild(table, scratch), 0, 0);
     let many = played.many;
     let within = played.within;
-    Played { run, many, within }
+    let sent = played.sent;
+    Played {
+        run,
+        many,
+        within,
+        sent,
+    }
 }
 
 // All before and after a rebuild.
@@ -238,7 +305,13 @@ fn format(table: &mut [u8], capacity: u64, kind: u64) -> Played {
     let run = told(begun(kind), table::format(table), 0, 0);
     let many = begun(std::num::wrapping_add_u64(capacity, kind));
     let within = many;
-    Played { run, many, within }
+    let sent = many;
+    Played {
+        run,
+        many,
+        within,
+        sent,
+    }
 }
 
 // The n steps of a history on a table just formatted.
@@ -286,6 +359,8 @@ fn show_played(capacity: u64, kind: u64, played: Played) {
     show_run(played.many);
     io::write_all(1, b"  allowances");
     show_run(played.within);
+    io::write_all(1, b"  messages");
+    show_run(played.sent);
 }
 
 // Each kind of history on a table of so many bytes.

@@ -13,7 +13,7 @@ ghost use Rattle.renew.specs.Renewed.{Gathered, Renewed};
 mod amend;
 
 // The live spots in the scratch, in place order; not ok where a rule is broken.
-fn gather(table: &[u8], scratch: &mut [u8]) -> query::Sum
+pub fn gather(table: &[u8], scratch: &mut [u8]) -> query::Sum
     requires { ⌜ (tableSized (length (now table)) ≡ true) × (length (now table) ≤ length (now scratch)) ⌝ }
     ensures { λ r. ⌜ Gathered (now (table .entry)) (now (scratch .entry)) (now (scratch .exit)) r ⌝ }
 {

@@ -20,25 +20,25 @@ use Rattle.ranges.specs.Ranges.{batchOf, Handed}
 use Rattle.ranges.specs.declared.Range.{Range}
 use Rattle.ranges.specs.declared.Batch.{Batch}
 use Rattle.ranges.proofs.Batches.{batch-has}
-use Rattle.table.specs.Calls.{Call, format, add, withdraw, report, top, count, check, rebuild, reportMany, topWithin, kind, takesScratch, mayChange, isQuery, isCounting, hasCeiling, argumentsFit}
+use Rattle.table.specs.Calls.{Call, format, add, withdraw, report, top, count, check, rebuild, reportMany, topWithin, apply, kind, takesScratch, mayChange, isQuery, isCounting, hasCeiling, argumentsFit}
 use Rattle.table.specs.Queries.{ReportPost, ManyPost, TopPost, TopWithinPost, CountPost, CheckPost}
-use Rattle.table.specs.Updates.{FormatPost, AddPost, WithdrawPost, RebuildPost}
+use Rattle.table.specs.Updates.{FormatPost, AddPost, WithdrawPost, RebuildPost, ApplyPost}
 use Rattle.demands.specs.History.{Promised}
 use Rattle.within.specs.declared.Said.{Said}
 use Rattle.script.specs.Script.{allRanges, callOf, callAt}
 use Rattle.script.specs.Run.{plainly, eventOf, Called, CalledAlone}
-use Rattle.script.proofs.Ranged.{signed-fits-word, ranges-fit}
+use Rattle.script.proofs.Ranged.{signed-fits-word, ranges-fit, message-fits}
 
 unsigned-fits-word : (v : ℕ) → v < 4294967296 → unsigned32 v ≡ true
 unfolding unsigned32
 unsigned-fits-word v h = le-leb v 4294967295 (omega arith)
 
--- the last number
-call-within : (rs : List Range) (n a b c d : ℕ) → 8 < n → callOf rs n a b c d ≡ topWithin (toZ w32 a) (toZ w32 b) c d
+-- the last numbers
+call-apply : (g : List ℕ) (n a b c d : ℕ) → 9 < n → callOf g n a b c d ≡ apply (take b (drop a g))
 unfolding callOf
-call-within rs n a b c d h =
-    let e : n ≡ suc (suc (suc (suc (suc (suc (suc (suc (suc (n - 9))))))))) = omega arith in
-    ap (λ (i : ℕ). callOf rs i a b c d) e
+call-apply g n a b c d h =
+    let e : n ≡ suc (suc (suc (suc (suc (suc (suc (suc (suc (suc (n - 10)))))))))) = omega arith in
+    ap (λ (i : ℕ). callOf g i a b c d) e
 
 -- the number that is left of those of calls without spots
 three-on : (n : ℕ) → (n ≡ 0 → ⊥) → (n ≡ 1 → ⊥) → (n ≡ 2 → ⊥) → 3 ≤ n
@@ -93,13 +93,13 @@ module _ {s : List ℕ} {at n : ℕ} {x y : ℤ} {k : ℕ} (row : Row s at n x y
 
   -- ---- events
 
-  module _ (rs : List Range) where
+  module _ (g : List ℕ) where
     -- the call of this row, and the one that it would be with another number
     abbrev made : Call
-    made = callAt rs s at
+    made = callAt g s at
 
     abbrev numberedAs : ℕ → Call
-    numberedAs i = callOf rs i (be 4 s (at + 4)) (be 4 s (at + 8)) (be 4 s (at + 12)) (be 4 s (at + 16))
+    numberedAs i = callOf g i (be 4 s (at + 4)) (be 4 s (at + 8)) (be 4 s (at + 12)) (be 4 s (at + 16))
 
     -- the number settles the call
     numbered : (i : ℕ) (c : Call) → n ≡ i → numberedAs i ≡ c → made ≡ c
@@ -171,14 +171,12 @@ module _ {s : List ℕ} {at n : ℕ} {x y : ℤ} {k : ℕ} (row : Row s at n x y
             p
 
       -- a Top within an allowance, the fourth argument; it answers with its ceiling
-      pub made-within : (r : Said) (a : ℕ) (m′ out′ : List ℕ) → 8 < n → a ≡ be 4 s (at + 16) → TopWithinPost x′ y′ k a t out m (r .answer) out′ m′ (r .ceiling)
+      pub made-within : (r : Said) (a : ℕ) (m′ out′ : List ℕ) → n ≡ 9 → a ≡ be 4 s (at + 16) → TopWithinPost x′ y′ k a t out m (r .answer) out′ m′ (r .ceiling)
           → Called t (eventOf made w m v out r t w m′ v out′)
-      unfolding argumentsFit
+      unfolding callOf argumentsFit
       made-within r a m′ out′ e ea p =
           let c : Call = topWithin x′ y′ k a in
-          asked r c m′ v out′
-          (numbered n c refl
-          (call-within rs n (be 4 s (at + 4)) (be 4 s (at + 8)) (be 4 s (at + 12)) (be 4 s (at + 16)) e ∙ rw (first-back, second-back, row .third, ea)))
+          asked r c m′ v out′ (numbered 9 c e (rw (first-back, second-back, row .third, ea)))
           (and-both (signed32 x′ && signed32 y′ && unsigned32 k) (unsigned32 a) (and-both (signed32 x′ && signed32 y′) (unsigned32 k) two-fit third-fits)
           (plain-fits (at + 16) a ea))
           refl
@@ -193,30 +191,45 @@ module _ {s : List ℕ} {at n : ℕ} {x y : ℤ} {k : ℕ} (row : Row s at n x y
       → b ≡ be 4 s (at + 8)
       → h ≡ batchOf (take b (drop a (allRanges g)))
       → ((rs : List Range) → Handed h rs → ManyPost rs t v out m u v′ out′ m′)
-      → Called t (eventOf (callAt (allRanges g) s at) w m v out r t w m′ v′ out′)
+      → Called t (eventOf (callAt g s at) w m v out r t w m′ v′ out′)
   unfolding callOf argumentsFit
   made-many g t w m v out r u er a b h m′ v′ out′ bytes e ea eb eh p =
       let rs : List Range = take b (drop a (allRanges g)) in
-      answered (allRanges g) t w m v out r u er (reportMany rs) m′ v′ out′
-      (numbered (allRanges g) 8 (reportMany rs) e (ap₂ (λ (i j : ℕ). reportMany (take j (drop i (allRanges g)))) (sym ea) (sym eb)))
+      answered g t w m v out r u er (reportMany rs) m′ v′ out′
+      (numbered g 8 (reportMany rs) e (ap₂ (λ (i j : ℕ). reportMany (take j (drop i (allRanges g)))) (sym ea) (sym eb)))
       (ranges-fit g bytes a b)
       refl
       (λ n. absurd (true≢false n))
       (p rs (subst (λ (x : Batch). Handed x rs) (sym eh) (batch-has rs)))
+
+  -- a message that was cut out
+  pub made-apply : (g t w m v out : List ℕ) (r : Said) (u : Answer) → r ≡ plainly u → (t′ w′ : List ℕ) → ((i : ℕ) → getD g i 0 < 256) → 9 < n
+      → ApplyPost (take (be 4 s (at + 8)) (drop (be 4 s (at + 4)) g)) t w u t′ w′
+      → Called t (eventOf (callAt g s at) w m v out r t′ w′ m v out)
+  made-apply g t w m v out r u er t′ w′ bytes h p =
+      let a : ℕ = be 4 s (at + 4) in
+      let b : ℕ = be 4 s (at + 8) in
+      let c : Call = apply (take b (drop a g)) in
+      subst (λ (x : Said). Called t (eventOf (callAt g s at) w m v out x t′ w′ m v out)) (sym er)
+      (updated g t w m v out u c t′ w′ (numbered g n c refl (call-apply g n a b (be 4 s (at + 12)) (be 4 s (at + 16)) h))
+      (message-fits g bytes a b)
+      (λ n. absurd (true≢false n))
+      (λ n. absurd (true≢false n))
+      p)
 
   -- ---- the calls that hand out no spots
 
   module _ (t w : List ℕ) (r : Answer) where
     pub made-format : (t′ : List ℕ) → n ≡ 0 → FormatPost t r t′ → CalledAlone s at t w r t′ w
     unfolding callOf argumentsFit
-    made-format t′ e p rs m v out =
-        updated rs t w m v out r format t′ w (numbered rs 0 format e refl) refl (λ n. refl) (λ n. absurd (true≢false n)) p
+    made-format t′ e p g m v out =
+        updated g t w m v out r format t′ w (numbered g 0 format e refl) refl (λ n. refl) (λ n. absurd (true≢false n)) p
 
     pub made-add : (t′ w′ : List ℕ) → n ≡ 1 → AddPost x′ y′ k t w r t′ w′ → CalledAlone s at t w r t′ w′
     unfolding callOf argumentsFit
-    made-add t′ w′ e p rs m v out =
+    made-add t′ w′ e p g m v out =
         let c : Call = add x′ y′ k in
-        updated rs t w m v out r c t′ w′ (numbered rs 1 c e (rw (first-back, second-back, row .third)))
+        updated g t w m v out r c t′ w′ (numbered g 1 c e (rw (first-back, second-back, row .third)))
         (and-both (signed32 x′ && signed32 y′) (unsigned32 k) two-fit third-fits)
         (λ n. absurd (true≢false n))
         (λ n. absurd (true≢false n))
@@ -224,17 +237,17 @@ module _ {s : List ℕ} {at n : ℕ} {x y : ℤ} {k : ℕ} (row : Row s at n x y
 
     pub made-withdraw : (t′ w′ : List ℕ) → n ≡ 2 → WithdrawPost x′ y′ t w r t′ w′ → CalledAlone s at t w r t′ w′
     unfolding callOf argumentsFit
-    made-withdraw t′ w′ e p rs m v out =
+    made-withdraw t′ w′ e p g m v out =
         let c : Call = withdraw x′ y′ in
-        updated rs t w m v out r c t′ w′ (numbered rs 2 c e (rw (first-back, second-back))) two-fit (λ n. absurd (true≢false n)) (λ n. absurd (true≢false n)) p
+        updated g t w m v out r c t′ w′ (numbered g 2 c e (rw (first-back, second-back))) two-fit (λ n. absurd (true≢false n)) (λ n. absurd (true≢false n)) p
 
     pub made-count : n ≡ 5 → CountPost t r → CalledAlone s at t w r t w
     unfolding callOf argumentsFit
-    made-count e p rs m v out = updated rs t w m v out r count t w (numbered rs 5 count e refl) refl (λ n. refl) (λ n. refl) p
+    made-count e p g m v out = updated g t w m v out r count t w (numbered g 5 count e refl) refl (λ n. refl) (λ n. refl) p
 
     pub made-check : n ≡ 6 → CheckPost t r → CalledAlone s at t w r t w
     unfolding callOf argumentsFit
-    made-check e p rs m v out = updated rs t w m v out r check t w (numbered rs 6 check e refl) refl (λ n. refl) (λ n. refl) p
+    made-check e p g m v out = updated g t w m v out r check t w (numbered g 6 check e refl) refl (λ n. refl) (λ n. refl) p
 
     -- the number that is left
     pub made-rebuild : (t′ w′ : List ℕ) → be 4 s at ≤ 7 → (be 4 s at ≡ 3 → ⊥) → (be 4 s at ≡ 4 → ⊥) → (n ≡ 0 → ⊥) → (n ≡ 1 → ⊥) → (n ≡ 2 → ⊥) → (n ≡ 5 → ⊥)
@@ -242,16 +255,16 @@ module _ {s : List ℕ} {at n : ℕ} {x y : ℤ} {k : ℕ} (row : Row s at n x y
         → RebuildPost t w r t′ w′
         → CalledAlone s at t w r t′ w′
     unfolding callOf argumentsFit
-    made-rebuild t′ w′ h h3 h4 h0 h1 h2 h5 h6 p rs m v out =
+    made-rebuild t′ w′ h h3 h4 h0 h1 h2 h5 h6 p g m v out =
         let same : be 4 s at ≡ n = sym (row .number) in
         let e : n ≡ 7 =
         seven-left n (three-on n h0 h1 h2) (subst (λ (i : ℕ). i ≤ 7) same h) (λ i. h3 (same ∙ i)) (λ i. h4 (same ∙ i)) h5 h6
         in
-        updated rs t w m v out r rebuild t′ w′ (numbered rs 7 rebuild e refl) refl (λ n. absurd (true≢false n)) (λ n. absurd (true≢false n)) p
+        updated g t w m v out r rebuild t′ w′ (numbered g 7 rebuild e refl) refl (λ n. absurd (true≢false n)) (λ n. absurd (true≢false n)) p
 
 -- a call that was made with table and scratch alone
-pub made-alone : (rs : List Range) (s : List ℕ) (at : ℕ) (t w m v out : List ℕ) (r : Said) (a : Answer) → r ≡ plainly a → (t′ w′ : List ℕ)
+pub made-alone : (g s : List ℕ) (at : ℕ) (t w m v out : List ℕ) (r : Said) (a : Answer) → r ≡ plainly a → (t′ w′ : List ℕ)
     → CalledAlone s at t w a t′ w′
-    → Called t (eventOf (callAt rs s at) w m v out r t′ w′ m v out)
-made-alone rs s at t w m v out r a er t′ w′ p =
-    subst (λ (x : Said). Called t (eventOf (callAt rs s at) w m v out x t′ w′ m v out)) (sym er) (p rs m v out)
+    → Called t (eventOf (callAt g s at) w m v out r t′ w′ m v out)
+made-alone g s at t w m v out r a er t′ w′ p =
+    subst (λ (x : Said). Called t (eventOf (callAt g s at) w m v out x t′ w′ m v out)) (sym er) (p g m v out)

@@ -3,12 +3,12 @@
 use mathlib.Core.Path.{_≡_, refl, sym, ap, ap₂, _∙_}
 use mathlib.Core.Bool.{Bool, true, false, cond, true≢false}
 use mathlib.Core.List.{List, [], _∷_, _++_, append-assoc}
-use Prim.Native.Nat.{ℕ, _+_, _*_}
+use Prim.Native.Nat.{ℕ, suc, _+_, _*_}
 use lib.ListN.{length, take, drop}
 use Rattle.block.specs.declared.Answer.{Answer}
 use Rattle.tree.specs.Sound.{sound}
-use Rattle.table.specs.Calls.{Call, format, add, withdraw, report, top, count, check, rebuild, reportMany, topWithin, kind, isQuery, Lengths}
-use Rattle.demands.specs.Model.{PlainSpot, Plain, Reply, asBytes, outputAfter, refuse, accept, badTable, badLent, tooMany, changesOutside, full, ownReply, reply, toldCall, fourBytes, complement}
+use Rattle.table.specs.Calls.{Call, format, add, withdraw, report, top, count, check, rebuild, reportMany, topWithin, apply, kind, isQuery, Lengths}
+use Rattle.demands.specs.Model.{PlainSpot, PlainChange, Plain, Reply, asBytes, outputAfter, plainMessage, refuse, accept, badTable, badLent, tooMany, changesIn, noMessage, saidIn, changesOutside, positionOutside, full, turnedDown, changedBy, applied, ownReply, reply, toldCall, fourBytes, complement}
 use Rattle.demands.specs.History.{Event, History, AllAgreed, certainIn, replyIn, modelAfter}
 use Rattle.script.specs.Script.{Step, lentTo, logAfter}
 use Rattle.script.specs.Run.{entry, tellings, RunState, heldAfter, passed, outputOf, InTurn, AllInTurn, entries}
@@ -20,6 +20,12 @@ unless-refused : (b : Bool) (number detail : ℕ) (ps : Plain) (r : Reply) → r
 unfolding refuse
 unless-refused true number detail ps r e = refl
 unless-refused false number detail ps r e = e
+
+applied-none : (bytes i : ℕ) (cs : List PlainChange) (ss : List PlainSpot) (ps : Plain) → applied bytes i cs ss ps .given ≡ []
+unfolding accept
+applied-none bytes i [] ss ps = refl
+applied-none bytes i (c ∷ cs) ss ps =
+    unless-refused (turnedDown bytes c ss) 4 i ps (applied bytes (suc i) cs (changedBy c ss) ps) (applied-none bytes (suc i) cs (changedBy c ss) ps)
 
 own-none : (l : Lengths) (c : Call) (ps : Plain) → isQuery c ≡ false → ownReply l c ps .given ≡ []
 unfolding ownReply accept
@@ -33,13 +39,16 @@ own-none l check ps q = refl
 own-none l rebuild ps q = refl
 own-none l (reportMany rs) ps q = absurd (true≢false q)
 own-none l (topWithin x1 x2 k a) ps q = absurd (true≢false q)
+own-none l (apply m) ps q = applied-none (l .table) 0 (saidIn (plainMessage m)) (ps .spots) ps
 
 hands-none : (l : Lengths) (c : Call) (ps : Plain) → isQuery c ≡ false → reply l c ps .given ≡ []
 unfolding reply
 hands-none l c ps q =
     unless-refused (badTable (l .table)) 1 0 ps _
     (unless-refused (badLent l (kind c)) 2 0 ps _
-    (unless-refused (tooMany (kind c)) 6 0 ps _ (unless-refused (changesOutside c) 9 0 ps (ownReply l c ps) (own-none l c ps q))))
+    (unless-refused (tooMany (kind c)) 6 0 ps _
+    (unless-refused (noMessage c) 8 0 ps _
+    (unless-refused (changesOutside c) 9 (positionOutside (saidIn (changesIn c))) ps (ownReply l c ps) (own-none l c ps q)))))
 
 -- a query stays one when the model is told what hangs on the arrangement
 told-query : (c : Call) (n : ℕ) → isQuery (toldCall c n) ≡ isQuery c
@@ -53,6 +62,7 @@ told-query check n = refl
 told-query rebuild n = refl
 told-query (reportMany rs) n = refl
 told-query (topWithin x1 x2 k a) n = refl
+told-query (apply m) n = refl
 
 output-stays : (r : Reply) (out : List ℕ) → r .given ≡ [] → outputAfter r out ≡ out
 unfolding outputAfter

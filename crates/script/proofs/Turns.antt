@@ -14,13 +14,12 @@ use Rattle.octets.proofs.Bytes.{put-eq}
 use Rattle.octets.proofs.Order.{stride}
 use Rattle.octets.proofs.Records.{records-more}
 use Rattle.block.specs.declared.Answer.{Answer}
-use Rattle.ranges.specs.declared.Range.{Range}
 use Rattle.table.specs.Calls.{Call, Lengths}
 use Rattle.demands.specs.Model.{fourBytes, complement}
 use Rattle.demands.specs.History.{Event}
 use Rattle.demands.proofs.Orders.{four-bytes}
 use Rattle.within.specs.declared.Said.{Said}
-use Rattle.script.specs.Script.{Step, allRanges, callAt, stepAt, stepsOf, lentTo}
+use Rattle.script.specs.Script.{Step, callAt, stepAt, stepsOf, lentTo}
 use Rattle.script.specs.Run.{Called, eventOf, eventIn, StepCalled, entry, Turned, RunState, runState, outputOf, passed, heldAfter, InTurn, AllInTurn, entries, Run, runLengths}
 use Rattle.script.proofs.Fronts.{put-back, front-lent, front-left, rest-left}
 
@@ -47,11 +46,11 @@ one-entry room h (x ∷ es) e =
     ∙ sym (append-assoc (entry (outputOf room h) x) (entries room (passed room h x) es) (entry (outputOf room after) e))
 
 -- one step more
-one-step : (rs : List Range) (script : List ℕ) (i : ℕ) → stepsOf rs script i ++ (stepAt rs script (36 * i) ∷ []) ≡ stepsOf rs script (i + 1)
-one-step rs script i =
-    ap (λ (n : ℕ). stepsOf rs script i ++ (stepAt rs script n ∷ [])) (sym (zero-add (36 * i)))
-    ∙ sym (records-more (stepAt rs script) 36 i 0)
-    ∙ ap (stepsOf rs script) (sym (add-one i))
+one-step : (g script : List ℕ) (i : ℕ) → stepsOf g script i ++ (stepAt g script (36 * i) ∷ []) ≡ stepsOf g script (i + 1)
+one-step g script i =
+    ap (λ (n : ℕ). stepsOf g script i ++ (stepAt g script n ∷ [])) (sym (zero-add (36 * i)))
+    ∙ sym (records-more (stepAt g script) 36 i 0)
+    ∙ ap (stepsOf g script) (sym (add-one i))
 
 -- ---- parts of lists
 
@@ -99,7 +98,7 @@ same-event : (c : Call) (r : Said) (t′ w m v out w′ m′ v′ out′ a b d e
 same-event c r t′ w m v out w′ m′ v′ out′ a b d e a′ b′ d′ e′ ea eb ed ee ea′ eb′ ed′ ee′ = rw (ea, eb, ed, ee, ea′, eb′, ed′, ee′)
 
 -- one step: the call, lent the first i bytes of the scratch, j of the read map and k of the output, and the first n counts
-pub lent : (rs : List Range) (s : List ℕ) (at : ℕ) (t w m v out : List ℕ) (r : Said) (t′ w′ m′ v′ out′ : List ℕ) (i j n k : ℕ)
+pub lent : (g s : List ℕ) (at : ℕ) (t w m v out : List ℕ) (r : Said) (t′ w′ m′ v′ out′ : List ℕ) (i j n k : ℕ)
     → i ≡ min (be 4 s (at + 28)) (length w)
     → j ≡ min (be 4 s (at + 24)) (length m)
     → n ≡ min (be 4 s (at + 32)) (length v)
@@ -108,10 +107,10 @@ pub lent : (rs : List Range) (s : List ℕ) (at : ℕ) (t w m v out : List ℕ) 
     → length m′ ≡ length (take j m)
     → length v′ ≡ length (take n v)
     → length out′ ≡ length (take k out)
-    → Called t (eventOf (callAt rs s at) (take i w) (take j m) (take n v) (take k out) r t′ w′ m′ v′ out′)
-    → StepCalled (stepAt rs s at) t w m v out r t′ (w′ ++ drop i w) (m′ ++ drop j m) (v′ ++ drop n v) (out′ ++ drop k out)
+    → Called t (eventOf (callAt g s at) (take i w) (take j m) (take n v) (take k out) r t′ w′ m′ v′ out′)
+    → StepCalled (stepAt g s at) t w m v out r t′ (w′ ++ drop i w) (m′ ++ drop j m) (v′ ++ drop n v) (out′ ++ drop k out)
 unfolding stepAt
-lent rs s at t w m v out r t′ w′ m′ v′ out′ i j n k ei ej en ek nw nm nv nout c =
+lent g s at t w m v out r t′ w′ m′ v′ out′ i j n k ei ej en ek nw nm nv nout c =
     let a : ℕ = be 4 s (at + 28) in
     let b : ℕ = be 4 s (at + 24) in
     let d : ℕ = be 4 s (at + 32) in
@@ -119,7 +118,7 @@ lent rs s at t w m v out r t′ w′ m′ v′ out′ i j n k ei ej en ek nw nm 
     record {
       called =
           subst (Called t)
-          (same-event (callAt rs s at) r t′ (take i w) (take j m) (take n v) (take k out) w′ m′ v′ out′ (take a w) (take b m) (take d v) (take e out)
+          (same-event (callAt g s at) r t′ (take i w) (take j m) (take n v) (take k out) w′ m′ v′ out′ (take a w) (take b m) (take d v) (take e out)
           (take a (w′ ++ drop i w))
           (take b (m′ ++ drop j m))
           (take d (v′ ++ drop n v))
@@ -213,9 +212,9 @@ module _ (script g : List ℕ) (l : Lengths) (h : RunState) (t w m v log : List 
   done = ap (take at) (going .run .log) ∙ take-at (entries (l .output) h es) (x .log) at (going .place)
 
   module _ (k : ℕ) (size : k ≡ 12 + l .output) (room : at + k ≤ length log) (t′ w′ m′ v′ p : List ℕ)
-      (u : Turned (stepAt (allRanges g) script (36 * i)) t w m v (midOf at k log) t′ w′ m′ v′ p) where
+      (u : Turned (stepAt g script (36 * i)) t w m v (midOf at k log) t′ w′ m′ v′ p) where
     c : Step
-    c = stepAt (allRanges g) script (36 * i)
+    c = stepAt g script (36 * i)
 
     out : List ℕ
     out = drop 12 (midOf at k log)
@@ -302,8 +301,8 @@ module _ (script g : List ℕ) (l : Lengths) (h : RunState) (t w m v log : List 
               record {
                 events = es ++ (e ∷ []);
                 inTurn =
-                    subst (λ (cs : List Step). AllInTurn l h cs (es ++ (e ∷ []))) (one-step (allRanges g) script i)
-                    (one-in-turn l h (stepsOf (allRanges g) script i) es c e (going .run .inTurn) in-turn);
+                    subst (λ (cs : List Step). AllInTurn l h cs (es ++ (e ∷ []))) (one-step g script i)
+                    (one-in-turn l h (stepsOf g script i) es c e (going .run .inTurn) in-turn);
                 table = sym (ap (λ (y : RunState). y .table) (one-held (l .output) h es e));
                 scratch = scratch-is ∙ sym (ap (λ (y : RunState). y .scratch) (one-held (l .output) h es e));
                 readMap = map-is ∙ sym (ap (λ (y : RunState). y .readMap) (one-held (l .output) h es e));

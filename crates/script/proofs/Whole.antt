@@ -18,7 +18,7 @@ use Rattle.table.specs.Calls.{Lengths}
 use Rattle.demands.specs.Model.{begunEmpty}
 use Rattle.demands.specs.History.{History, AllAgreed}
 use Rattle.demands.proofs.Demand.{demand3}
-use Rattle.script.specs.Script.{allRanges, callsIn, stepsOf, logPart}
+use Rattle.script.specs.Script.{callsIn, stepsOf, logPart}
 use Rattle.script.specs.Run.{RunState, runState, Run, runLengths, partIn, Happened, SameLengths, Ran}
 use Rattle.script.proofs.Logs.{history-of, ends-sound, as-model}
 
@@ -66,14 +66,14 @@ module _ (script g t w m v log t′ w′ m′ v′ log′ : List ℕ) (sized : t
       (subst (λ (x : List ℕ). Run script g (callsIn script) (runLengths x w m v part) (runState x w m v log) t′ w′ m′ v′ log′) eu r)
       in
       let past : History (formatted (length t)) (run .events) =
-      history-of l h (stepsOf (allRanges g) script (callsIn script)) (run .events) (run .inTurn)
+      history-of l h (stepsOf g script (callsIn script)) (run .events) (run .inTurn)
       in
       let agreed : AllAgreed (formatted (length t)) begunEmpty (run .events) = demand3 (length t) sized (run .events) past in
       record {
         run = run;
         history = past;
         agreed = agreed;
-        answers = run .log ∙ as-model l h begunEmpty (stepsOf (allRanges g) script (callsIn script)) (run .events) (run .inTurn) agreed;
+        answers = run .log ∙ as-model l h begunEmpty (stepsOf g script (callsIn script)) (run .events) (run .inTurn) agreed;
       }
 
   pub says-run : (part : ℕ) (u : List ℕ) → part ≡ partIn script log → 12 ≤ part → u ≡ cond (tableSized (length t)) (formatted (length t)) t

@@ -12,12 +12,11 @@ use Rattle.block.specs.declared.Answer.{Answer}
 use Rattle.block.specs.Table.{tableSized}
 use Rattle.block.specs.Fresh.{formatted}
 use Rattle.tree.specs.Sound.{sound}
-use Rattle.ranges.specs.declared.Range.{Range}
 use Rattle.table.specs.Calls.{Call, kind, takesScratch, isQuery, isCounting, hasCeiling, Lengths, argumentsFit}
 use Rattle.demands.specs.Model.{begunEmpty, fourBytes, complement}
 use Rattle.demands.specs.History.{Event, MetBy, History, AllAgreed, lengthsIn, certainIn}
 use Rattle.within.specs.declared.Said.{Said}
-use Rattle.script.specs.Script.{Step, Telling, allRanges, callsIn, callAt, stepsOf, lentTo, logPart, logAfter}
+use Rattle.script.specs.Script.{Step, Telling, callsIn, callAt, stepsOf, lentTo, logPart, logAfter}
 
 -- an answer without a ceiling
 abbrev pub plainly : Answer → Said
@@ -53,7 +52,7 @@ pub record Called (t : List ℕ) (e : Event) : Type 0 where
 
 -- a call that needs the table and the scratch alone: so it is called, whatever else there is
 abbrev pub CalledAlone : List ℕ → ℕ → List ℕ → List ℕ → Answer → List ℕ → List ℕ → Type 0
-CalledAlone s at t w r t′ w′ = (rs : List Range) (m k out : List ℕ) → Called t (eventOf (callAt rs s at) w m k out (plainly r) t′ w′ m k out)
+CalledAlone s at t w r t′ w′ = (g m k out : List ℕ) → Called t (eventOf (callAt g s at) w m k out (plainly r) t′ w′ m k out)
 
 -- the event of a step, which is lent the first bytes of scratch, read map and output, and the first counts
 abbrev pub eventIn : Step → List ℕ → List ℕ → List ℕ → List ℕ → Said → List ℕ → List ℕ → List ℕ → List ℕ → List ℕ → Event
@@ -133,10 +132,10 @@ abbrev pub entries : ℕ → RunState → List Event → List ℕ
 entries room h [] = []
 entries room h (e ∷ es) = entry (outputOf room h) e ++ entries room (passed room h e) es
 
--- the first n steps of the script were made, where g has the ranges, and led from h to what is left
+-- the first n steps of the script were made, where g has what they hand in, and led from h to what is left
 pub record Run (script g : List ℕ) (n : ℕ) (l : Lengths) (h : RunState) (t′ w′ m′ k′ log′ : List ℕ) : Type 0 where
   pub events : List Event
-  pub inTurn : AllInTurn l h (stepsOf (allRanges g) script n) events
+  pub inTurn : AllInTurn l h (stepsOf g script n) events
   pub table : t′ ≡ heldAfter (l .output) h events .table
   pub scratch : w′ ≡ heldAfter (l .output) h events .scratch
   pub readMap : m′ ≡ heldAfter (l .output) h events .readMap
@@ -162,7 +161,7 @@ pub record Happened (script g t w m k log t′ w′ m′ k′ log′ : List ℕ)
   pub history : History (formatted (length t)) (run .events)
   pub agreed : AllAgreed (formatted (length t)) begunEmpty (run .events)
   pub answers : log′ ≡
-      logAfter (runLengths t w m k (partIn script log)) (stepsOf (allRanges g) script (callsIn script)) (tellings (formatted (length t)) (run .events)) begunEmpty log
+      logAfter (runLengths t w m k (partIn script log)) (stepsOf g script (callsIn script)) (tellings (formatted (length t)) (run .events)) begunEmpty log
 
 -- every list is as long as it was; s and s′ are the log
 pub record SameLengths (t w m k s t′ w′ m′ k′ s′ : List ℕ) : Type 0 where

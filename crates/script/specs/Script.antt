@@ -1,4 +1,4 @@
--- A script: calls in bytes, one after the other; the ranges that they hand in, in bytes too; and the log that the model has of it.
+-- A script: calls in bytes, one after the other; what they hand in, ranges and messages, in bytes too; and the log that the model has of it.
 -- Assumes nothing.
 use Prim.Native.Nat.{ℕ, zero, suc, _+_, _/_, min}
 use mathlib.Core.Bool.{cond}
@@ -12,7 +12,7 @@ use Rattle.octets.specs.Bytes.{be}
 use Rattle.octets.specs.Lists.{records}
 use Rattle.ranges.specs.Ranges.{rangesIn}
 use Rattle.ranges.specs.declared.Range.{Range}
-use Rattle.table.specs.Calls.{Call, format, add, withdraw, report, top, count, check, rebuild, reportMany, topWithin, Lengths}
+use Rattle.table.specs.Calls.{Call, format, add, withdraw, report, top, count, check, rebuild, reportMany, topWithin, apply, Lengths}
 use Rattle.demands.specs.Model.{Plain, reply, toldCall, outputAfter, fourBytes, complement}
 
 -- a call is 36 bytes; fewer at the end are no call
@@ -23,23 +23,25 @@ callsIn s = length s / 36
 abbrev pub allRanges : List ℕ → List Range
 allRanges g = rangesIn g (length g / 12) 0
 
--- the call of a number and four arguments, where these are the ranges. Signed arguments are in two's complement; those that a call has no use for may be
--- anything. Many ranges are b of them from the a-th on, or those that there are.
-unfoldable pub callOf : List Range → ℕ → ℕ → ℕ → ℕ → ℕ → Call
-callOf rs zero a b c d = format
-callOf rs (suc zero) a b c d = add (toZ w32 a) (toZ w32 b) c
-callOf rs (suc (suc zero)) a b c d = withdraw (toZ w32 a) (toZ w32 b)
-callOf rs (suc (suc (suc zero))) a b c d = report (toZ w32 a) (toZ w32 b) (toZ w32 c)
-callOf rs (suc (suc (suc (suc zero)))) a b c d = top (toZ w32 a) (toZ w32 b) c
-callOf rs (suc (suc (suc (suc (suc zero))))) a b c d = count
-callOf rs (suc (suc (suc (suc (suc (suc zero)))))) a b c d = check
-callOf rs (suc (suc (suc (suc (suc (suc (suc zero))))))) a b c d = rebuild
-callOf rs (suc (suc (suc (suc (suc (suc (suc (suc zero)))))))) a b c d = reportMany (take b (drop a rs))
-callOf rs (suc (suc (suc (suc (suc (suc (suc (suc (suc n))))))))) a b c d = topWithin (toZ w32 a) (toZ w32 b) c d
+-- the call of a number and four arguments, where g are the bytes that calls hand in. Signed arguments are in two's complement; those that a call has no use for
+-- may be anything. Many ranges are b of all ranges in g from the a-th on, or those that there are; a message is b bytes of g from the a-th on, or those that there
+-- are.
+unfoldable pub callOf : List ℕ → ℕ → ℕ → ℕ → ℕ → ℕ → Call
+callOf g zero a b c d = format
+callOf g (suc zero) a b c d = add (toZ w32 a) (toZ w32 b) c
+callOf g (suc (suc zero)) a b c d = withdraw (toZ w32 a) (toZ w32 b)
+callOf g (suc (suc (suc zero))) a b c d = report (toZ w32 a) (toZ w32 b) (toZ w32 c)
+callOf g (suc (suc (suc (suc zero)))) a b c d = top (toZ w32 a) (toZ w32 b) c
+callOf g (suc (suc (suc (suc (suc zero))))) a b c d = count
+callOf g (suc (suc (suc (suc (suc (suc zero)))))) a b c d = check
+callOf g (suc (suc (suc (suc (suc (suc (suc zero))))))) a b c d = rebuild
+callOf g (suc (suc (suc (suc (suc (suc (suc (suc zero)))))))) a b c d = reportMany (take b (drop a (allRanges g)))
+callOf g (suc (suc (suc (suc (suc (suc (suc (suc (suc zero))))))))) a b c d = topWithin (toZ w32 a) (toZ w32 b) c d
+callOf g (suc (suc (suc (suc (suc (suc (suc (suc (suc (suc n)))))))))) a b c d = apply (take b (drop a g))
 
 -- the call that begins at a byte: its number and its four arguments, 4 bytes each, big-endian
-unfoldable pub callAt : List Range → List ℕ → ℕ → Call
-callAt rs s at = callOf rs (be 4 s at) (be 4 s (at + 4)) (be 4 s (at + 8)) (be 4 s (at + 12)) (be 4 s (at + 16))
+unfoldable pub callAt : List ℕ → List ℕ → ℕ → Call
+callAt g s at = callOf g (be 4 s at) (be 4 s (at + 4)) (be 4 s (at + 8)) (be 4 s (at + 12)) (be 4 s (at + 16))
 
 -- a step of a script: a call, how many bytes it is lent of the output, of the read map and of the scratch, and how many counts; all of them where there are fewer
 pub record Step : Type 0 where
@@ -50,13 +52,13 @@ pub record Step : Type 0 where
   pub counts : ℕ
 
 -- the step that begins at a byte: its call and then the four numbers, 4 bytes each, big-endian
-unfoldable pub stepAt : List Range → List ℕ → ℕ → Step
-stepAt rs s at =
-    record { call = callAt rs s at; output = be 4 s (at + 20); readMap = be 4 s (at + 24); scratch = be 4 s (at + 28); counts = be 4 s (at + 32) }
+unfoldable pub stepAt : List ℕ → List ℕ → ℕ → Step
+stepAt g s at =
+    record { call = callAt g s at; output = be 4 s (at + 20); readMap = be 4 s (at + 24); scratch = be 4 s (at + 28); counts = be 4 s (at + 32) }
 
 -- the first n steps
-abbrev pub stepsOf : List Range → List ℕ → ℕ → List Step
-stepsOf rs s n = records (stepAt rs s) 36 n 0
+abbrev pub stepsOf : List ℕ → List ℕ → ℕ → List Step
+stepsOf g s n = records (stepAt g s) 36 n 0
 
 -- the lengths that a step is lent of those that the run has
 abbrev pub lentTo : Step → Lengths → Lengths

@@ -1,9 +1,10 @@
-// A script of calls, run over a table that is formatted first; what the calls answer and hand out goes into a log. The ranges that calls hand in stand beside it.
+// A script of calls, run over a table that is formatted first; what the calls answer and hand out goes into a log. What calls hand in, ranges and messages, stands beside it.
 ghost use mathlib.Core.Path.{_≡_};
 ghost use Prim.Native.Nat.{_+_, _*_, _≤_, min};
 ghost use lib.ListN.{length, take, drop};
 ghost use Rattle.octets.specs.Bytes.{be};
 ghost use Rattle.ranges.specs.Ranges.{batchOf};
+ghost use Rattle.table.specs.Updates.{ApplyPost};
 ghost use Rattle.demands.specs.Model.{complement};
 ghost use Rattle.script.specs.Script.{allRanges, callAt, stepAt, logPart};
 ghost use Rattle.script.specs.Run.{plainly, eventOf, Called, CalledAlone, StepCalled, Turned, Run, runState, runLengths, Ran};
@@ -18,12 +19,12 @@ fn smaller(a: usize, b: usize) -> usize
 }
 
 // n of the ranges, from one on, or those that there are.
-fn ranges_from(ranges: &[u8], from: usize, n: usize) -> ranges::Batch
-    ensures { λ b. ⌜ b ≡ batchOf (take n (drop from (allRanges (now (ranges .entry))))) ⌝ }
+fn ranges_from(handed: &[u8], from: usize, n: usize) -> ranges::Batch
+    ensures { λ b. ⌜ b ≡ batchOf (take n (drop from (allRanges (now (handed .entry))))) ⌝ }
 {
-    let all = ranges.len() / 12;
+    let all = handed.len() / 12;
     let first = smaller(from, all);
-    ranges::read_batch(ranges, 12 * first, smaller(n, all - first))
+    ranges::read_batch(handed, 12 * first, smaller(n, all - first))
 }
 
 // A signed number in two's complement.
@@ -70,11 +71,28 @@ fn call_alone(script: &[u8], at: usize, table: &mut [u8], scratch: &mut [u8]) ->
     table::rebuild(table, scratch)
 }
 
+// Applies the message of the call that begins at a byte of the script: so many bytes, from one on, or those that there are.
+fn apply_at(
+    script: &[u8],
+    at: usize,
+    handed: &[u8],
+    table: &mut [u8],
+    scratch: &mut [u8],
+) -> block::Answer
+    requires { ⌜ at + 12 ≤ length (now script) ⌝ }
+    ensures { λ r. ⌜ ApplyPost (take (be 4 (now (script .entry)) (at + 8)) (drop (be 4 (now (script .entry)) (at + 4)) (now (handed .entry)))) (now (table .entry)) (now (scratch .entry)) r (now (table .exit)) (now (scratch .exit)) ⌝ }
+{
+    let all = handed.len();
+    let from = smaller(octets::read32(script, at + 4) as usize, all);
+    let end = from + smaller(octets::read32(script, at + 8) as usize, all - from);
+    apply::apply(table, scratch, &handed[from..end])
+}
+
 // Makes the call that begins at a byte of the script, with all that is lent.
 fn call(
     script: &[u8],
     at: usize,
-    ranges: &[u8],
+    handed: &[u8],
     table: &mut [u8],
     scratch: &mut [u8],
     read_map: &mut [u8],
@@ -82,7 +100,7 @@ fn call(
     output: &mut [u8],
 ) -> within::Said
     requires { ⌜ at + 20 ≤ length (now script) ⌝ }
-    ensures { λ r. ⌜ Called (now (table .entry)) (eventOf (callAt (allRanges (now (ranges .entry))) (now (script .entry)) at) (now (scratch .entry)) (now («read_map» .entry)) (now (counts .entry)) (now (output .entry)) r (now (table .exit)) (now (scratch .exit)) (now («read_map» .exit)) (now (counts .exit)) (now (output .exit))) ⌝ }
+    ensures { λ r. ⌜ Called (now (table .entry)) (eventOf (callAt (now (handed .entry)) (now (script .entry)) at) (now (scratch .entry)) (now («read_map» .entry)) (now (counts .entry)) (now (output .entry)) r (now (table .exit)) (now (scratch .exit)) (now («read_map» .exit)) (now (counts .exit)) (now (output .exit))) ⌝ }
 {
     let op = octets::read32(script, at);
     let a = spot::read_i32(script, at + 4);
@@ -98,12 +116,15 @@ fn call(
     if op == 8 {
         let from = octets::read32(script, at + 4) as usize;
         let n = octets::read32(script, at + 8) as usize;
-        let batch = ranges_from(ranges, from, n);
+        let batch = ranges_from(handed, from, n);
         return plain(many::report_batch(table, batch, counts, output, read_map));
     }
-    if op > 8 {
+    if op == 9 {
         let d = octets::read32(script, at + 16) as u32;
         return within::say(table, a, b, c, d, output, read_map);
+    }
+    if op > 9 {
+        return plain(apply_at(script, at, handed, table, scratch));
     }
     plain(call_alone(script, at, table, scratch))
 }
@@ -112,7 +133,7 @@ fn call(
 fn step(
     script: &[u8],
     at: usize,
-    ranges: &[u8],
+    handed: &[u8],
     table: &mut [u8],
     scratch: &mut [u8],
     read_map: &mut [u8],
@@ -120,7 +141,7 @@ fn step(
     output: &mut [u8],
 ) -> within::Said
     requires { ⌜ at + 36 ≤ length (now script) ⌝ }
-    ensures { λ r. ⌜ StepCalled (stepAt (allRanges (now (ranges .entry))) (now (script .entry)) at) (now (table .entry)) (now (scratch .entry)) (now («read_map» .entry)) (now (counts .entry)) (now (output .entry)) r (now (table .exit)) (now (scratch .exit)) (now («read_map» .exit)) (now (counts .exit)) (now (output .exit)) ⌝ }
+    ensures { λ r. ⌜ StepCalled (stepAt (now (handed .entry)) (now (script .entry)) at) (now (table .entry)) (now (scratch .entry)) (now («read_map» .entry)) (now (counts .entry)) (now (output .entry)) r (now (table .exit)) (now (scratch .exit)) (now («read_map» .exit)) (now (counts .exit)) (now (output .exit)) ⌝ }
 {
     let a = smaller(octets::read32(script, at + 20) as usize, output.len());
     let b = smaller(octets::read32(script, at + 24) as usize, read_map.len());
@@ -129,7 +150,7 @@ fn step(
     call(
         script,
         at,
-        ranges,
+        handed,
         table,
         &mut scratch[..c],
         &mut read_map[..b],
@@ -142,7 +163,7 @@ fn step(
 fn turn(
     script: &[u8],
     at: usize,
-    ranges: &[u8],
+    handed: &[u8],
     table: &mut [u8],
     scratch: &mut [u8],
     read_map: &mut [u8],
@@ -150,12 +171,12 @@ fn turn(
     part: &mut [u8],
 )
     requires { ⌜ (at + 36 ≤ length (now script)) × (12 ≤ length (now part)) ⌝ }
-    ensures { λ _. ⌜ Turned (stepAt (allRanges (now (ranges .entry))) (now (script .entry)) at) (now (table .entry)) (now (scratch .entry)) (now («read_map» .entry)) (now (counts .entry)) (now (part .entry)) (now (table .exit)) (now (scratch .exit)) (now («read_map» .exit)) (now (counts .exit)) (now (part .exit)) ⌝ }
+    ensures { λ _. ⌜ Turned (stepAt (now (handed .entry)) (now (script .entry)) at) (now (table .entry)) (now (scratch .entry)) (now («read_map» .entry)) (now (counts .entry)) (now (part .entry)) (now (table .exit)) (now (scratch .exit)) (now («read_map» .exit)) (now (counts .exit)) (now (part .exit)) ⌝ }
 {
     let said = step(
         script,
         at,
-        ranges,
+        handed,
         table,
         scratch,
         read_map,
@@ -171,7 +192,7 @@ fn turn(
 fn make_calls(
     script: &[u8],
     n: usize,
-    ranges: &[u8],
+    handed: &[u8],
     table: &mut [u8],
     scratch: &mut [u8],
     read_map: &mut [u8],
@@ -180,7 +201,7 @@ fn make_calls(
     part: usize,
 )
     requires { ⌜ (36 * n ≤ length (now script)) × (12 ≤ part) × (part * n ≤ length (now log)) ⌝ }
-    ensures { λ _. ⌜ Run (now (script .entry)) (now (ranges .entry)) n (runLengths (now (table .entry)) (now (scratch .entry)) (now («read_map» .entry)) (now (counts .entry)) part) (runState (now (table .entry)) (now (scratch .entry)) (now («read_map» .entry)) (now (counts .entry)) (now (log .entry))) (now (table .exit)) (now (scratch .exit)) (now («read_map» .exit)) (now (counts .exit)) (now (log .exit)) ⌝ }
+    ensures { λ _. ⌜ Run (now (script .entry)) (now (handed .entry)) n (runLengths (now (table .entry)) (now (scratch .entry)) (now («read_map» .entry)) (now (counts .entry)) part) (runState (now (table .entry)) (now (scratch .entry)) (now («read_map» .entry)) (now (counts .entry)) (now (log .entry))) (now (table .exit)) (now (scratch .exit)) (now («read_map» .exit)) (now (counts .exit)) (now (log .exit)) ⌝ }
 {
     let mut i = 0;
     let mut at = 0;
@@ -189,7 +210,7 @@ fn make_calls(
         turn(
             script,
             36 * i,
-            ranges,
+            handed,
             table,
             scratch,
             read_map,
@@ -214,14 +235,14 @@ fn part_of(bytes: usize, n: usize) -> usize
 // Formats the table and makes the calls of the script; false, with nothing changed, where the table's size or the log's does not do.
 pub fn run(
     script: &[u8],
-    ranges: &[u8],
+    handed: &[u8],
     table: &mut [u8],
     scratch: &mut [u8],
     read_map: &mut [u8],
     counts: &mut [u32],
     log: &mut [u8],
 ) -> bool
-    ensures { λ r. ⌜ Ran (now (script .entry)) (now (ranges .entry)) (now (table .entry)) (now (scratch .entry)) (now («read_map» .entry)) (now (counts .entry)) (now (log .entry)) (now (table .exit)) (now (scratch .exit)) (now («read_map» .exit)) (now (counts .exit)) (now (log .exit)) r ⌝ }
+    ensures { λ r. ⌜ Ran (now (script .entry)) (now (handed .entry)) (now (table .entry)) (now (scratch .entry)) (now («read_map» .entry)) (now (counts .entry)) (now (log .entry)) (now (table .exit)) (now (scratch .exit)) (now («read_map» .exit)) (now (counts .exit)) (now (log .exit)) r ⌝ }
 {
     let n = script.len() / 36;
     let part = part_of(log.len(), n);
@@ -235,7 +256,7 @@ pub fn run(
     make_calls(
         script,
         n,
-        ranges,
+        handed,
         table,
         scratch,
         read_map,

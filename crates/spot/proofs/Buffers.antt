@@ -168,6 +168,11 @@ put-mem s ss i =
     let r = keys-from (put s ss) i in
     ⊎-elim (λ (e : r .0 ≡ s). inl (r .2 ∙ ap (λ (x : Spot). x .key) e)) (λ j. inr (Memᴰ·cast (r .2) (keys-mem ss j))) (put-from s ss (r .1))
 
+-- a test that its key and all the others pass
+pub put-every : (g : ℕ → Bool) (s : Spot) (ss : List Spot) → g (s .key) ≡ true → every g (keys ss) ≡ true → every g (keys (put s ss)) ≡ true
+put-every g s ss p h =
+    every-make g (keys (put s ss)) (λ k i. ⊎-elim (λ (e : k ≡ s .key). ap g e ∙ p) (λ j. every-mem g (keys ss) h j) (put-mem s ss i))
+
 pub putAll-from : (own found : List Spot) {x : Spot} → List·Memᴰ x (putAll own found) → List·Memᴰ x own ⊎ List·Memᴰ x found
 putAll-from [] found k = inr k
 putAll-from (s ∷ ss) found k =

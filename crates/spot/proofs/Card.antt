@@ -1,6 +1,6 @@
 -- Keys and spots on the card: read, written, and as lists of bytes.
 -- Assumes nothing.
-use mathlib.Core.Path.{_≡_, sym, ap, ap₂, _∙_}
+use mathlib.Core.Path.{_≡_, refl, sym, ap, ap₂, _∙_}
 use mathlib.Core.Logic.{_⊎_, inl, inr, ⊎-elim}
 use mathlib.Core.List.{List, _++_, append-assoc}
 use Prim.Native.Nat.{ℕ, _+_, _*_, _/_, _%_, _≤_, _<_}
@@ -28,6 +28,11 @@ shifted s t i j m n w l h k q =
     rw (e, g) (h (m + k) (omega arith))
 
 -- ---- reading
+
+-- what is read at a spot is its key
+pub spot-key : (s : List ℕ) (at : ℕ) → keyAt s at ≡ spotAt s at .key
+unfolding spotAt
+spot-key s at = refl
 
 pub keyAt-lt : (s : List ℕ) (i : ℕ) → keyAt s i < allKeys
 unfolding keyAt

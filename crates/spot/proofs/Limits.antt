@@ -90,6 +90,10 @@ pub limited-each : (s : List ℕ) (w n at : ℕ) → limitedFrom s w n at ≡ tr
 unfolding limitedFrom
 limited-each s w n at h i l = tests-at (λ (j : ℕ). limited (keyAt s j)) w n at i (sym (every-records limited (keyAt s) w n at) ∙ h) l
 
+-- those of spots from the front on
+pub limits-at : (s : List ℕ) (n : ℕ) → limitedFrom s 12 n 0 ≡ true → (p : ℕ) → p < n → limited (keyAt s (12 * p)) ≡ true
+limits-at s n h p l = let e : 12 * p ≡ 0 + 12 * p = omega arith in ap (λ (k : ℕ). limited (keyAt s k)) e ∙ limited-each s 12 n 0 h p l
+
 pub limited-all : (s : List ℕ) (w n at : ℕ) → ((i : ℕ) → i < n → limited (keyAt s (at + w * i)) ≡ true) → limitedFrom s w n at ≡ true
 unfolding limitedFrom
 limited-all s w n at f = every-records limited (keyAt s) w n at ∙ tests-make (λ (j : ℕ). limited (keyAt s j)) w n at f

@@ -41,7 +41,7 @@ key-back k h a b =
     ap (keyAt (a ++ (keyBytes k ++ b))) (sym (add-zero (length a))) ∙ keyAt-right a (keyBytes k ++ b) 0
     ∙ keyAt-left (keyBytes k) b 0 (omega (arith, length-keyBytes k)) ∙ keyAt-keyBytes k h
 
-spot-back : (x : Spot) → goodSpot x ≡ true → (a b : List ℕ) → spotAt (a ++ (spotBytes x ++ b)) (length a) ≡ x
+pub spot-back : (x : Spot) → goodSpot x ≡ true → (a b : List ℕ) → spotAt (a ++ (spotBytes x ++ b)) (length a) ≡ x
 spot-back x h a b =
     ap (spotAt (a ++ (spotBytes x ++ b))) (sym (add-zero (length a))) ∙ spotAt-right a (spotBytes x ++ b) 0
     ∙ spotAt-left (spotBytes x) b 0 (omega (arith, length-spotBytes x)) ∙ spotAt-spotBytes x (good-key x h) (good-track x h)
@@ -63,7 +63,7 @@ module _ (s : List ℕ) (bytes : (k : ℕ) → getD s k 0 < 256) where
   four : (i : ℕ) → i + 4 ≤ length s → bytesOf 4 (turned (turned (be 4 s i))) ≡ take 4 (drop i s)
   four i h = ap (bytesOf 4) (turned-turned (be 4 s i) (be-lt 4 s i bytes)) ∙ bytesOf-be 4 s i bytes h
 
-  keyBytes-keyAt : (i : ℕ) → i + 8 ≤ length s → keyBytes (keyAt s i) ≡ take 8 (drop i s)
+  pub keyBytes-keyAt : (i : ℕ) → i + 8 ≤ length s → keyBytes (keyAt s i) ≡ take 8 (drop i s)
   unfolding keyBytes keyAt
   keyBytes-keyAt i h =
       let a : ℕ = turned (be 4 s i) in
@@ -73,7 +73,7 @@ module _ (s : List ℕ) (bytes : (k : ℕ) → getD s k 0 < 256) where
       (ap (λ (x : ℕ). bytesOf 4 (turned x)) (digits-mod a (turned-lt (be 4 s (i + 4)))) ∙ four (i + 4) (omega arith) ∙ ap (take 4) (sym (drop-drop 4 i s)))
       ∙ sym (take-add 4 4 (drop i s))
 
-  spotBytes-spotAt : (i : ℕ) → i + 12 ≤ length s → spotBytes (spotAt s i) ≡ take 12 (drop i s)
+  pub spotBytes-spotAt : (i : ℕ) → i + 12 ≤ length s → spotBytes (spotAt s i) ≡ take 12 (drop i s)
   unfolding spotBytes spotAt
   spotBytes-spotAt i h =
       ap₂ (λ (x y : List ℕ). x ++ y) (keyBytes-keyAt i (omega arith))

@@ -25,11 +25,11 @@ use Rattle.query.specs.declared.Sum.{Sum}
 use Rattle.report.specs.Reports.{written}
 use Rattle.report.proofs.Reports.{report-blocks, report-whole, report-length}
 use Rattle.table.specs.Calls.{Call, format, report, count, check, kind, Lengths}
-use Rattle.table.specs.Answers.{ofTable, withOutput, lent, fewEnough, placeInside, earlyNumber, unlessRefused, spotsAnswer, outputLeft, mapLeft}
+use Rattle.table.specs.Answers.{ofTable, withOutput, lent, fewEnough, argumentNumber, earlyNumber, unlessRefused, spotsAnswer, outputLeft, mapLeft}
 use Rattle.table.specs.Queries.{walkAnswer, WalkPost, ReportPost, countAnswer, CountPost, CheckPost}
 use Rattle.table.specs.Updates.{FormatPost}
 
--- refused by lengths and arguments: 1, then 2, then 6, then 9; else the call's own answer
+-- refused by lengths and arguments: 1, then 2, then 6, then 8 or 9; else the call's own answer
 module _ (l : Lengths) (c : Call) where
   pub number-short : tableSized (l .table) ≡ false → earlyNumber l c ≡ 1
   unfolding earlyNumber
@@ -43,19 +43,18 @@ module _ (l : Lengths) (c : Call) where
   unfolding earlyNumber
   number-over e f g = rw (e, f, g)
 
-  pub number-outside : tableSized (l .table) ≡ true → lent l (kind c) ≡ true → fewEnough (kind c) ≡ true → placeInside c ≡ false → earlyNumber l c ≡ 9
+  pub number-argument : tableSized (l .table) ≡ true → lent l (kind c) ≡ true → fewEnough (kind c) ≡ true → earlyNumber l c ≡ argumentNumber c
   unfolding earlyNumber
-  number-outside e f g h = rw (e, f, g, h)
+  number-argument e f g = rw (e, f, g)
 
-  pub number-fine : tableSized (l .table) ≡ true → lent l (kind c) ≡ true → fewEnough (kind c) ≡ true → placeInside c ≡ true → earlyNumber l c ≡ 0
-  unfolding earlyNumber
-  number-fine e f g h = rw (e, f, g, h)
+  pub number-fine : tableSized (l .table) ≡ true → lent l (kind c) ≡ true → fewEnough (kind c) ≡ true → argumentNumber c ≡ 0 → earlyNumber l c ≡ 0
+  number-fine e f g h = number-argument e f g ∙ h
 
   pub short-table : (a : Answer) → tableSized (l .table) ≡ false → unlessRefused (earlyNumber l c) a ≡ answer 1 0
   unfolding unlessRefused
   short-table a e = ap (λ (n : ℕ). unlessRefused n a) (number-short e)
 
-  pub long-enough : (a : Answer) → tableSized (l .table) ≡ true → lent l (kind c) ≡ true → fewEnough (kind c) ≡ true → placeInside c ≡ true
+  pub long-enough : (a : Answer) → tableSized (l .table) ≡ true → lent l (kind c) ≡ true → fewEnough (kind c) ≡ true → argumentNumber c ≡ 0
       → unlessRefused (earlyNumber l c) a ≡ a
   unfolding unlessRefused
   long-enough a e f g h = ap (λ (n : ℕ). unlessRefused n a) (number-fine e f g h)

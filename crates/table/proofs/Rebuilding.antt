@@ -71,7 +71,7 @@ module _ (t t′ w w′ w″ : List ℕ) (r : Answer) (ok : Bool) (e : tableSize
       record {
         update =
             record {
-              detail = λ n. detail-is a;
+              detail = λ n z. detail-is a;
               refusals = λ n. absurd (n fine);
               header = λ n b. number-is a;
               numbers = λ n. ap (λ (x : Answer). has (x .number) (outcomes rebuild)) a;
@@ -98,7 +98,7 @@ module _ (t t′ w w′ w″ : List ℕ) (r : Answer) (ok : Bool) (e : tableSize
       record {
         update =
             record {
-              detail = λ n. detail-is a;
+              detail = λ n z. detail-is a;
               refusals = λ n. absurd (n fine);
               header = λ n b. absurd (true≢false (sym h ∙ g .is ∙ laid-header t b));
               numbers = λ n. ap (λ (x : Answer). has (x .number) (outcomes rebuild)) a;

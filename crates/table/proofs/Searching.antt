@@ -24,7 +24,7 @@ use Rattle.tree.specs.ReadMap.{readMap}
 use Rattle.tree.proofs.Marks.{map-bit, read-mem, zero-marked}
 use Rattle.tree.proofs.Sources.{Source, sources-limited, InTable}
 use Rattle.table.specs.Calls.{Call, queries, kind}
-use Rattle.table.specs.Answers.{withOutput, lent, fewEnough, placeInside, earlyNumber, outputLeft, outcomes}
+use Rattle.table.specs.Answers.{withOutput, lent, fewEnough, argumentNumber, earlyNumber, outputLeft, outcomes}
 use Rattle.table.specs.Queries.{QueryPost, SearchPost}
 use Rattle.table.proofs.Answering.{number-short, number-lent, number-fine, walk-early, walk-broken, walk-many, walk-given}
 
@@ -37,7 +37,7 @@ pub record Serves (t : List ℕ) (x1 x2 : ℤ) (P : Type 0) (w : Walk) (given : 
   pub places : (b : ℕ) → List·Memᴰ b blocks → InTable t b
   pub map : readMap (blocksRead w) ≡ readMap blocks
 
-module _ (c : Call) (lends : kind c ≡ queries) (inside : placeInside c ≡ true) (may : outcomes c ≡ 0 ∷ 3 ∷ 5 ∷ []) (x1 x2 : ℤ) (P : Type 0) (w : Walk) (t out map : List ℕ) (r : Answer) where
+module _ (c : Call) (lends : kind c ≡ queries) (inside : argumentNumber c ≡ 0) (may : outcomes c ≡ 0 ∷ 3 ∷ 5 ∷ []) (x1 x2 : ℤ) (P : Type 0) (w : Walk) (t out map : List ℕ) (r : Answer) where
   abbrev Post : List ℕ → List ℕ → Type 0
   Post out′ map′ = SearchPost c x1 x2 (P → QueryPost c w t out map r out′ map′) t out map r out′ map′
 

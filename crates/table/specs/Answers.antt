@@ -12,8 +12,9 @@ use Rattle.spot.specs.declared.Spot.{Spot}
 use Rattle.block.specs.declared.Answer.{Answer}
 use Rattle.block.specs.Answers.{answer}
 use Rattle.block.specs.Table.{tableSized, mapBytes}
+use Rattle.message.specs.Messages.{messageAnswer}
 use Rattle.tree.specs.ReadMap.{readMap}
-use Rattle.table.specs.Calls.{Call, format, add, withdraw, report, top, count, check, rebuild, reportMany, topWithin, Kind, makes, updates, queries, queriesEach, tells, kind, Lengths}
+use Rattle.table.specs.Calls.{Call, format, add, withdraw, report, top, count, check, rebuild, reportMany, topWithin, apply, Kind, makes, updates, queries, queriesEach, tells, kind, Lengths}
 
 abbrev pub lengths : List ℕ → List ℕ → List ℕ → List ℕ → List ℕ → Lengths
 lengths t out map scratch counts =
@@ -48,23 +49,40 @@ fewEnough queries = true
 fewEnough (queriesEach n) = leb n 64
 fewEnough tells = true
 
--- 9, request 2026-07: "It refuses with 9 an addition, withdrawal or spot to be pressed outside the limits"; "Range ends may be any number"
-abbrev pub placeInside : Call → Bool
-placeInside format = true
-placeInside (add place rank track) = inLimits place
-placeInside (withdraw place rank) = inLimits place
-placeInside (report x1 x2 y) = true
-placeInside (top x1 x2 k) = true
-placeInside count = true
-placeInside check = true
-placeInside rebuild = true
-placeInside (reportMany rs) = true
-placeInside (topWithin x1 x2 k a) = true
+-- 9, request 2026-07: "It refuses with 9 an addition, withdrawal or spot to be pressed outside the limits"; "Range ends may be any number". Request 2026-06: 8 of a message
+-- "if the length, version, a kind, such a zero or the count of over 4,096 is wrong", and then 9
+abbrev pub argumentNumber : Call → ℕ
+argumentNumber format = 0
+argumentNumber (add place rank track) = cond (inLimits place) 0 9
+argumentNumber (withdraw place rank) = cond (inLimits place) 0 9
+argumentNumber (report x1 x2 y) = 0
+argumentNumber (top x1 x2 k) = 0
+argumentNumber count = 0
+argumentNumber check = 0
+argumentNumber rebuild = 0
+argumentNumber (reportMany rs) = 0
+argumentNumber (topWithin x1 x2 k a) = 0
+argumentNumber (apply m) = messageAnswer m .number
 
 -- the number that lengths and arguments alone decide, before any byte of the table is read; "The order is that of the table": 1, "the table is not a whole
--- number of blocks, or has under 9 or over 4,096", then 2; "It refuses with 6, after 2 and before 3"; 9 "before 3 and after all others that come before 3"; or 0
+-- number of blocks, or has under 9 or over 4,096", then 2; "It refuses with 6, after 2 and before 3"; "It refuses with 8, after 2 and before 3"; 9 "before 3 and after
+-- all others that come before 3"; or 0
 unfoldable pub earlyNumber : Lengths → Call → ℕ
-earlyNumber l c = cond (tableSized (l .table)) (cond (lent l (kind c)) (cond (fewEnough (kind c)) (cond (placeInside c) 0 9) 6) 2) 1
+earlyNumber l c = cond (tableSized (l .table)) (cond (lent l (kind c)) (cond (fewEnough (kind c)) (argumentNumber c) 6) 2) 1
+
+-- the detail that comes with it: "applying a message give it there too, .. with the first such position"; "Refusals 1 to 3 keep detail 0"
+abbrev pub earlyDetail : Call → ℕ → ℕ
+earlyDetail format n = 0
+earlyDetail (add place rank track) n = 0
+earlyDetail (withdraw place rank) n = 0
+earlyDetail (report x1 x2 y) n = 0
+earlyDetail (top x1 x2 k) n = 0
+earlyDetail count n = 0
+earlyDetail check n = 0
+earlyDetail rebuild n = 0
+earlyDetail (reportMany rs) n = 0
+earlyDetail (topWithin x1 x2 k a) n = 0
+earlyDetail (apply m) n = cond (eqb n 9) (messageAnswer m .detail) 0
 
 -- "1, detail 0", "2, detail 0", "6 and every later number .. where no more is said, have detail 0": an answer by that number where it refuses, else the other
 unfoldable pub unlessRefused : ℕ → Answer → Answer
@@ -107,3 +125,4 @@ outcomes check = 0 ∷ []
 outcomes rebuild = 0 ∷ 3 ∷ []
 outcomes (reportMany rs) = 0 ∷ 3 ∷ 5 ∷ []
 outcomes (topWithin x1 x2 k a) = 0 ∷ 3 ∷ 5 ∷ []
+outcomes (apply m) = 0 ∷ 3 ∷ 4 ∷ []

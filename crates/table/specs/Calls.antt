@@ -5,12 +5,13 @@ use mathlib.Core.Bool.{Bool, true, false, _&&_}
 use mathlib.Core.List.{List}
 use lib.IntN.{ℤ}
 use lib.ListN.{length}
+use lib.Dec.{ltb}
 use Rattle.octets.specs.Lists.{every}
 use Rattle.spot.specs.Keys.{signed32, unsigned32}
 use Rattle.ranges.specs.declared.Range.{Range}
 
 -- "Format, Add, Withdraw, Report, Top, Count, Check, Rebuild"; request 2026-01, "Many ranges in one call"; request 2026-10, "What can be said after so many
--- blocks", with k and then the allowance
+-- blocks", with k and then the allowance; request 2026-06, "Lists of changes over the air": applying a message, with its bytes
 pub data Call : Type 0 where
   format : Call
   add : ℤ → ℤ → ℕ → Call
@@ -22,6 +23,7 @@ pub data Call : Type 0 where
   rebuild : Call
   reportMany : List Range → Call
   topWithin : ℤ → ℤ → ℕ → ℕ → Call
+  apply : List ℕ → Call
 
 -- "the lengths of table, output, read map and work area" (the scratch), and of the "lent list of 32-bit numbers". A call that is not lent one of them has any
 -- number there.
@@ -36,7 +38,7 @@ pub record Lengths : Type 0 where
 pub data Kind : Type 0 where
   -- nothing; it may
   makes : Kind
-  -- a work area: "Add, Withdraw and Rebuild take a work area"; it may
+  -- a work area: "Add, Withdraw and Rebuild take a work area", "Applying it takes a work area as Add does"; it may
   updates : Kind
   -- an output and a read map: "Report and Top write a map of 512 bytes"; it may not. The ceiling of a Top within an allowance is a result and not lent.
   queries : Kind
@@ -56,6 +58,7 @@ kind check = tells
 kind rebuild = updates
 kind (reportMany rs) = queriesEach (length rs)
 kind (topWithin x1 x2 k a) = queries
+kind (apply m) = updates
 
 abbrev pub takesOutput : Kind → Bool
 takesOutput makes = false
@@ -107,13 +110,28 @@ hasCeiling check = false
 hasCeiling rebuild = false
 hasCeiling (reportMany rs) = false
 hasCeiling (topWithin x1 x2 k a) = true
+hasCeiling (apply m) = false
+
+-- the call whose refusals 4 and 9 have a position as detail
+abbrev pub hasPosition : Call → Bool
+hasPosition format = false
+hasPosition (add place rank track) = false
+hasPosition (withdraw place rank) = false
+hasPosition (report x1 x2 y) = false
+hasPosition (top x1 x2 k) = false
+hasPosition count = false
+hasPosition check = false
+hasPosition rebuild = false
+hasPosition (reportMany rs) = false
+hasPosition (topWithin x1 x2 k a) = false
+hasPosition (apply m) = true
 
 -- a range's three numbers within their 32 bits
 unfoldable pub rangeFits : Range → Bool
 rangeFits r = signed32 (r .x1) && signed32 (r .x2) && signed32 (r .y)
 
 -- "A spot has a place and a rank, both signed 32-bit, and a track number, unsigned 32-bit"; "Report(x1, x2, y), all signed 32-bit"; "Top(x1, x2, k), k
--- unsigned 32-bit"; "each with two places and a lowest rank"; "a 32-bit number of node blocks"
+-- unsigned 32-bit"; "each with two places and a lowest rank"; "a 32-bit number of node blocks"; a message is bytes
 unfoldable pub argumentsFit : Call → Bool
 argumentsFit format = true
 argumentsFit (add place rank track) = signed32 place && signed32 rank && unsigned32 track
@@ -125,3 +143,4 @@ argumentsFit check = true
 argumentsFit rebuild = true
 argumentsFit (reportMany rs) = every rangeFits rs
 argumentsFit (topWithin x1 x2 k a) = signed32 x1 && signed32 x2 && unsigned32 k && unsigned32 a
+argumentsFit (apply m) = every (λ b. ltb b 256) m

@@ -1,9 +1,9 @@
--- What Format, Add, Withdraw and Rebuild promise, for all tables, arguments and lengths. t is the table as lent and t′ as left, w the scratch (the work area)
+-- What Format, Add, Withdraw, Rebuild and the application of a message promise, for all tables, arguments and lengths. t is the table as lent and t′ as left, w the scratch (the work area)
 -- as lent and w′ as left.
 -- Assumes nothing.
 use mathlib.Core.Path.{_≡_}
 use mathlib.Core.Logic.{_≢_}
-use Prim.Native.Nat.{ℕ, zero, suc}
+use Prim.Native.Nat.{ℕ, zero, suc, _<_}
 use mathlib.Core.Bool.{true, false, cond}
 use mathlib.Core.List.{List, _++_}
 use mathlib.Core.Option.{Option, none, some}
@@ -12,6 +12,7 @@ use lib.IntN.{ℤ}
 use Rattle.octets.specs.Lists.{every, has}
 use Rattle.spot.specs.Keys.{key}
 use Rattle.spot.specs.Query.{everything}
+use Rattle.spot.specs.Spots.{find}
 use Rattle.block.specs.Answers.{answer}
 use Rattle.block.specs.declared.Answer.{Answer}
 use Rattle.block.specs.Table.{tableSized, block}
@@ -19,6 +20,9 @@ use Rattle.block.specs.Header.{headOf}
 use Rattle.block.specs.Node.{storeOf}
 use Rattle.block.specs.HeaderRules.{headerOk}
 use Rattle.block.specs.Fresh.{formatted}
+use Rattle.message.specs.Changes.{changesOf}
+use Rattle.message.specs.Messages.{readMessage}
+use Rattle.message.specs.Effects.{afterAll, appliedAnswer}
 use Rattle.tree.specs.Part.{whole}
 use Rattle.tree.specs.Lookup.{live, isLive, withKey}
 use Rattle.tree.specs.Reach.{reach, settled}
@@ -29,8 +33,8 @@ use Rattle.lookup.specs.Answers.{lookedUp}
 use Rattle.lookup.specs.declared.Looked.the-variants.{Broken}
 use Rattle.renew.specs.Layable.{layable}
 use Rattle.revise.specs.Numbers.{addNumber, Full}
-use Rattle.table.specs.Calls.{Call, format, add, withdraw, rebuild}
-use Rattle.table.specs.Answers.{ofTable, withScratch, earlyNumber, unlessRefused, outcomes}
+use Rattle.table.specs.Calls.{Call, format, add, withdraw, rebuild, apply}
+use Rattle.table.specs.Answers.{ofTable, withScratch, earlyNumber, earlyDetail, unlessRefused, outcomes}
 
 -- "Format makes the empty table, one leaf and one level"
 pub record FormatPost (t : List ℕ) (r : Answer) (t′ : List ℕ) : Type 0 where
@@ -47,9 +51,9 @@ scratchLeft bytes (suc (suc (suc (suc n)))) w = w
 
 -- a call that changes the table. On a sound one the answer is `due`, and where it is accepted `after` are the live spots.
 pub record UpdatePost (c : Call) (due : Answer) (after : ℕ → Option ℕ) (t w : List ℕ) (r : Answer) (t′ w′ : List ℕ) : Type 0 where
-  -- on every table; the detail that comes with 4 is the call's own
-  pub detail : r .number ≢ 4 → r .detail ≡ 0
-  pub refusals : earlyNumber (withScratch t w) c ≢ 0 → r ≡ answer (earlyNumber (withScratch t w) c) 0
+  -- on every table; the detail that comes with 4, and that of a refusal by lengths and arguments, is the call's own
+  pub detail : r .number ≢ 4 → earlyNumber (withScratch t w) c ≡ 0 → r .detail ≡ 0
+  pub refusals : earlyNumber (withScratch t w) c ≢ 0 → r ≡ answer (earlyNumber (withScratch t w) c) (earlyDetail c (earlyNumber (withScratch t w) c))
   pub header : earlyNumber (withScratch t w) c ≡ 0 → headerOk (length t) (headOf t) ≡ false → r .number ≡ 3
   pub numbers : earlyNumber (withScratch t w) c ≡ 0 → has (r .number) (outcomes c) ≡ true
   pub unchanged : r .number ≢ 0 → t′ ≡ t
@@ -95,3 +99,18 @@ pub record RebuildPost (t w : List ℕ) (r : Answer) (t′ w′ : List ℕ) : Ty
   pub exact : r .number ≡ 0 → headOf t′ .bound ≡ liveCount t′
   pub carriedOut : r .number ≡ 0
       → every (λ b. settled (storeOf t′ b)) (reach (headOf t′ .levels) (storeOf t′) (whole (headOf t′))) ≡ true
+
+-- request 2026-06: "Applying it .. leaves the live spots that the changes one after another would. If any would be turned down, nothing is applied and the first
+-- such one's number is returned, with its position from 0 as detail."
+pub record ApplyPost (m t w : List ℕ) (r : Answer) (t′ w′ : List ℕ) : Type 0 where
+  pub update : UpdatePost (apply m) (appliedAnswer (length t) (changesOf (readMessage m)) (liveSpots t))
+      (λ k. find k (afterAll (changesOf (readMessage m)) (liveSpots t)))
+      t
+      w
+      r
+      t′
+      w′
+  -- on every table, sound or not: the detail that comes with 4 is a position
+  pub position : r .number ≡ 4 → r .detail < length (changesOf (readMessage m))
+  -- the figure in block 0: exact before, exact after
+  pub exact : sound t ≡ true → headOf t .bound ≡ liveCount t → headOf t′ .bound ≡ liveCount t′

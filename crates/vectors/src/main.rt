@@ -8,6 +8,7 @@ ghost use Rattle.table.specs.Queries.{GivenInside};
 mod allowances;
 mod batches;
 mod marks;
+mod messages;
 mod shown;
 mod tours;
 
@@ -246,7 +247,7 @@ fn print(table: &[u8], r: Row) {
     }
 }
 
-// What is kept from row to row: the table's length, the ranges that are handed in, what is allowed, and the length of the list to be pressed.
+// What is kept from row to row: the table's length, the ranges that are handed in, what is allowed, and the length of the list or message in the scratch bytes.
 struct State {
     bytes: usize,
     batch: ranges::Batch,
@@ -260,11 +261,17 @@ fn ask_table(table: &[u8], marks: &mut [u8; 1024], s: State, r: Row) {
     allowances::ask(table, marks, s.allowed, r);
 }
 
+// What goes by the list or the message in the scratch bytes.
+fn carry_list(table: &mut [u8], scratch: &[u8], marks: &mut [u8; 1024], s: State, r: Row) {
+    tours::carry_out(table, scratch, marks, s.allowed, s.listed, r);
+    messages::carry_out(table, scratch, s.listed, r);
+}
+
 fn carry_out(table: &mut [u8], scratch: &mut [u8], marks: &mut [u8; 1024], s: State, r: Row) {
     make_call(table, scratch, r);
     hang(table, scratch, r);
     ask_table(table, marks, s, r);
-    tours::carry_out(table, scratch, marks, s.allowed, s.listed, r);
+    carry_list(table, scratch, marks, s, r);
     write(table, marks, r);
     mark(marks, r.op);
     print(table, r);
@@ -289,7 +296,8 @@ fn state_after(s: State, scratch: &mut [u8], r: Row) -> State
     let bytes = length_after(s.bytes, r);
     let batch = batches::hand_in(s.batch, r);
     let allowed = allowances::allow(s.allowed, r);
-    let listed = tours::hand_in(scratch, s.listed, r);
+    let pressed = tours::hand_in(scratch, s.listed, r);
+    let listed = messages::hand_in(scratch, pressed, r);
     State {
         bytes,
         batch,

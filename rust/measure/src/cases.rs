@@ -75,7 +75,7 @@ fn one_by_one(ranges: &[Range], out: &mut [u8], mut report: impl FnMut(&Range, &
 }
 
 /// The blocks that differ.
-fn changed(a: &[u8], b: &[u8]) -> usize {
+pub fn changed(a: &[u8], b: &[u8]) -> usize {
     a.chunks(BLOCK).zip(b.chunks(BLOCK)).filter(|(x, y)| x != y).count()
 }
 

@@ -1,7 +1,7 @@
 //! The file that guides read today: spots of 12 bytes, sorted by place. Read through, or searched by halving.
 
 use spot_reference::{stretches, top_order, Key};
-use std::collections::BTreeSet;
+use std::collections::{BTreeMap, BTreeSet};
 
 const WIDTH: usize = 12;
 /// A block of the card.
@@ -174,6 +174,31 @@ pub fn withdraw_anew(file: &[u8], k: Key) -> Vec<u8> {
             out.extend(old);
         }
     }
+    out
+}
+
+/// The file cut again with the changes made: the track of each identity, or none for one that goes. They are sorted, then merged in one pass.
+pub fn apply_anew(file: &[u8], changes: &[(Key, Option<u32>)]) -> Vec<u8> {
+    let mut changes = changes.iter().copied().collect::<BTreeMap<Key, Option<u32>>>().into_iter().peekable();
+    let mut out = Vec::with_capacity(file.len() + WIDTH * changes.len());
+    let push = |out: &mut Vec<u8>, (k, track): (Key, Option<u32>)| {
+        if let Some(t) = track {
+            out.resize(out.len() + WIDTH, 0);
+            let at = out.len() - WIDTH;
+            put(&mut out[at..], k, t);
+        }
+    };
+    for row in file.chunks_exact(WIDTH) {
+        let k = (word(row, 0), word(row, 4));
+        while let Some(c) = changes.next_if(|c| c.0 < k) {
+            push(&mut out, c);
+        }
+        match changes.next_if(|c| c.0 == k) {
+            Some(c) => push(&mut out, c),
+            None => out.extend_from_slice(row),
+        }
+    }
+    changes.for_each(|c| push(&mut out, c));
     out
 }
 

@@ -1,12 +1,13 @@
 //! The library beside the flat file that guides read today, SQLite in memory and plain Rust, in one run. Prints the rows of docs/PERFORMANCE.md; tests nothing but that
 //! all give the same spots.
 //!
-//! Usage: spot_measure [--quick] [--blocks N] [--runs FILE], or spot_measure histories. `measure/run` builds it and adds what the figures were taken on.
+//! Usage: spot_measure [--quick] [--blocks N] [--runs FILE], spot_measure messages, or spot_measure histories. `measure/run` builds it and adds what the figures were taken on.
 
 mod cases;
 mod clock;
 mod flat;
 mod histories;
+mod messages;
 mod row;
 #[cfg_attr(not(sqlite), path = "no_sqlite.rs")]
 mod sqlite;
@@ -31,6 +32,13 @@ fn main() -> std::io::Result<()> {
         histories::main();
         return Ok(());
     }
+    if given("messages").is_some() {
+        let rows = messages::rows(4096, 15, &mut Random(6));
+        println!("{}", row::HEAD);
+        rows.iter().for_each(|row| println!("{}", row.markdown()));
+        println!("\n{}", row::applied(&rows));
+        return Ok(());
+    }
     if given("sqlite").is_some() {
         println!("{}", sqlite_version());
         return Ok(());
@@ -53,6 +61,7 @@ fn main() -> std::io::Result<()> {
     tour::rows(rounds, &mut Random(3)).into_iter().try_for_each(&mut keep)?;
     let one: Option<usize> = given("--blocks").and_then(|i| words.get(i + 1)).and_then(|n| n.parse().ok());
     let sizes = one.map_or(if quick { vec![32, 300] } else { vec![32, 300, 4096] }, |n| vec![n]);
+    let largest = sizes.last().copied();
     for blocks in sizes {
         for state in STATES {
             eprintln!("{blocks} blocks, {state}");
@@ -60,6 +69,11 @@ fn main() -> std::io::Result<()> {
             setting.rows(rounds, quick, &mut random).into_iter().try_for_each(&mut keep)?;
         }
     }
+    if let Some(blocks) = largest {
+        eprintln!("{blocks} blocks, messages");
+        messages::rows(blocks, rounds, &mut Random(6)).into_iter().try_for_each(&mut keep)?;
+    }
     println!("\nRatios of the library's own calls:\n\n{}", row::within(&rows));
+    println!("Messages beside Add and Rebuild:\n\n{}", row::applied(&rows));
     Ok(())
 }

@@ -17,6 +17,14 @@ impl Sqlite {
         match *self {}
     }
 
+    pub fn begin(&self) {
+        match *self {}
+    }
+
+    pub fn commit(&self) {
+        match *self {}
+    }
+
     pub fn add(&self, _: Key, _: u32) {
         match *self {}
     }

@@ -1,14 +1,17 @@
 //! The table of results: a row for each call on each table, with ratios in one run.
 
 use crate::clock::{median, Runs};
+use crate::messages::{name, ORDERS, SIZES};
 use std::fmt::Write;
 
 /// The library comes first; the others stand in the columns behind it, but for the last, another call of the library: a Report for each of many ranges, a Top for one within
-/// an allowance.
+/// an allowance, an Add for a message of one change, a Rebuild for one of several.
 pub const CONTENDERS: [&str; 6] = ["library", "file", "halved", "SQLite", "plain", "own"];
 
 /// Of tours, which have no state beside.
 pub const PRESSED: &str = "pressed";
+/// Of the table to which messages are applied.
+pub const NINE_TENTHS: &str = "90 % full";
 /// The calls with many ranges.
 pub const NARROW: &str = "64 ranges, narrow, 0.1 %";
 pub const WIDE: &str = "64 ranges, wide, 1 %";
@@ -100,7 +103,7 @@ pub fn within(rows: &[Row]) -> String {
     let mut s = String::from("| blocks | table | everything ÷ Count | Top of all ÷ everything | Top of all ÷ Top 10,000 | Count, µs a block | Rebuild ÷ sort and copy | 64 narrow ranges in one call ÷ 64 single reports | 64 ranges of 1 % ÷ 64 single reports | Top 10 of 10 % within 4, 16, any number of nodes ÷ Top | Top 1,000 of all within so many ÷ Top |\n|---|---|---|---|---|---|---|---|---|---|---|\n");
     let mut kinds: Vec<(usize, &str)> = rows.iter().map(|r| (r.blocks, r.state)).collect();
     kinds.dedup();
-    kinds.retain(|kind| kind.1 != PRESSED);
+    kinds.retain(|kind| ![PRESSED, NINE_TENTHS].contains(&kind.1));
     for (blocks, state) in kinds {
         let find = |call: &str| rows.iter().find(|r| r.blocks == blocks && r.state == state && r.call == call);
         let time = |call: &str| find(call).and_then(|r| r.nanoseconds(0));
@@ -113,6 +116,19 @@ pub fn within(rows: &[Row]) -> String {
         let within = [TEN, THOUSAND].map(|call| if find(call).is_some() { each_of(call) } else { String::new() }).join(" | ");
         let line = [ratio(all, count), tops, each, beside("rebuild", 4), beside(NARROW, 5), beside(WIDE, 5), within].join(" | ");
         writeln!(s, "| {blocks} | {state} | {line} |").unwrap();
+    }
+    s
+}
+
+/// Messages beside Add and Rebuild, where the table has them.
+pub fn applied(rows: &[Row]) -> String {
+    let mut s = String::from("| blocks | order of the changes | 1 change ÷ Add | 16 changes ÷ Rebuild | 256 ÷ Rebuild | 4,096 ÷ Rebuild |\n|---|---|---|---|---|---|\n");
+    let mut sizes: Vec<usize> = rows.iter().filter(|r| r.state == NINE_TENTHS).map(|r| r.blocks).collect();
+    sizes.dedup();
+    for (blocks, order) in sizes.into_iter().flat_map(|n| ORDERS.map(|order| (n, order))) {
+        let find = |call: String| rows.iter().find(|r| r.blocks == blocks && r.state == NINE_TENTHS && r.call == call);
+        let ratios = SIZES.map(|size| find(name(size, order)).map_or(String::new(), |r| r.ratio(5)));
+        writeln!(s, "| {blocks} | {order} | {} |", ratios.join(" | ")).unwrap();
     }
     s
 }

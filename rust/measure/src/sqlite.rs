@@ -53,12 +53,20 @@ impl Sqlite {
         s.add = s.prepare("INSERT OR REPLACE INTO spots VALUES(?1, ?2, ?3)");
         s.withdraw = s.prepare("DELETE FROM spots WHERE place = ?1 AND rank = ?2");
         s.count = s.prepare("SELECT count(*) FROM spots");
-        s.run("BEGIN");
+        s.begin();
         for (k, t) in spots {
             s.add(*k, *t);
         }
-        s.run("COMMIT");
+        s.commit();
         s
+    }
+
+    pub fn begin(&self) {
+        self.run("BEGIN");
+    }
+
+    pub fn commit(&self) {
+        self.run("COMMIT");
     }
 
     fn run(&self, sql: &str) {

@@ -40,8 +40,19 @@ pub enum Kind {
 
 pub const KINDS: [Kind; 4] = [Kind::Random, Kind::Rising, Kind::TopWithdrawn, Kind::AtCapacity];
 
+/// The number that the lengths of a table and a work area decide alone: 1, 2, or 0.
+pub fn by_lengths(table: usize, work: usize) -> u32 {
+    if table % BLOCK != 0 || !(FEWEST_BLOCKS..=MOST_BLOCKS).contains(&(table / BLOCK)) {
+        return 1;
+    }
+    if work < table {
+        return 2;
+    }
+    0
+}
+
 /// The live spots, in place order and in rank order.
-#[derive(Default)]
+#[derive(Clone, Default)]
 pub struct Live {
     pub spots: BTreeMap<Key, u32>,
     by_rank: BTreeSet<(i32, i32)>,
@@ -54,19 +65,16 @@ impl Live {
 
     /// The number that the call gives with a table and a work area of these lengths, by the plain list alone: 1, 2, 9, 4, or 0, after which the list has changed.
     pub fn apply(&mut self, c: Change, table: usize, work: usize) -> u32 {
-        let blocks = table / BLOCK;
-        if table % BLOCK != 0 || !(FEWEST_BLOCKS..=MOST_BLOCKS).contains(&blocks) {
-            return 1;
-        }
-        if work < table {
-            return 2;
+        let early = by_lengths(table, work);
+        if early != 0 {
+            return early;
         }
         if !in_limits(c.key().0) {
             return 9;
         }
         match c {
             Change::Add(k, t) => {
-                if self.spots.len() >= SPOTS_A_BLOCK * (blocks - 1) && !self.spots.contains_key(&k) {
+                if self.spots.len() >= SPOTS_A_BLOCK * (table / BLOCK - 1) && !self.spots.contains_key(&k) {
                     return 4;
                 }
                 self.spots.insert(k, t);

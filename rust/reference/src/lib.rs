@@ -1,9 +1,10 @@
 //! The spot table's rules read plainly, apart from the proved library and without it: tables in many arrangements, soundness with its reasons ([`sound`], [`faults`]),
-//! what a Report and a Top within an allowance read, pressed tours, histories of changes, and a walk in plain Rust as a yardstick. For tests, benchmarks and explanations; nothing here is proved.
+//! what a Report and a Top within an allowance read, pressed tours, messages, histories of changes, and a walk in plain Rust as a yardstick. For tests, benchmarks and explanations; nothing here is proved.
 
 mod explain;
 pub mod histories;
 mod layout;
+pub mod message;
 pub mod plain;
 mod range;
 mod tables;

@@ -4,6 +4,7 @@ mod ask;
 mod change;
 mod info;
 mod look;
+mod send;
 mod tour;
 
 use crate::args::Command;
@@ -17,6 +18,8 @@ pub fn run(command: Command) -> Result<()> {
     match command {
         Command::New { card, blocks, force, wait } => change::new(&card, blocks, force, wait.time()),
         Command::Import { sheet, card, replace, wait } => change::import(&sheet, &card, replace, wait.time()),
+        Command::Send { old, new, output, force } => send::send(&old, &new, &output, force),
+        Command::Apply { card, changes, wait } => send::apply(&card, &changes, wait.time()),
         Command::Add { card, spot, track, wait } => change::add(&card, &spot, track, wait.time()),
         Command::Withdraw { card, spot, track, wait } => change::withdraw(&card, &spot, track, wait.time()),
         Command::Rebuild { card, wait } => change::rebuild(&card, wait.time()),

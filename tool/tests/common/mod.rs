@@ -77,6 +77,15 @@ impl Folder {
         self.run(&["import", "made.csv", name]).exit(0);
     }
 
+    /// The same, with the last eight of the spots added one by one: these wait in the card, where the others are laid out.
+    pub fn waiting_card(&self, name: &str, blocks: usize, spots: &[(i32, i32, u32)]) {
+        let (first, last) = spots.split_at(spots.len() - 8);
+        self.card(name, blocks, first);
+        for (place, rank, track) in last {
+            self.run(&["add", name, &place.to_string(), &rank.to_string(), &track.to_string()]).exit(0);
+        }
+    }
+
     pub fn left_behind(&self) -> Vec<String> {
         let names = fs::read_dir(self.dir.path()).unwrap();
         let names = names.map(|e| e.unwrap().file_name().into_string().unwrap());

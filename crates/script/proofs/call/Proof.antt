@@ -1,7 +1,7 @@
 -- `script::call` meets its contract, by that of the call which the number stands for.
 -- Assumes nothing.
 use borrow.Author.Needs.{needs}
-use Rattle.script.proofs.Cases.{Row, made-report, made-top, made-within, made-many, made-alone}
+use Rattle.script.proofs.Cases.{Row, made-report, made-top, made-within, made-many, made-apply, made-alone}
 use Rattle.script.proofs.call.Statement.{statement}
 use Rattle.script.proofs.call.Tie as tie
 
@@ -35,9 +35,9 @@ returns-3 c =
     let from = at-some .before .before .read323 in
     let at-if3 = at-some .before .before .before in
     let at-row = at-if3 .before .before .before in
-    let at-ranges = at-row .before .before .before .before .before .before .before .before .before in
-    made-many (row at-row) (at-ranges .before .before .args .ranges .now) _ _ _ _ _ _ _ (c .plain3 .ensures) (from .result) (n .result) (at-some .ranges-from .result) _ _ _
-    (λ i. at-ranges .shared-slice-known2 .given i .fits) (at-if3 .if3 .taken) (from .ensures .0) (n .ensures .0) (at-some .ranges-from .ensures) (c .before .before .before .before .before .before .before .report-batch .ensures)
+    let at-handed = at-row .before .before .before .before .before .before .before .before .before in
+    made-many (row at-row) (at-handed .before .before .args .handed .now) _ _ _ _ _ _ _ (c .plain3 .ensures) (from .result) (n .result) (at-some .ranges-from .result) _ _ _
+    (λ i. at-handed .shared-slice-known2 .given i .fits) (at-if3 .if3 .taken) (from .ensures .0) (n .ensures .0) (at-some .ranges-from .ensures) (c .before .before .before .before .before .before .before .report-batch .ensures)
 
 returns-4 : tie.Need-returns-4
 returns-4 c =
@@ -46,7 +46,14 @@ returns-4 c =
     made-within (row (at-if4 .before .before .before .before)) _ _ _ _ _ _ _ (at-fourth .read325 .result) _ _ (at-if4 .if4 .taken) (at-fourth .read325 .ensures .0) (c .before .before .before .before .say .ensures)
 
 returns-5 : tie.Need-returns-5
-returns-5 c = made-alone _ _ _ _ _ _ _ _ _ _ (c .plain4 .ensures) _ _ (c .before .before .before .before .before .call-alone .ensures)
+returns-5 c =
+    let at-if5 = c .before .before .before .before .before .before .before .before in
+    let at-row = at-if5 .before .before .before .before .before in
+    let at-handed = at-row .before .before .before .before .before .before .before .before .before in
+    made-apply (row at-row) (at-handed .before .before .args .handed .now) _ _ _ _ _ _ _ (c .plain4 .ensures) _ _ (λ i. at-handed .shared-slice-known2 .given i .fits) (at-if5 .if5 .taken) (c .before .before .before .before .before .apply-at .ensures)
+
+returns-6 : tie.Need-returns-6
+returns-6 c = made-alone _ _ _ _ _ _ _ _ _ _ (c .plain5 .ensures) _ _ (c .before .before .before .before .before .call-alone .ensures)
 
 pub call-spec : {M : Type 1} → statement M
 call-spec =
@@ -98,4 +105,9 @@ call-spec =
     (λ c κs. search needs)
     (λ c. search needs)
     (λ c. search needs)
-    returns-5)
+    returns-5
+    (λ c κs. search needs)
+    (λ c κs. search needs)
+    (λ c. search needs)
+    (λ c. search needs)
+    returns-6)

@@ -12,12 +12,12 @@ use Rattle.script.proofs.make_calls.Statement.{statement}
 use Rattle.script.proofs.make_calls.Tie as tie
 
 abbrev Inv-loop : tie.InvT-loop
-Inv-loop script n ranges table₀ scratch₀ read-map₀ counts₀ log₀ part i₀ at₀ table scratch read-map counts log i at =
+Inv-loop script n handed table₀ scratch₀ read-map₀ counts₀ log₀ part i₀ at₀ table scratch read-map counts log i at =
     (i ≤ n) × (at ≡ part * i) × (length log ≡ length log₀)
-    × Going script ranges (runLengths table₀ scratch₀ read-map₀ counts₀ part) (runState table₀ scratch₀ read-map₀ counts₀ log₀) table scratch read-map counts log i at
+    × Going script handed (runLengths table₀ scratch₀ read-map₀ counts₀ part) (runState table₀ scratch₀ read-map₀ counts₀ log₀) table scratch read-map counts log i at
 
 abbrev μ-loop : tie.MeasureT-loop
-μ-loop script n ranges table₀ scratch₀ read-map₀ counts₀ log₀ part i₀ at₀ table scratch read-map counts log i at = n - i
+μ-loop script n handed table₀ scratch₀ read-map₀ counts₀ log₀ part i₀ at₀ table scratch read-map counts log i at = n - i
 
 -- the part of this turn is within the log
 room : (c : tie.In-loop Inv-loop μ-loop)

@@ -11,7 +11,7 @@ read-batch-requires : tie.Need-read-batch-requires
 read-batch-requires c κs =
     let first = c .before .smaller in
     let a = c .before .before .before .args in
-    part-inside (a .ranges .now) (a .from) (a .n) (first .result) (c .smaller2 .result) (first .ensures) (c .smaller2 .ensures)
+    part-inside (a .handed .now) (a .from) (a .n) (first .result) (c .smaller2 .result) (first .ensures) (c .smaller2 .ensures)
 
 returns : tie.Need-returns
 returns c =
@@ -19,7 +19,7 @@ returns c =
     let some = c .before .smaller2 in
     let a = c .before .before .before .before .args in
     c .read-batch .ensures
-    ∙ ap batchOf (ranges-part (a .ranges .now) (a .from) (a .n) (first .result) (some .result) (first .ensures) (some .ensures))
+    ∙ ap batchOf (ranges-part (a .handed .now) (a .from) (a .n) (first .result) (some .result) (first .ensures) (some .ensures))
 
 pub ranges-from-spec : {M : Type 1} → statement M
 ranges-from-spec = tie.close (tie.spec

@@ -1,7 +1,6 @@
 -- `script::turn` meets its contract: the step on what lies behind the first 12 bytes, and its answer with the ceiling in them.
 -- Assumes nothing.
 use mathlib.Core.Path.{ap, _∙_}
-use mathlib.Core.List.{List}
 use Prim.Native.Nat.{ℕ}
 use native.Mathlib.Omega.{arith}
 use borrow.Author.Needs.{needs}
@@ -9,7 +8,7 @@ use mir.Syntax.{w32}
 use mir.ValLaws.{toZ-ofZ}
 use Rattle.octets.specs.Bytes.{putBe}
 use Rattle.demands.specs.Model.{complement}
-use Rattle.script.specs.Script.{allRanges, stepAt}
+use Rattle.script.specs.Script.{stepAt}
 use Rattle.script.proofs.Turns.{turned, put-long}
 use Rattle.script.proofs.turn.Statement.{statement}
 use Rattle.script.proofs.turn.Tie as tie
@@ -36,7 +35,7 @@ returns c =
     let last = p .step .last .1 .1 .1 .1 .1 .1 .1 in
     let kept = p .step .kept .1 .1 .1 .1 .1 .1 .1 in
     let said = p .step .result in
-    turned (stepAt (allRanges (q .args .ranges .now)) (q .args .script .now) (q .args .at)) _ _ _ _ _ said _ _ _ _ (last .0) (w .write32 .last .0) (v .last .0) _ (q .pre .1) (kept .0) (p .step .ensures) (w .write32 .ensures)
+    turned (stepAt (q .args .handed .now) (q .args .script .now) (q .args .at)) _ _ _ _ _ said _ _ _ _ (last .0) (w .write32 .last .0) (v .last .0) _ (q .pre .1) (kept .0) (p .step .ensures) (w .write32 .ensures)
     (v .ensures)
     (c .before .before .write323 .ensures
     ∙ ap (λ (n : ℕ). putBe 4 (v .last .0) 8 n)

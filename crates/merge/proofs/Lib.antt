@@ -1,0 +1,5 @@
+pub mod Steps
+pub mod Cutting
+pub mod Moving
+pub mod Writing
+pub mod Going

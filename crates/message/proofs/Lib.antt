@@ -1,0 +1,9 @@
+pub mod Bytes
+pub mod Answers
+pub mod Cursor
+pub mod Judging
+pub mod Writing
+pub mod Posts
+pub mod Spelling
+pub mod Undo
+pub mod Effects

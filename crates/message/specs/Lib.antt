@@ -1,0 +1,5 @@
+pub mod Changes
+pub mod Messages
+pub mod Effects
+pub mod Codes
+pub mod Promises

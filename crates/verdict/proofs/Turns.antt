@@ -1,0 +1,260 @@
+-- The turns of stepping through a message.
+-- Assumes nothing.
+use mathlib.Core.Path.{_≡_, refl, sym, ap, ap₂, subst, _∙_}
+use mathlib.Core.Logic.{_≢_}
+use Prim.Native.Nat.{ℕ, zero, suc, _+_, _-_, _≤_, _<_}
+use mathlib.Core.Bool.{Bool, true, false, cond, not, _&&_}
+use mathlib.Core.List.{List, [], _∷_, _++_, append-assoc, append-nil}
+use mathlib.Core.Option.{Option}
+use lib.ListN.{length, take}
+use lib.Dec.{leb, eqb}
+use native.Mathlib.Omega.{arith}
+use Rattle.octets.specs.Lists.{has}
+use Rattle.octets.specs.Bytes.{be}
+use Rattle.octets.proofs.Order.{same-or-not}
+use Rattle.octets.proofs.Tests.{and-left, and-right}
+use mathlib.Core.Logic.{⊎-elim}
+use Rattle.spot.specs.Spots.{find}
+use Rattle.spot.specs.Keys.{limited}
+use Rattle.spot.specs.declared.Spot.{Spot}
+use Rattle.block.specs.declared.Answer.{Answer}
+use Rattle.block.specs.Answers.{answer}
+use Rattle.block.specs.Table.{tableSized, capacity}
+use Rattle.block.proofs.Making.{blocks-most}
+use Rattle.tree.specs.Sound.{sound}
+use Rattle.tree.specs.Walk.{liveSpots, liveCount}
+use Rattle.tree.proofs.Tables.{live-rises}
+use Rattle.lookup.specs.Answers.{lookedUp}
+use Rattle.message.specs.declared.Change.{Change}
+use Rattle.message.specs.Changes.{changeKey, changeSize, readChanges, isThere, changesOf, allLimited}
+use Rattle.message.specs.Codes.{changeAt, ChangeThere}
+use Rattle.message.specs.Messages.{readMessage, messageAnswer}
+use Rattle.message.specs.Effects.{afterChange, afterAll, turnsDown, appliedFrom, appliedAnswer}
+use Rattle.message.proofs.Effects.{after-rises, after-append, applied-turned, applied-on}
+use Rattle.message.proofs.Cursor.{NextThere, next-there, count-there, message-there, message-count, accepted-message}
+use Rattle.rows.specs.Rows.{rowOf, rowKey, rowValue, rowAt, rowFits, putRow, rowsAfter}
+use Rattle.rows.specs.Lining.{Rows, RowPut}
+use Rattle.rows.proofs.Merged.{row-key, row-fits, rows-more, row-after}
+use Rattle.verdict.specs.declared.There.{There}
+use Rattle.verdict.specs.declared.There.the-variants.{Yes, No, Unknown}
+use Rattle.verdict.specs.declared.Reckoned.{Reckoned}
+use Rattle.verdict.specs.Verdicts.{next, oneMore, oneLess, nextLive, thereAfter, refusedAt, Tried}
+use Rattle.verdict.specs.Nexts.{reckonedFor}
+use Rattle.verdict.proofs.Steps.{refused-four, refused-other}
+use Rattle.verdict.proofs.Stepping.{thereIn, there-is, row-adds, stepped, step-is}
+
+-- ---- one number
+
+pub most-few : (n : ℕ) → tableSized n ≡ true → capacity n ≤ 65520
+most-few n h = omega (arith, blocks-most n h)
+
+pub next-is : {most : ℕ} {adds : Bool} {y : There} {r : Reckoned} (t : List ℕ) (rs : List (List ℕ)) (x : List ℕ) (live : ℕ) → r ≡ nextLive most adds y live
+    → most ≡ capacity (length t) → adds ≡ not (eqb (rowValue x) 0) → y ≡ thereAfter (rowAt (rowKey x) rs) (lookedUp t (rowKey x))
+    → r ≡ reckonedFor t rs x live
+unfolding reckonedFor
+next-is {most} {adds} {y} {r} t rs x live e f g h =
+    e ∙ ap₂ (λ n b. nextLive n b y live) f g ∙ ap (λ (z : There). nextLive (capacity (length t)) (not (eqb (rowValue x) 0)) z live) h
+
+more-number : (most live : ℕ) → has (oneMore most live .number) (0 ∷ 3 ∷ 4 ∷ []) ≡ true
+unfolding oneMore
+more-number most live = go (leb most live)
+  where
+    go : (b : Bool) → has (cond b (next 4 live) (next 0 (suc live)) .number) (0 ∷ 3 ∷ 4 ∷ []) ≡ true
+    go true = refl
+    go false = refl
+
+less-number : (live : ℕ) → has (oneLess live .number) (0 ∷ 3 ∷ 4 ∷ []) ≡ true
+unfolding oneLess
+less-number zero = refl
+less-number (suc n) = refl
+
+next-number : (most : ℕ) (adds : Bool) (x : There) (live : ℕ) → has (nextLive most adds x live .number) (0 ∷ 3 ∷ 4 ∷ []) ≡ true
+next-number most adds Unknown live = refl
+next-number most true Yes live = refl
+next-number most false Yes live = less-number live
+next-number most true No live = more-number most live
+next-number most false No live = refl
+
+of-number : (t : List ℕ) (rs : List (List ℕ)) (x : List ℕ) (live : ℕ) → has (reckonedFor t rs x live .number) (0 ∷ 3 ∷ 4 ∷ []) ≡ true
+unfolding reckonedFor
+of-number t rs x live = next-number (capacity (length t)) (not (eqb (rowValue x) 0)) (thereAfter (rowAt (rowKey x) rs) (lookedUp t (rowKey x))) live
+
+pub refused-number : (n i : ℕ) → refusedAt n i .number ≡ n
+refused-number n i =
+    ⊎-elim (λ (e : n ≡ 4). ap (λ (a : Answer). a .number) (sym (refused-four n i e)) ∙ sym e)
+    (λ (e : n ≡ 4 → ⊥). ap (λ (a : Answer). a .number) (sym (refused-other n i e))) (same-or-not n 4)
+
+pub refused-detail : (n i : ℕ) → (n ≡ 4 → ⊥) → refusedAt n i .detail ≡ 0
+refused-detail n i e = ap (λ (a : Answer). a .detail) (sym (refused-other n i e))
+
+-- ---- one turn on a sound table
+
+module _ (t : List ℕ) (s : sound t ≡ true) (past : List Change) where
+  abbrev ss : List Spot
+  ss = afterAll past (liveSpots t)
+
+  of-is : (c : Change) → reckonedFor t (rowsAfter [] past) (rowOf c) (length ss) ≡ stepped (length t) c ss
+  unfolding reckonedFor
+  of-is c =
+      let there : thereAfter (rowAt (rowKey (rowOf c)) (rowsAfter [] past)) (lookedUp t (rowKey (rowOf c))) ≡ thereIn (find (changeKey c) ss) =
+      ap (λ (k : ℕ). thereAfter (rowAt k (rowsAfter [] past)) (lookedUp t k)) (row-key c)
+      ∙ there-is t s (changeKey c) (rowAt (changeKey c) (rowsAfter [] past)) ss (row-after (changeKey c) past (liveSpots t)) in
+      ap₂ (λ b y. nextLive (capacity (length t)) b y (length ss)) (row-adds c) there ∙ step-is (length t) ss (after-rises past (liveSpots t) (live-rises t s)) c
+
+-- a change is turned down, or leaves so many
+record Stepped (bytes : ℕ) (c : Change) (ss : List Spot) (y : Reckoned) : Type 0 where
+  refused : y .number ≢ 0 → (turnsDown bytes c ss ≡ true) × (y .number ≡ 4)
+  accepted : y .number ≡ 0 → (turnsDown bytes c ss ≡ false) × (y .live ≡ length (afterChange c ss))
+
+stepped-by : (bytes : ℕ) (c : Change) (ss : List Spot) (y : Reckoned) → y ≡ stepped bytes c ss → Stepped bytes c ss y
+stepped-by bytes c ss y e = go (turnsDown bytes c ss) refl e
+  where
+    go : (b : Bool) → turnsDown bytes c ss ≡ b → y ≡ cond b (next 4 (length ss)) (next 0 (length (afterChange c ss))) → Stepped bytes c ss y
+    go true g h =
+        let n : y .number ≡ 4 = ap (λ (z : Reckoned). z .number) h in
+        record { refused = λ z. (g, n); accepted = λ z. absurd (omega (arith, n, z)) }
+    go false g h = record { refused = λ z. absurd (z (ap (λ (z : Reckoned). z .number) h)); accepted = λ z. (g, ap (λ (z : Reckoned). z .live) h) }
+
+-- ---- the turns
+
+empty-by : {A : Type 0} (xs : List A) → length xs ≡ 0 → xs ≡ []
+empty-by [] e = refl
+empty-by (x ∷ xs) e = absurd (omega (arith, e))
+
+module _ (t m : List ℕ) (h : List (List ℕ)) (live : ℕ) where
+  -- i of n changes are done: these are the rows, and so many spots are live
+  pub record Turn (n : ℕ) (k : List (List ℕ)) (spots r at i : ℕ) : Type 0 where
+    pub few : i ≤ n
+    pub long : n ≡ length (changesOf (readMessage m))
+    pub past : List Change
+    pub there : isThere (readChanges 0 (n - i) m at) ≡ true
+    pub limits : allLimited (changesOf (readChanges 0 (n - i) m at)) ≡ true
+    pub whole : changesOf (readMessage m) ≡ past ++ changesOf (readChanges 0 (n - i) m at)
+    pub is : take r k ≡ rowsAfter [] past
+    pub rows : Rows k r
+    pub count : r ≤ i
+    pub sized : length k ≡ length h
+    pub counts : sound t ≡ true → live ≡ liveCount t → spots ≡ length (afterAll past (liveSpots t))
+    pub judged : sound t ≡ true → live ≡ liveCount t
+        → appliedAnswer (length t) (changesOf (readMessage m)) (liveSpots t) ≡ appliedFrom (length t) i (changesOf (readChanges 0 (n - i) m at)) (afterAll past (liveSpots t))
+
+  pub turn-start : {n : ℕ} → messageAnswer m ≡ answer 0 0 → n ≡ length (changesOf (readMessage m)) → Turn n h live 0 7 0
+  unfolding liveCount
+  turn-start {n} a e =
+      let ok = accepted-message m a in
+      let x = message-there m (ok .0) in
+      let same : be 2 m 5 ≡ n - 0 = omega (arith, e, message-count m (ok .0)) in
+      let is : readMessage m ≡ readChanges 0 (n - 0) m 7 = x .is ∙ ap (λ (j : ℕ). readChanges 0 j m 7) same in
+      record {
+        few = omega arith;
+        long = e;
+        past = [];
+        there = ap isThere (sym is) ∙ ok .0;
+        limits = ap (λ (o : Option (List Change)). allLimited (changesOf o)) (sym is) ∙ ok .1;
+        whole = ap changesOf is;
+        is = refl;
+        rows = record { inside = omega arith; rises = refl; fit = refl };
+        count = omega arith;
+        sized = refl;
+        counts = λ s k. k;
+        judged = λ s k. ap (λ (o : Option (List Change)). appliedFrom (length t) 0 (changesOf o) (liveSpots t)) is;
+      }
+
+module _ {t m : List ℕ} {h : List (List ℕ)} {live : ℕ} where
+  module _ {n : ℕ} {k : List (List ℕ)} {spots r at i : ℕ} (v : Turn t m h live n k spots r at i) (l : i < n) where
+    abbrev here : Change
+    here = changeAt m at
+
+    abbrev rest : List Change
+    rest = changesOf (readChanges 0 (n - suc i) m (at + changeSize 0 (changeAt m at)))
+
+    one-less : n - i ≡ suc (n - suc i)
+    one-less = omega arith
+
+    pub turn-next : NextThere 0 (n - suc i) m at
+    turn-next = next-there 0 (n - suc i) m at (subst (λ (j : ℕ). isThere (readChanges 0 j m at) ≡ true) one-less (v .there))
+
+    split : changesOf (readChanges 0 (n - i) m at) ≡ here ∷ rest
+    split = ap (λ (j : ℕ). changesOf (readChanges 0 j m at)) one-less ∙ turn-next .cons
+
+    all-limited : limited (changeKey here) && allLimited rest ≡ true
+    all-limited = ap allLimited (sym split) ∙ v .limits
+
+    pub turn-limited : limited (changeKey here) ≡ true
+    turn-limited = and-left (limited (changeKey here)) (allLimited rest) all-limited
+
+    pub turn-change : ChangeThere m at
+    turn-change = record { inside = turn-next .nine; room = turn-next .room; limits = ap limited (sym (turn-next .keyed)) ∙ turn-limited }
+
+    pub turn-fits : (x : List ℕ) → x ≡ rowOf (changeAt m at) → rowValue x ≤ 4294967296 → rowFits x ≡ true
+    turn-fits x e w = row-fits x (ap (λ (y : List ℕ). limited (rowKey y)) e ∙ ap limited (row-key here) ∙ turn-limited) w
+
+    abbrev spotsNow : List Spot
+    spotsNow = afterAll (v .past) (liveSpots t)
+
+    module _ {x : List ℕ} {y : Reckoned} (ex : x ≡ rowOf (changeAt m at)) (e : y ≡ reckonedFor t (take r k) x spots) where
+      next-sound : sound t ≡ true → live ≡ liveCount t → Stepped (length t) here spotsNow y
+      next-sound s w =
+          stepped-by (length t) here spotsNow y
+          (e ∙ ap (λ (z : List ℕ). reckonedFor t (take r k) z spots) ex ∙ ap₂ (λ (rs : List (List ℕ)) (j : ℕ). reckonedFor t rs (rowOf here) j) (v .is) (v .counts s w) ∙ of-is t s (v .past) here)
+
+      judged-here : sound t ≡ true → live ≡ liveCount t → appliedAnswer (length t) (changesOf (readMessage m)) (liveSpots t) ≡ appliedFrom (length t) i (here ∷ rest) spotsNow
+      judged-here s w = v .judged s w ∙ ap (λ (cs : List Change). appliedFrom (length t) i cs spotsNow) split
+
+      pub turn-stops : {a : Answer} {k′ : List (List ℕ)} {so : ℕ} → y .number ≢ 0 → a ≡ refusedAt (y .number) i → Tried (live ≡ liveCount t) t m h k′ (record { answer = a; rows = so })
+      turn-stops {a} {k′} {so} z f =
+          let num : a .number ≡ y .number = ap (λ (b : Answer). b .number) f ∙ refused-number (y .number) i in
+          record {
+            numbers =
+                ap (λ (j : ℕ). has j (0 ∷ 3 ∷ 4 ∷ [])) (num ∙ ap (λ (w : Reckoned). w .number) e) ∙ of-number t (take r k) x spots;
+            detail = λ w. ap (λ (b : Answer). b .detail) f ∙ refused-detail (y .number) i (λ q. w (num ∙ q));
+            position = λ w.
+                let at : a .detail ≡ i = ap (λ (b : Answer). b .detail) (f ∙ sym (refused-four (y .number) i (sym num ∙ w))) in
+                omega (arith, at, v .long, l);
+            lined = λ w. absurd (z (sym num ∙ w));
+            judged = λ s w.
+                let g = next-sound s w .refused z in
+                f ∙ ap (λ (j : ℕ). refusedAt j i) (g .1) ∙ sym (refused-four 4 i refl) ∙ sym (judged-here s w ∙ applied-turned (length t) i here rest spotsNow (g .0));
+          }
+
+      pub turn-goes : {k′ : List (List ℕ)} {r′ at′ i′ : ℕ} → y .number ≡ 0 → RowPut k k′ r x r′ → at′ ≡ at + changeSize 0 (changeAt m at) → i′ ≡ suc i
+          → Turn t m h live n k′ (y .live) r′ at′ i′
+      turn-goes {k′} {r′} {at′} {i′} z p ea ei =
+          let same : readChanges 0 (n - i′) m at′ ≡ readChanges 0 (n - suc i) m (at + changeSize 0 here) = ap₂ (λ j q. readChanges 0 (n - j) m q) ei ea in
+          record {
+            few = omega arith;
+            long = v .long;
+            past = v .past ++ (here ∷ []);
+            there = ap isThere same ∙ turn-next .rest;
+            limits = ap (λ (o : Option (List Change)). allLimited (changesOf o)) same ∙ and-right (limited (changeKey here)) (allLimited rest) all-limited;
+            whole = v .whole ∙ ap (λ (cs : List Change). v .past ++ cs) split ∙ sym (append-assoc (v .past) (here ∷ []) rest) ∙ ap (λ (o : Option (List Change)). (v .past ++ (here ∷ [])) ++ changesOf o) (sym same);
+            is = p .is ∙ ap₂ putRow ex (v .is) ∙ sym (rows-more [] (v .past) here);
+            rows = p .rows;
+            count = omega (arith, p .count, v .count);
+            sized = p .sized ∙ v .sized;
+            counts = λ s w. next-sound s w .accepted z .1 ∙ ap length (sym (after-append (v .past) here (liveSpots t)));
+            judged = λ s w.
+                judged-here s w ∙ applied-on (length t) i here rest spotsNow (next-sound s w .accepted z .0)
+                ∙ ap₂ (λ (j : ℕ) (us : List Spot). appliedFrom (length t) j rest us) (sym ei) (sym (after-append (v .past) here (liveSpots t)))
+                ∙ ap (λ (o : Option (List Change)). appliedFrom (length t) i′ (changesOf o) (afterAll (v .past ++ (here ∷ [])) (liveSpots t))) (sym same);
+          }
+
+  module _ {n : ℕ} {k : List (List ℕ)} {spots r at i : ℕ} (v : Turn t m h live n k spots r at i) (l : n ≤ i) where
+    nothing : changesOf (readChanges 0 (n - i) m at) ≡ []
+    nothing =
+        let z : n - i ≡ 0 = omega arith in empty-by (changesOf (readChanges 0 (n - i) m at)) (count-there 0 (n - i) m at (v .there) ∙ z)
+
+    pub turn-ends : {a : Answer} → a ≡ refusedAt 0 0 → Tried (live ≡ liveCount t) t m h k (record { answer = a; rows = r })
+    turn-ends {a} f =
+        let zero-is : a ≡ answer 0 0 = f ∙ sym (refused-other 0 0 (λ e. omega (arith, e))) in
+        record {
+          numbers = ap (λ (b : Answer). has (b .number) (0 ∷ 3 ∷ 4 ∷ [])) zero-is;
+          detail = λ w. ap (λ (b : Answer). b .detail) zero-is;
+          position = λ w. let no : ⊥ = omega (arith, ap (λ (b : Answer). b .number) zero-is, w) in absurd no;
+          lined = λ w. record {
+            is = v .is ∙ ap (rowsAfter []) (sym (v .whole ∙ ap (λ (cs : List Change). v .past ++ cs) nothing ∙ append-nil (v .past)));
+            rows = v .rows;
+            sized = v .sized;
+          };
+          judged = λ s w. zero-is ∙ sym (v .judged s w ∙ ap (λ (cs : List Change). appliedFrom (length t) i cs (afterAll (v .past) (liveSpots t))) nothing);
+        }
