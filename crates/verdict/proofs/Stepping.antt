@@ -31,7 +31,7 @@ use Rattle.rows.proofs.Merged.{leaves}
 use Rattle.verdict.specs.declared.There.{There}
 use Rattle.verdict.specs.declared.There.the-variants.{Yes, No}
 use Rattle.verdict.specs.declared.Reckoned.{Reckoned}
-use Rattle.verdict.specs.Verdicts.{thereBy, thereAs, thereAfter, next, oneMore, nextLive}
+use Rattle.verdict.specs.Verdicts.{thereBy, thereAs, thereAfter, reckoned, oneMore, nextLive}
 use Rattle.verdict.proofs.Steps.{less-one}
 
 -- what is found of a key says whether it is there
@@ -77,23 +77,23 @@ row-adds (Withdraw k) = refl
 
 -- what a change comes to
 abbrev pub stepped : ℕ → Change → List Spot → Reckoned
-stepped bytes c ss = cond (turnsDown bytes c ss) (next 4 (length ss)) (next 0 (length (afterChange c ss)))
+stepped bytes c ss = cond (turnsDown bytes c ss) (reckoned 4 (length ss)) (reckoned 0 (length (afterChange c ss)))
 
 module _ (bytes : ℕ) (ss : List Spot) (up : rising (keys ss) ≡ true) where
-  add-there : (s : Spot) → has (s .key) (keys ss) ≡ true → next 0 (length ss) ≡ stepped bytes (Add s) ss
+  add-there : (s : Spot) → has (s .key) (keys ss) ≡ true → reckoned 0 (length ss) ≡ stepped bytes (Add s) ss
   add-there s h = go (leb (capacity bytes) (length ss)) (turns-add bytes s ss ∙ ap (λ (b : Bool). leb (capacity bytes) (length ss) && not b) h)
     where
-      go : (b : Bool) → turnsDown bytes (Add s) ss ≡ b && false → next 0 (length ss) ≡ stepped bytes (Add s) ss
-      go true e = rw e (ap (next 0) (sym (length-add-there s ss up h)))
-      go false e = rw e (ap (next 0) (sym (length-add-there s ss up h)))
+      go : (b : Bool) → turnsDown bytes (Add s) ss ≡ b && false → reckoned 0 (length ss) ≡ stepped bytes (Add s) ss
+      go true e = rw e (ap (reckoned 0) (sym (length-add-there s ss up h)))
+      go false e = rw e (ap (reckoned 0) (sym (length-add-there s ss up h)))
 
   add-new : (s : Spot) → has (s .key) (keys ss) ≡ false → oneMore (capacity bytes) (length ss) ≡ stepped bytes (Add s) ss
   unfolding oneMore
   add-new s h = go (leb (capacity bytes) (length ss)) (turns-add bytes s ss ∙ ap (λ (b : Bool). leb (capacity bytes) (length ss) && not b) h)
     where
-      go : (b : Bool) → turnsDown bytes (Add s) ss ≡ b && true → cond b (next 4 (length ss)) (next 0 (suc (length ss))) ≡ stepped bytes (Add s) ss
+      go : (b : Bool) → turnsDown bytes (Add s) ss ≡ b && true → cond b (reckoned 4 (length ss)) (reckoned 0 (suc (length ss))) ≡ stepped bytes (Add s) ss
       go true e = rw e refl
-      go false e = rw e (ap (next 0) (sym (length-add-absent s ss h)))
+      go false e = rw e (ap (reckoned 0) (sym (length-add-absent s ss h)))
 
   pub step-is : (c : Change) → nextLive (capacity bytes) (changeAdds c) (thereIn (find (changeKey c) ss)) (length ss) ≡ stepped bytes c ss
   step-is (Add s) = go (find (s .key) ss) refl
@@ -103,6 +103,6 @@ module _ (bytes : ℕ) (ss : List Spot) (up : rising (keys ss) ≡ true) where
       go none e = add-new s (has-none (s .key) ss e)
   step-is (Withdraw k) = rw (turns-withdraw bytes k ss) (go (find k ss) refl)
     where
-      go : (o : Option ℕ) → find k ss ≡ o → nextLive (capacity bytes) false (thereIn o) (length ss) ≡ next 0 (length (afterChange (Withdraw k) ss))
+      go : (o : Option ℕ) → find k ss ≡ o → nextLive (capacity bytes) false (thereIn o) (length ss) ≡ reckoned 0 (length (afterChange (Withdraw k) ss))
       go (some a) e = sym (less-one (length ss) (length (afterChange (Withdraw k) ss)) (length-withdraw-there k ss up (has-found k ss e)))
-      go none e = ap (next 0) (sym (length-withdraw-absent k ss (has-none k ss e)))
+      go none e = ap (reckoned 0) (sym (length-withdraw-absent k ss (has-none k ss e)))

@@ -9,22 +9,22 @@ use Rattle.block.specs.Answers.{answer}
 use Rattle.verdict.specs.declared.There.{There}
 use Rattle.verdict.specs.declared.There.the-variants.{Yes, No, Unknown}
 use Rattle.verdict.specs.declared.Reckoned.{Reckoned}
-use Rattle.verdict.specs.Verdicts.{next, oneMore, oneLess, nextLive, refusedAt, thereAs}
+use Rattle.verdict.specs.Verdicts.{reckoned, oneMore, oneLess, nextLive, refusedAt, thereAs}
 
-pub more-full : (most live : ℕ) → most ≤ live → next 4 live ≡ oneMore most live
+pub more-full : (most live : ℕ) → most ≤ live → reckoned 4 live ≡ oneMore most live
 unfolding oneMore
 more-full most live h = rw (le-leb most live h)
 
-pub more-room : (most live n : ℕ) → live < most → n ≡ suc live → next 0 n ≡ oneMore most live
+pub more-room : (most live n : ℕ) → live < most → n ≡ suc live → reckoned 0 n ≡ oneMore most live
 unfolding oneMore
-more-room most live n h e = rw (lt-leb most live h) (ap (next 0) e)
+more-room most live n h e = rw (lt-leb most live h) (ap (reckoned 0) e)
 
-pub less-none : (live : ℕ) → live ≡ 0 → next 3 0 ≡ oneLess live
+pub less-none : (live : ℕ) → live ≡ 0 → reckoned 3 0 ≡ oneLess live
 unfolding oneLess
 less-none zero e = refl
 less-none (suc n) e = absurd (omega (arith, e))
 
-pub less-one : (live n : ℕ) → live ≡ suc n → next 0 n ≡ oneLess live
+pub less-one : (live n : ℕ) → live ≡ suc n → reckoned 0 n ≡ oneLess live
 unfolding oneLess
 less-one live n e = ap oneLess (sym e)
 
@@ -45,7 +45,7 @@ module _ (most : ℕ) {adds : Bool} {x : There} (live : ℕ) where
   by : {b : Bool} {y : There} → x ≡ y → adds ≡ b → nextLive most b y live ≡ nextLive most adds x live
   by e f = sym (ap₂ (λ b y. nextLive most b y live) f e)
 
-  pub add-there : x ≡ Yes → adds ≡ true → next 0 live ≡ nextLive most adds x live
+  pub add-there : x ≡ Yes → adds ≡ true → reckoned 0 live ≡ nextLive most adds x live
   add-there e f = by e f
 
   pub take-there : {r : Reckoned} → x ≡ Yes → adds ≡ false → r ≡ oneLess live → r ≡ nextLive most adds x live
@@ -54,8 +54,8 @@ module _ (most : ℕ) {adds : Bool} {x : There} (live : ℕ) where
   pub add-new : {r : Reckoned} → x ≡ No → adds ≡ true → r ≡ oneMore most live → r ≡ nextLive most adds x live
   add-new e f g = g ∙ by e f
 
-  pub take-none : x ≡ No → adds ≡ false → next 0 live ≡ nextLive most adds x live
+  pub take-none : x ≡ No → adds ≡ false → reckoned 0 live ≡ nextLive most adds x live
   take-none e f = by e f
 
-pub not-known : (most : ℕ) (adds : Bool) {x : There} (live : ℕ) → x ≡ Unknown → next 3 live ≡ nextLive most adds x live
+pub not-known : (most : ℕ) (adds : Bool) {x : There} (live : ℕ) → x ≡ Unknown → reckoned 3 live ≡ nextLive most adds x live
 not-known most adds live e = ap (λ y. nextLive most adds y live) (sym e)

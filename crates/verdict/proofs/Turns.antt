@@ -31,15 +31,14 @@ use Rattle.message.specs.Codes.{changeAt, ChangeThere}
 use Rattle.message.specs.Messages.{readMessage, messageAnswer}
 use Rattle.message.specs.Effects.{afterChange, afterAll, turnsDown, appliedFrom, appliedAnswer}
 use Rattle.message.proofs.Effects.{after-rises, after-append, applied-turned, applied-on}
-use Rattle.message.proofs.Cursor.{NextThere, next-there, count-there, message-there, message-count, accepted-message}
+use Rattle.message.proofs.Cursor.{NextThere, next-there, left-none, message-there, message-count, accepted-message}
 use Rattle.rows.specs.Rows.{rowOf, rowKey, rowValue, rowAt, rowFits, putRow, rowsAfter}
 use Rattle.rows.specs.Lining.{Rows, RowPut}
 use Rattle.rows.proofs.Merged.{row-key, row-fits, rows-more, row-after}
 use Rattle.verdict.specs.declared.There.{There}
 use Rattle.verdict.specs.declared.There.the-variants.{Yes, No, Unknown}
 use Rattle.verdict.specs.declared.Reckoned.{Reckoned}
-use Rattle.verdict.specs.Verdicts.{next, oneMore, oneLess, nextLive, thereAfter, refusedAt, Tried}
-use Rattle.verdict.specs.Nexts.{reckonedFor}
+use Rattle.verdict.specs.Verdicts.{reckonedFor, reckoned, oneMore, oneLess, nextLive, thereAfter, refusedAt, Tried}
 use Rattle.verdict.proofs.Steps.{refused-four, refused-other}
 use Rattle.verdict.proofs.Stepping.{thereIn, there-is, row-adds, stepped, step-is}
 
@@ -59,7 +58,7 @@ more-number : (most live : ℕ) → has (oneMore most live .number) (0 ∷ 3 ∷
 unfolding oneMore
 more-number most live = go (leb most live)
   where
-    go : (b : Bool) → has (cond b (next 4 live) (next 0 (suc live)) .number) (0 ∷ 3 ∷ 4 ∷ []) ≡ true
+    go : (b : Bool) → has (cond b (reckoned 4 live) (reckoned 0 (suc live)) .number) (0 ∷ 3 ∷ 4 ∷ []) ≡ true
     go true = refl
     go false = refl
 
@@ -109,17 +108,13 @@ record Stepped (bytes : ℕ) (c : Change) (ss : List Spot) (y : Reckoned) : Type
 stepped-by : (bytes : ℕ) (c : Change) (ss : List Spot) (y : Reckoned) → y ≡ stepped bytes c ss → Stepped bytes c ss y
 stepped-by bytes c ss y e = go (turnsDown bytes c ss) refl e
   where
-    go : (b : Bool) → turnsDown bytes c ss ≡ b → y ≡ cond b (next 4 (length ss)) (next 0 (length (afterChange c ss))) → Stepped bytes c ss y
+    go : (b : Bool) → turnsDown bytes c ss ≡ b → y ≡ cond b (reckoned 4 (length ss)) (reckoned 0 (length (afterChange c ss))) → Stepped bytes c ss y
     go true g h =
         let n : y .number ≡ 4 = ap (λ (z : Reckoned). z .number) h in
         record { refused = λ z. (g, n); accepted = λ z. absurd (omega (arith, n, z)) }
     go false g h = record { refused = λ z. absurd (z (ap (λ (z : Reckoned). z .number) h)); accepted = λ z. (g, ap (λ (z : Reckoned). z .live) h) }
 
 -- ---- the turns
-
-empty-by : {A : Type 0} (xs : List A) → length xs ≡ 0 → xs ≡ []
-empty-by [] e = refl
-empty-by (x ∷ xs) e = absurd (omega (arith, e))
 
 module _ (t m : List ℕ) (h : List (List ℕ)) (live : ℕ) where
   -- i of n changes are done: these are the rows, and so many spots are live
@@ -241,8 +236,7 @@ module _ {t m : List ℕ} {h : List (List ℕ)} {live : ℕ} where
 
   module _ {n : ℕ} {k : List (List ℕ)} {spots r at i : ℕ} (v : Turn t m h live n k spots r at i) (l : n ≤ i) where
     nothing : changesOf (readChanges 0 (n - i) m at) ≡ []
-    nothing =
-        let z : n - i ≡ 0 = omega arith in empty-by (changesOf (readChanges 0 (n - i) m at)) (count-there 0 (n - i) m at (v .there) ∙ z)
+    nothing = left-none 0 n m at i l
 
     pub turn-ends : {a : Answer} → a ≡ refusedAt 0 0 → Tried (live ≡ liveCount t) t m h k (record { answer = a; rows = r })
     turn-ends {a} f =

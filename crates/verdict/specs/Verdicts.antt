@@ -3,7 +3,7 @@
 use mathlib.Core.Path.{_≡_}
 use mathlib.Core.Logic.{_≢_}
 use Prim.Native.Nat.{ℕ, zero, suc, _≤_, _<_}
-use mathlib.Core.Bool.{Bool, true, cond}
+use mathlib.Core.Bool.{Bool, true, cond, not}
 use mathlib.Core.List.{List, [], _∷_}
 use mathlib.Core.Option.{Option, none, some}
 use lib.ListN.{length}
@@ -11,16 +11,18 @@ use lib.Dec.{leb, eqb}
 use Rattle.octets.specs.Lists.{has}
 use Rattle.block.specs.declared.Answer.{Answer}
 use Rattle.block.specs.Answers.{answer}
-use Rattle.block.specs.Table.{tableSized}
+use Rattle.block.specs.Table.{tableSized, capacity}
 use Rattle.block.specs.Header.{headOf}
 use Rattle.block.specs.HeaderRules.{headerOk}
 use Rattle.tree.specs.Sound.{sound}
 use Rattle.tree.specs.Walk.{liveSpots}
+use Rattle.lookup.specs.Answers.{lookedUp}
 use Rattle.lookup.specs.declared.Looked.{Looked}
 use Rattle.lookup.specs.declared.Looked.the-variants.{Live, Nothing, Broken}
 use Rattle.message.specs.Changes.{changesOf}
 use Rattle.message.specs.Messages.{readMessage, messageAnswer}
 use Rattle.message.specs.Effects.{appliedAnswer}
+use Rattle.rows.specs.Rows.{rowKey, rowValue, rowAt}
 use Rattle.rows.specs.Lining.{LinedUp}
 use Rattle.verdict.specs.declared.There.{There}
 use Rattle.verdict.specs.declared.There.the-variants.{Yes, No, Unknown}
@@ -43,23 +45,28 @@ abbrev pub thereAfter : Option ℕ → Looked → There
 thereAfter none l = thereBy l
 thereAfter (some v) l = thereAs v
 
-abbrev pub next : ℕ → ℕ → Reckoned
-next number live = record { number = number; live = live }
+-- a number, and how many spots are live
+abbrev pub reckoned : ℕ → ℕ → Reckoned
+reckoned number live = record { number = number; live = live }
 
 -- one live spot more, if there is room
 unfoldable pub oneMore : ℕ → ℕ → Reckoned
-oneMore most live = cond (leb most live) (next 4 live) (next 0 (suc live))
+oneMore most live = cond (leb most live) (reckoned 4 live) (reckoned 0 (suc live))
 
 -- one less; there is none to take away only where the table is unsound
 unfoldable pub oneLess : ℕ → Reckoned
-oneLess zero = next 3 0
-oneLess (suc live) = next 0 live
+oneLess zero = reckoned 3 0
+oneLess (suc live) = reckoned 0 live
 
 -- how many spots are live after a change that adds, or one that withdraws; 4 if it is turned down
 abbrev pub nextLive : ℕ → Bool → There → ℕ → Reckoned
-nextLive most adds Unknown live = next 3 live
-nextLive most adds Yes live = cond adds (next 0 live) (oneLess live)
-nextLive most adds No live = cond adds (oneMore most live) (next 0 live)
+nextLive most adds Unknown live = reckoned 3 live
+nextLive most adds Yes live = cond adds (reckoned 0 live) (oneLess live)
+nextLive most adds No live = cond adds (oneMore most live) (reckoned 0 live)
+
+-- the same after the change of row x, where the rows rs stand for the changes before
+unfoldable pub reckonedFor : List ℕ → List (List ℕ) → List ℕ → ℕ → Reckoned
+reckonedFor t rs x live = nextLive (capacity (length t)) (not (eqb (rowValue x) 0)) (thereAfter (rowAt (rowKey x) rs) (lookedUp t (rowKey x))) live
 
 -- the number n, with the position i if it is 4
 unfoldable pub refusedAt : ℕ → ℕ → Answer

@@ -8,8 +8,7 @@ ghost use Rattle.tree.specs.Walk.{liveCount};
 ghost use Rattle.lookup.specs.Answers.{lookedUp};
 ghost use Rattle.rows.specs.Rows.{rowAt};
 ghost use Rattle.rows.specs.Lining.{Rows};
-ghost use Rattle.verdict.specs.Verdicts.{thereBy, thereAs, thereAfter, oneMore, oneLess, nextLive, refusedAt, Triable, Tried, Always};
-ghost use Rattle.verdict.specs.Nexts.{reckonedFor};
+ghost use Rattle.verdict.specs.Verdicts.{thereBy, thereAs, thereAfter, oneMore, oneLess, nextLive, reckonedFor, refusedAt, Triable, Tried, Always};
 
 // Whether a spot is there. On an unsound table it may be unknown.
 pub enum There {
