@@ -24,7 +24,7 @@ use Rattle.carry.specs.Carrying.{CarriedOr}
 use Rattle.table.specs.Calls.{apply}
 use Rattle.table.specs.Answers.{withScratch, earlyNumber}
 use Rattle.table.specs.Updates.{scratchLeft, UpdatePost, ApplyPost}
-use Rattle.table.proofs.Answering.{number-argument}
+use Rattle.table.proofs.Answering.{number-short, number-lent, number-argument}
 use Rattle.table.proofs.Changes.{update-refused, update-short, update-lent}
 
 -- what a message alone decides is 0, 8 with detail 0, or 9 with a position
@@ -68,11 +68,27 @@ module _ (m t w : List ℕ) (r : Answer) where
   not-four : {n d : ℕ} → r ≡ answer n d → n ≢ 4 → r .number ≡ 4 → r .detail < length (changesOf (readMessage m))
   not-four e z h = absurd (z (sym (ap (λ (x : Answer). x .number) e) ∙ h))
 
+  -- a refusal before the table is read
+  early-post : earlyNumber (withScratch t w) (apply m) ≢ 0 → UpdatePost (apply m) due after t w r t w → (r .number ≡ 4 → r .detail < length (changesOf (readMessage m)))
+      → ApplyPost m t w r t w
+  early-post e u p =
+      record {
+        update = u;
+        position = p;
+        none = λ z. absurd (e z);
+        one = λ c h z. absurd (e z);
+        several = λ z. absurd (e z);
+        exact = λ s h. h;
+      }
+
   pub apply-short : tableSized (length t) ≡ false → r ≡ answer 1 0 → ApplyPost m t w r t w
-  apply-short e a = record { update = update-short (apply m) due after t w r e a; position = not-four a (λ x. omega arith); exact = λ s h. h }
+  apply-short e a =
+      early-post (λ z. omega (arith, number-short (withScratch t w) (apply m) e, z)) (update-short (apply m) due after t w r e a) (not-four a (λ x. omega arith))
 
   pub apply-lent : tableSized (length t) ≡ true → length w < length t → r ≡ answer 2 0 → ApplyPost m t w r t w
-  apply-lent e h a = record { update = update-lent (apply m) due after t w r e (lt-leb (length t) (length w) h) a; position = not-four a (λ x. omega arith); exact = λ s x. x }
+  apply-lent e h a =
+      let f = lt-leb (length t) (length w) h in
+      early-post (λ z. omega (arith, number-lent (withScratch t w) (apply m) e f, z)) (update-lent (apply m) due after t w r e f a) (not-four a (λ x. omega arith))
 
   module _ (l : Lent t w) where
     early : earlyNumber (withScratch t w) (apply m) ≡ messageAnswer m .number
@@ -81,7 +97,7 @@ module _ (m t w : List ℕ) (r : Answer) where
     -- refused by the message
     pub apply-refused : r ≡ messageAnswer m → r .number ≢ 0 → ApplyPost m t w r t w
     unfolding scratchLeft
-    apply-refused e z = record { update = go (alone-is m); position = placed (alone-is m); exact = λ s h. h }
+    apply-refused e z = early-post (λ x. z (ap (λ (a : Answer). a .number) e ∙ sym early ∙ x)) (go (alone-is m)) (placed (alone-is m))
       where
         number-so : {n d : ℕ} → messageAnswer m ≡ answer n d → messageAnswer m .number ≡ n
         number-so h = ap (λ (x : Answer). x .number) h
@@ -119,6 +135,9 @@ module _ (m t w : List ℕ) (r : Answer) where
                   liveAfter = c .liveAfter;
                 };
             position = c .position;
+            none = λ z. g .none;
+            one = λ x e z. let o = g .one (ap length e) in record { path = o .path x e; full = o .full x e };
+            several = λ z h. let o = g .several h in record { broken = o .broken; anew = o .anew; full = o .full };
             exact = c .exact;
           }
 

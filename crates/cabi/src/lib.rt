@@ -1,7 +1,7 @@
 // The calls for C and Rust: a slice is a pointer and a length, in elements; the answer is number · 2^32 + detail.
 ghost use mathlib.Core.Path.{_≡_};
 ghost use Prim.Native.Nat.{_+_, _*_};
-ghost use Rattle.table.specs.Queries.{ReportPost, ManyPost, TopPost, TopWithinPost, CountPost, CheckPost};
+ghost use Rattle.table.specs.Queries.{ReportPost, ManyPost, TopPost, TopWithinPost, CountPost, CheckPost, BlocksReadPost};
 ghost use Rattle.table.specs.Updates.{FormatPost, AddPost, WithdrawPost, RebuildPost, ApplyPost};
 ghost use Rattle.message.specs.Messages.{WritePost, ReadPost};
 ghost use Rattle.press.specs.Press.{PressPost};
@@ -138,6 +138,13 @@ pub extern "C" fn spot_top_within(
     ensures { λ r. ⌜ Packed r (λ a. TopWithinPost x1 x2 k allowance (now (table .entry)) (now (output .entry)) (now («read_map» .entry)) a (now (output .exit)) (now («read_map» .exit)) (now (ceiling .exit))) ⌝ }
 {
     pack(within::top_within(table, x1, x2, k, allowance, output, read_map, ceiling))
+}
+
+#[no_mangle]
+pub extern "C" fn spot_blocks_read(read_map: &[u8]) -> u64
+    ensures { λ r. ⌜ Packed r (BlocksReadPost (now («read_map» .entry))) ⌝ }
+{
+    pack(table::blocks_read(read_map))
 }
 
 #[no_mangle]

@@ -54,6 +54,7 @@ carried-broken rows {t} g f =
       rest = g .rest;
       kept = λ h. refl;
       built = λ h. absurd (false≢true h);
+      laid = λ h. absurd (false≢true h);
       fits = λ s h. absurd (false≢true (sym f ∙ g .ok ∙ laid-sound t s));
     }
 
@@ -103,6 +104,7 @@ module _ {t w w₁ : List ℕ} {r : Sum} (l : Lent t w) (g : Gathered t w w₁ r
           rest = rest-is;
           kept = λ h. refl;
           built = λ h. absurd (false≢true h);
+          laid = λ h. absurd (false≢true h);
           fits = λ s h. let no : ⊥ = omega (arith, over, ap length after-is, h) in absurd no;
         }
 
@@ -131,5 +133,6 @@ module _ {t w w₁ : List ℕ} {r : Sum} (l : Lent t w) (g : Gathered t w w₁ r
             rest = rest-is;
             kept = λ x. absurd (true≢false x);
             built = λ x. subst (Rebuilt t′) part-is (h .0);
+            laid = λ x. sym (g .ok) ∙ ok;
             fits = λ s x. refl;
           }

@@ -8,7 +8,7 @@ ghost use Rattle.rows.specs.Lining.{Rows};
 ghost use Rattle.message.specs.Messages.{messageAnswer, readMessage};
 ghost use Rattle.message.specs.Changes.{changesOf};
 ghost use Rattle.revise.specs.Revising.{Lent};
-ghost use Rattle.carry.specs.Carrying.{RowsCarried, Carriable, Carried, CarriedOr};
+ghost use Rattle.carry.specs.Carrying.{RowsCarried, Carriable, OneCarried, ManyCarried, CarriedOr};
 
 fn plain_answer(number: u32) -> block::Answer
     ensures { λ r. ⌜ r ≡ answer number 0 ⌝ }
@@ -19,7 +19,7 @@ fn plain_answer(number: u32) -> block::Answer
 // One change goes the way of Add or Withdraw.
 fn carry_one(table: &mut [u8], scratch: &mut [u8], m: &[u8]) -> block::Answer
     requires { ⌜ Carriable (now m) (now table) (now scratch) × (length (changesOf (readMessage (now m))) ≡ 1) ⌝ }
-    ensures { λ r. ⌜ Carried (now (m .entry)) (now (table .entry)) (now (table .exit)) (now (scratch .entry)) (now (scratch .exit)) r ⌝ }
+    ensures { λ r. ⌜ OneCarried (now (m .entry)) (now (table .entry)) (now (table .exit)) (now (scratch .entry)) (now (scratch .exit)) r ⌝ }
 {
     match message::change_at(m, message::HEAD_BYTES) {
         message::Change::Add(s) => plain_answer(revise::put_spot(table, scratch, s)),
@@ -35,7 +35,7 @@ fn carry_rows(table: &mut [u8], scratch: &mut [u8], rows: &[[u64; 2]], r: usize)
 {
     let all = renew::gather(table, scratch);
     if !all.ok {
-        return false;
+        return false; // what was gathered is no whole walk
     }
     let most = block::capacity_of(table.len());
     let to = spot::SPOT_BYTES * most;
@@ -51,7 +51,7 @@ fn carry_rows(table: &mut [u8], scratch: &mut [u8], rows: &[[u64; 2]], r: usize)
 // Several changes: what they come to is known before the first byte is written.
 fn carry_many(table: &mut [u8], scratch: &mut [u8], m: &[u8]) -> block::Answer
     requires { ⌜ Carriable (now m) (now table) (now scratch) ⌝ }
-    ensures { λ r. ⌜ Carried (now (m .entry)) (now (table .entry)) (now (table .exit)) (now (scratch .entry)) (now (scratch .exit)) r ⌝ }
+    ensures { λ r. ⌜ ManyCarried (now (m .entry)) (now (table .entry)) (now (table .exit)) (now (scratch .entry)) (now (scratch .exit)) r ⌝ }
 {
     let mut rows = [[0u64; 2]; message::MOST_CHANGES];
     let told = verdict::verdict(table, m, &mut rows);

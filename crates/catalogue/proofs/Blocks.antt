@@ -8,7 +8,7 @@ use Prim.Native.Nat.{ℕ, suc, _-_, _*_, _%_, _≤_, _<_}
 use native.Mathlib.Omega.{arith}
 use lib.ListN.{length, getD, replicate}
 use borrow.Author.Tests.{le-leb, eq-eqb}
-use Rattle.octets.specs.Lists.{every, rising}
+use Rattle.octets.specs.Lists.{every}
 use Rattle.octets.proofs.Order.{less-or-not}
 use Rattle.octets.proofs.Tests.{and-both, all-cons, all-nil, every-mem, every-make}
 use Rattle.octets.proofs.Lists.{mem-at}
@@ -23,16 +23,11 @@ use Rattle.block.specs.Table.{blocksOf, block}
 use Rattle.sweep.specs.Sweep.{cutsFor, sweep}
 use Rattle.sweep.specs.Pressed.{Tile, tiles, firstKeyOf, lastKeyOf, catalogue, pressed, Pressable}
 use Rattle.sweep.specs.Laws.{noTile, consumed, SweepLaws}
-use Rattle.sweep.proofs.Found.{lowest-in, highest-in, lowest-least}
+use Rattle.sweep.proofs.Found.{lowest-in, highest-in}
 use Rattle.catalogue.specs.declared.Entry.{Entry}
 use Rattle.catalogue.specs.Catalogue.{tourSized, tileEntryAt, tileEntry, tileSpots}
 use Rattle.catalogue.proofs.Bytes.{padded-is, tileBytes, Fits, length-tour, block-first, block-next}
 use Rattle.catalogue.proofs.Entries.{Storable, entryFor, entry-at}
-
--- ---- the first key and the last of a list of spots
-
-pub lowest-highest : (ss : List Spot) → 0 < length ss → rising (keys ss) ≡ true → firstKeyOf ss ≤ lastKeyOf ss
-lowest-highest ss h r = let k = keys-from ss (highest-in ss h) in let l = lowest-least ss r (k .1) in omega (arith, k .2)
 
 -- ---- a pressed tour
 

@@ -10,14 +10,14 @@ use native.Mathlib.Omega.{arith}
 use lib.ListN.{length, drop, getD, replicate}
 use lib.Seq.{drop-at}
 use lib.Dec.{ltb, leb, eqb}
-use borrow.Author.Tests.{le-leb, lt-leb, eq-eqb, ne-eqb}
+use borrow.Author.Tests.{lt-ltb, le-leb, lt-leb, eq-eqb, ne-eqb}
 use Rattle.octets.specs.Lists.{every, has, keep, rising, upTo}
 use Rattle.octets.specs.Bytes.{be}
 use Rattle.octets.proofs.Order.{same-or-not, less-or-not, eqb-same}
 use Rattle.octets.proofs.Tests.{and-both, all-cons, all-nil, every-make, every-replicate, keep-in}
 use Rattle.octets.proofs.UpTo.{upTo-from, every-upTo}
 use Rattle.octets.proofs.Records.{records-at}
-use Rattle.spot.specs.Keys.{rankOf, limited}
+use Rattle.spot.specs.Keys.{rankKey, rankOf, limited}
 use Rattle.spot.specs.Query.{leastOf}
 use Rattle.spot.specs.Spots.{keys, keyAt, keysFrom, spotsIn, spotsBytes}
 use Rattle.spot.specs.declared.Spot.{Spot}
@@ -30,10 +30,11 @@ use Rattle.sweep.specs.Sweep.{StandingBlock, cutsFor, standingAt, sweep}
 use Rattle.sweep.specs.Pressed.{tiles, noKey, firstKeyOf, lastKeyOf, lastFrom, padded, catalogue, pressed, Pressable}
 use Rattle.sweep.specs.Report.{meetsSpan, spanned, blocksMet, numbers}
 use Rattle.sweep.specs.Laws.{consumed, SweepLaws}
-use Rattle.catalogue.specs.Catalogue.{tileEntryAt, sizeFine, madeFine, endedFine, tileEntryFine, blocksFine, catalogueFine, tileFine, tileEntry, stands, asks, tilesRead, tourFine}
+use Rattle.catalogue.specs.Catalogue.{tileEntryAt, sizeFine, madeFine, endedFine, tileEntryFine, blocksFine, catalogueFine, aboveMaker, tileFine, tileEntry, stands, asks, tilesRead, tourFine}
 use Rattle.catalogue.proofs.Bytes.{padded-is, used, length-used, catalogue-is, tileBytes}
 use Rattle.catalogue.proofs.Entries.{entryFor, entry-at, front-length, front-version}
-use Rattle.catalogue.proofs.Blocks.{lowest-highest, ith, few-tiles, each-storable, key-limited, low-limited, high-limited, length-pressed, blocks-pressed, first-block, tile-block, tile-entry, tile-back}
+use Rattle.catalogue.proofs.Joining.{span-fine, half, entries-agree}
+use Rattle.catalogue.proofs.Blocks.{ith, few-tiles, each-storable, key-limited, low-limited, high-limited, length-pressed, blocks-pressed, first-block, tile-block, tile-entry, tile-back}
 
 -- the bytes behind those in use are zero
 tail-zero : (xs : List ℕ) (n : ℕ) → length xs ≡ n → every isZero (drop n (padded xs)) ≡ true
@@ -89,30 +90,40 @@ has-kept f b v (s ∷ st) h =
 module _ (ss : List Spot) (g : Pressable ss) (w : SweepLaws ss) where
   -- ---- blocks
 
-  tile-fine : (i : ℕ) → i < length (tiles ss) → tileFine (tileEntry (pressed ss) (suc i)) (block (pressed ss) (suc i)) ≡ true
+  -- a fused block is above its maker
+  above-maker : (i : ℕ) → i < length (tiles ss) → every (aboveMaker (suc (length (tiles ss))) (suc i) (entryFor (ith ss i))) (keys (ith ss i .spots)) ≡ true
+  unfolding aboveMaker
+  above-maker i l =
+      every-make (aboveMaker (suc (length (tiles ss))) (suc i) (entryFor (ith ss i))) (keys (ith ss i .spots))
+      (λ k j.
+      let place = leb (suc i) (suc (length (tiles ss)) / 2) in
+      let above = ltb (rankKey (ith ss i .made)) (rankKey k) in
+      ⊎-elim (λ (h : suc i ≤ cutsFor (length ss)). ap (λ (t : Bool). t || above) (ap (leb (suc i)) (half ss w) ∙ le-leb (suc i) (cutsFor (length ss)) h))
+      (λ (h : cutsFor (length ss) < suc i). ap (λ (t : Bool). place || t) (lt-ltb (rankKey (ith ss i .made)) (rankKey k) (w .fused .above i (omega arith) l k j)) ∙ or-true place)
+      (less-or-not (suc i) (cutsFor (length ss))))
+
+  tile-fine : (i : ℕ) → i < length (tiles ss) → tileFine (suc (length (tiles ss))) (suc i) (tileEntry (pressed ss) (suc i)) (block (pressed ss) (suc i)) ≡ true
   unfolding tileFine
   tile-fine i l =
+      let m = suc (length (tiles ss)) in
       let xs = ith ss i .spots in
       let s = tileBytes (ith ss i) in
       let back = tile-back ss g w i l in
       let some = w .sizes .some i l in
-      ap₂ tileFine (tile-entry ss g w i l) (tile-block ss g w i l)
+      ap₂ (tileFine m (suc i)) (tile-entry ss g w i l) (tile-block ss g w i l)
       ∙ all-cons _ _ (ap rising (keys-back s xs back) ∙ w .tile i l .rise)
       (all-cons _ _ (eq-eqb (keyAt s 0) (firstKeyOf xs) (key-back-at s xs back 0 some ∙ sym (lowest-at xs some)))
       (all-cons _ _ (eq-eqb (keyAt s (12 * (length xs - 1))) (lastKeyOf xs) (key-back-at s xs back (length xs - 1) (omega (arith, some)) ∙ sym (highest-at xs some)))
-      (all-cons _ _ (tail-zero (spotsBytes xs) (12 * length xs) (length-spotsBytes xs)) all-nil)))
+      (all-cons _ _ (tail-zero (spotsBytes xs) (12 * length xs) (length-spotsBytes xs))
+      (all-cons _ _ (ap (every (aboveMaker m (suc i) (entryFor (ith ss i)))) (keys-back s xs back) ∙ above-maker i l) all-nil))))
 
   -- ---- entries
-
-  -- of its blocks with the catalogue, half are place blocks
-  half : (i : ℕ) → i < length (tiles ss) → suc (length (tiles ss)) / 2 ≡ cutsFor (length ss)
-  half i l = omega (arith, w .sizes .count)
 
   module _ (i : ℕ) (l : i < length (tiles ss)) where
     size-fine : sizeFine (suc (length (tiles ss))) (suc i) (length (ith ss i .spots)) ≡ true
     unfolding sizeFine
     size-fine =
-        rw (half i l)
+        rw (half ss w)
         (⊎-elim
         (λ (e : suc i ≡ cutsFor (length ss)). rw (eq-eqb (suc i) (cutsFor (length ss)) e)
         (and-both (leb 1 (length (ith ss i .spots))) (leb (length (ith ss i .spots)) 64) (le-leb 1 (length (ith ss i .spots)) (w .sizes .some i l)) (le-leb (length (ith ss i .spots)) 64 (w .sizes .few i l))))
@@ -122,7 +133,7 @@ module _ (ss : List Spot) (g : Pressable ss) (w : SweepLaws ss) where
     made-fine : madeFine (suc (length (tiles ss))) (suc i) (ith ss i .made) ≡ true
     unfolding madeFine
     made-fine =
-        rw (half i l)
+        rw (half ss w)
         (⊎-elim
         (λ (h : suc i ≤ cutsFor (length ss)). rw (le-leb (suc i) (cutsFor (length ss)) h) (eq-eqb (ith ss i .made) noKey (w .tile i l .unmade h)))
         (λ (h : cutsFor (length ss) < suc i). rw (lt-leb (suc i) (cutsFor (length ss)) h) (key-limited ss g w (ith ss i .made) (w .tile i l .made (omega arith))))
@@ -144,7 +155,7 @@ module _ (ss : List Spot) (g : Pressable ss) (w : SweepLaws ss) where
     entry-fine =
         let xs = ith ss i .spots in
         all-cons _ _ size-fine
-        (all-cons _ _ (le-leb (firstKeyOf xs) (lastKeyOf xs) (lowest-highest xs (w .sizes .some i l) (w .tile i l .rise)))
+        (all-cons _ _ (span-fine xs (w .sizes .some i l) (w .tile i l .rise))
         (all-cons _ _ (low-limited ss g w i l) (all-cons _ _ (high-limited ss g w i l) (all-cons _ _ made-fine (all-cons _ _ ended-fine all-nil)))))
 
   -- ---- the catalogue
@@ -170,7 +181,8 @@ module _ (ss : List Spot) (g : Pressable ss) (w : SweepLaws ss) where
       (all-cons _ _ (eq-eqb (be 4 (catalogue ts) 4) 16777216 (front-version ts))
       (all-cons _ _ count-fine
       (all-cons _ _ (every-upTo (λ b. tileEntryFine (suc (length ts)) b (tileEntryAt (catalogue ts) b)) 1 (length ts) each)
-      (all-cons _ _ (ap (λ (s : List ℕ). every isZero (drop (8 + 36 * length ts) s)) (catalogue-is ts) ∙ tail-zero (used ts) (8 + 36 * length ts) (length-used ts)) all-nil)))))
+      (all-cons _ _ (ap (λ (s : List ℕ). every isZero (drop (8 + 36 * length ts) s)) (catalogue-is ts) ∙ tail-zero (used ts) (8 + 36 * length ts) (length-used ts))
+      (all-cons _ _ (entries-agree ss w (tileEntryAt (catalogue ts)) (entry-at ts (each-storable ss g w))) all-nil))))))
     where
       entry-each : (j : ℕ) → 1 ≤ j → j < 1 + length (tiles ss) → tileEntryFine (suc (length (tiles ss))) j (tileEntryAt (catalogue (tiles ss)) j) ≡ true
       entry-each zero h l = absurd (not-suc-le-zero h)
@@ -189,13 +201,16 @@ module _ (ss : List Spot) (g : Pressable ss) (w : SweepLaws ss) where
   pub tour-fine : (q : Query) → tourFine (pressed ss) q ≡ true
   unfolding tourFine
   tour-fine q =
-      and-both (catalogueFine (length (pressed ss)) (block (pressed ss) 0)) (every (λ b. tileFine (tileEntry (pressed ss) b) (block (pressed ss) b)) (tilesRead (pressed ss) q))
-      catalogue-fine
-      (every-make (λ b. tileFine (tileEntry (pressed ss) b) (block (pressed ss) b)) (tilesRead (pressed ss) q) (λ b j. at b (read-from q j)))
+      and-both (catalogueFine (length (pressed ss)) (block (pressed ss) 0)) (every fine (tilesRead (pressed ss) q)) catalogue-fine
+      (every-make fine (tilesRead (pressed ss) q) (λ b j. at b (read-from q j)))
     where
-      at : (b : ℕ) → (1 ≤ b) × (b < suc (length (tiles ss))) → tileFine (tileEntry (pressed ss) b) (block (pressed ss) b) ≡ true
+      fine : ℕ → Bool
+      fine b = tileFine (blocksOf (length (pressed ss))) b (tileEntry (pressed ss) b) (block (pressed ss) b)
+
+      at : (b : ℕ) → (1 ≤ b) × (b < suc (length (tiles ss))) → fine b ≡ true
       at zero h = absurd (not-suc-le-zero (h .0))
-      at (suc i) h = tile-fine i (le-of-suc-le-suc (h .1))
+      at (suc i) h =
+          ap (λ (m : ℕ). tileFine m (suc i) (tileEntry (pressed ss) (suc i)) (block (pressed ss) (suc i))) (blocks-pressed ss g w) ∙ tile-fine i (le-of-suc-le-suc (h .1))
 
   -- ---- what is asked for
 
@@ -205,7 +220,7 @@ module _ (ss : List Spot) (g : Pressable ss) (w : SweepLaws ss) where
     stands-is q =
         let made = ltb (rankOf (ith ss i .made)) (leastOf q) in
         let ended = leb (leastOf q) (rankOf (ith ss i .ended)) in
-        let first : leb (suc i) (suc (length (tiles ss)) / 2) ≡ ltb i (cutsFor (length ss)) = ap (leb (suc i)) (half i l) in
+        let first : leb (suc i) (suc (length (tiles ss)) / 2) ≡ ltb i (cutsFor (length ss)) = ap (leb (suc i)) (half ss w) in
         ap₂ (λ (x y : Bool). (x || made) && (y || ended)) first (last-is i l) ∙ sym (w .tile i l .stands (leastOf q))
 
     -- a tile is asked for exactly where it is met

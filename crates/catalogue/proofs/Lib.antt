@@ -1,7 +1,10 @@
 pub mod Lengths
 pub mod Making
 pub mod Facts
+pub mod Rows
+pub mod Disjoint
 pub mod Bytes
 pub mod Entries
 pub mod Blocks
+pub mod Joining
 pub mod Fine

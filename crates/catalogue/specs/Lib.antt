@@ -1,1 +1,3 @@
 pub mod Catalogue
+pub mod Rows
+pub mod Reading

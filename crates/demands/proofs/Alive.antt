@@ -337,10 +337,10 @@ module _ (t : List ℕ) (g : sound t ≡ true) where
       ⊎-elim (λ (l : allKeys ≤ k). absurd (Option·some-ne-none _ (sym e ∙ live-none t (shaped t g) k (within-high 0 allKeys k l)))) (λ (l : k < allKeys). l)
       (less-or-not allKeys k)
 
-  listed-live : (s : Spot) → List·Memᴰ s (liveSpots t) → live t (s .key) ≡ some (s .track)
+  pub listed-live : (s : Spot) → List·Memᴰ s (liveSpots t) → live t (s .key) ≡ some (s .track)
   listed-live s i = sym (live-finds t g (s .key)) ∙ find-member 0 (liveSpots t) (live-rises t g) i
 
-  live-listed : (s : Spot) → live t (s .key) ≡ some (s .track) → List·Memᴰ s (liveSpots t)
+  pub live-listed : (s : Spot) → live t (s .key) ≡ some (s .track) → List·Memᴰ s (liveSpots t)
   live-listed s e = find-listed (liveSpots t) (live-rises t g) s (live-finds t g (s .key) ∙ e)
 
   pub lives-small : Small (liveSpots t)

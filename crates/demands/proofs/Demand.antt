@@ -90,14 +90,14 @@ single-marks t s x1 x2 y a b l =
     let f = three-signed x1 x2 y a in
     rw (report-blocks t x1 x2 y) (marks-exact-words t x1 x2 y s (f .0) (f .1) (f .2) b l)
 
-marks-exactly : (c : Call) (t : List ℕ) (e : Event) → sound t ≡ true → argumentsFit c ≡ true → MetBy c t e → MarksExactly c t e
+pub marks-exactly : (c : Call) (t : List ℕ) (e : Event) → sound t ≡ true → argumentsFit c ≡ true → MetBy c t e → MarksExactly c t e
 unfolding argumentsFit
 marks-exactly c t e s a p x1 x2 y q z b l =
     let m : MetBy (report x1 x2 y) t e = subst (λ (d : Call). MetBy d t e) q p in
     rw (m .promised .marks ∙ map-accepted _ _ _ z) (single-marks t s x1 x2 y (ap argumentsFit (sym q) ∙ a) b l)
 
 -- and what many ranges mark
-union-marked : (c : Call) (t : List ℕ) (e : Event) → sound t ≡ true → argumentsFit c ≡ true → MetBy c t e → UnionMarked c t e
+pub union-marked : (c : Call) (t : List ℕ) (e : Event) → sound t ≡ true → argumentsFit c ≡ true → MetBy c t e → UnionMarked c t e
 unfolding argumentsFit rangeFits
 union-marked c t e s a p rs q z b l =
     let m : MetBy (reportMany rs) t e = subst (λ (d : Call). MetBy d t e) q p in
@@ -158,7 +158,7 @@ top-marks-few c t ps e s same fit a p due x1 x2 k q z =
     let gives = given-in c t ps e x1 x2 k (ap (λ (d : Call). toldCall d (certainIn d t)) q) due z in
     subst (λ (l : List PlainSpot). MarksFew x1 x2 k l t (e .readMap′)) (sym gives)
     (marks-few t s x1 x2 (h .0) (h .1) k (highest x1 x2 k (ps .spots)) (highest-fit x1 x2 f1 f2 k (ps .spots) fit) (top-keyed t s ps same fit x1 x2 f1 f2 k) (e .readMap′)
-    (m .promised .exact (top-rises t s x1 x2 k) .marks ∙ map-accepted _ _ _ z))
+    (m .promised .marks ∙ map-accepted _ _ _ z))
 
 -- ---- a Top within an allowance
 

@@ -10,13 +10,13 @@ use native.Mathlib.Omega.{arith}
 use lib.Dec.{eqb, ltb}
 use lib.IntN.{ℤ, pos}
 use lib.ListN.{length}
-use borrow.Author.Tests.{ne-eqb, eqb-true, eqb-false}
+use borrow.Author.Tests.{ne-eqb, eqb-false}
 use Rattle.octets.specs.Lists.{every, has}
 use Rattle.octets.specs.Bitmap.{bit}
 use Rattle.octets.proofs.Lists.{mem-same}
 use Rattle.octets.proofs.Order.{same-or-not}
 use Rattle.octets.proofs.Sets.{has-mem}
-use Rattle.octets.proofs.Tests.{every-mem, every-make, neither, or-left, or-right}
+use Rattle.octets.proofs.Tests.{every-mem, every-make, neither, or-left}
 use Rattle.spot.specs.declared.Spot.{Spot}
 use Rattle.spot.specs.Query.{query, wants}
 use Rattle.block.specs.declared.Answer.{Answer}
@@ -37,6 +37,7 @@ use Rattle.table.specs.Answers.{ofTable, withScratch, withOutput, withCounts, l
 use Rattle.table.specs.Queries.{walkAnswer, countAnswer, WalkPost, ReportPost, ManyPost, SearchPost, HandsOut, HandsOutEach}
 use Rattle.table.specs.Updates.{UpdatePost}
 use Rattle.table.proofs.Given.{report-limited}
+use Rattle.table.proofs.Searching.{ceiling-refused}
 use Rattle.table.proofs.Changes.{number-is, detail-is, early-detail}
 use Rattle.demands.specs.Model.{noMessage, changesOutside}
 use Rattle.demands.specs.History.{Event, MetBy}
@@ -234,39 +235,22 @@ many-out rs t e p z =
 
 -- ---- Top, and Top within an allowance
 
-module _ (c : Call) (x1 x2 : ℤ) (exactly : Type 0) (t : List ℕ) (e : Event) (same : e .table′ ≡ t) (numbers : outcomes c ≡ 0 ∷ 3 ∷ 5 ∷ [])
-    (p : SearchPost c x1 x2 exactly t (e .output) (e .readMap) (e .answer) (e .output′) (e .readMap′)) where
-  named : earlyNumber (withOutput t (e .output) (e .readMap)) c ≡ 0 → has (e .answer .number) (0 ∷ 3 ∷ 5 ∷ []) ≡ true
-  named l = ap (has (e .answer .number)) (sym numbers) ∙ p .refusals l
-
-  search-number : (e .answer .number ≡ 0 → ⊥) → has (e .answer .number) refusals ≡ true
-  search-number z =
-      ⊎-elim (λ l. of-refusals (e .answer .number) (0 ∷ 3 ∷ 5 ∷ []) refl (named l) z)
-      (λ l.
-      of-refusals (e .answer .number) early refl
-      (ap (λ (r : Answer). has (r .number) early) (p .byLengths l) ∙ by-lengths (withOutput t (e .output) (e .readMap)) c)
-      z)
-      (same-or-not (earlyNumber (withOutput t (e .output) (e .readMap)) c) 0)
-
-  search-detail : (e .answer .number ≡ 0 → ⊥) → (e .answer .number ≡ 5 → ⊥) → e .answer .detail ≡ 0
-  search-detail z y =
-      ⊎-elim (λ l. p .ruleBroken (three (e .answer .number) (named l) z y)) (λ l. ap (λ (r : Answer). r .detail) (p .byLengths l))
-      (same-or-not (earlyNumber (withOutput t (e .output) (e .readMap)) c) 0)
-    where
-      three : (n : ℕ) → has n (0 ∷ 3 ∷ 5 ∷ []) ≡ true → (n ≡ 0 → ⊥) → (n ≡ 5 → ⊥) → n ≡ 3
-      three n h z y = eqb-true n 3 (or-right (eqb n 3) (eqb n 5 || false) (or-left (eqb n 0) (eqb n 3 || (eqb n 5 || false)) h (ne-eqb n 0 z)) (rw (ne-eqb n 5 y)))
-
+module _ (c : Call) (x1 x2 : ℤ) (w : Walk) (once : Bool) (t : List ℕ) (e : Event) (same : e .table′ ≡ t)
+    (p : SearchPost c x1 x2 w once t (e .output) (e .readMap) (e .answer) (e .output′) (e .readMap′)) where
   search-down : isCounting c ≡ false → (hasCeiling c ≡ true → (e .answer .number ≡ 0 → ⊥) → e .ceiling′ ≡ pos 0) → (e .answer .number ≡ 0 → ⊥) → TurnedDown c t e
   search-down n ceiling z =
       record {
-        number = search-number z;
-        detail = λ y i. search-detail z y;
+        number = r .number z;
+        detail = λ y i. r .detail z y;
         table = same;
-        output = λ i. p .unchanged z .0;
-        readMap = λ i. p .unchanged z .1;
+        output = λ i. p .unchanged z;
+        readMap = λ i. p .marks ∙ map-refused (e .answer .number) (blocksRead w) (e .readMap) z;
         counts = λ i. absurd (false≢true (sym n ∙ i));
         ceiling = λ i. ceiling i z;
       }
+    where
+      r : Refusal (e .answer)
+      r = subst Refusal (sym (p .answered)) (refusal-lengths _ _ (by-lengths (withOutput t (e .output) (e .readMap)) c) (refusal-walk (length (e .output)) w))
 
 -- ---- the demand
 
@@ -310,7 +294,7 @@ ends (report x1 x2 y) t e p = (
   ap length (p .unchanged refl),
 )
 ends (top x1 x2 k) t e p = (
-  search-down (top x1 x2 k) x1 x2 _ t e (p .unchanged refl) refl (p .promised) refl (λ i. absurd (false≢true i)),
+  search-down (top x1 x2 k) x1 x2 _ _ t e (p .unchanged refl) (p .promised) refl (λ i. absurd (false≢true i)),
   ap length (p .unchanged refl),
 )
 ends count t e p = (
@@ -329,7 +313,7 @@ ends (reportMany rs) t e p = (
   ap length (p .unchanged refl),
 )
 ends (topWithin x1 x2 k a) t e p = (
-  search-down (topWithin x1 x2 k a) x1 x2 _ t e (p .unchanged refl) refl (p .promised .search) refl (λ i. p .promised .refused),
+  search-down (topWithin x1 x2 k a) x1 x2 _ _ t e (p .unchanged refl) (p .promised .search) refl (λ i z. p .promised .ceiling ∙ ceiling-refused (e .answer .number) _ z),
   ap length (p .unchanged refl),
 )
 ends (apply m) t e p = (

@@ -3,31 +3,33 @@
 use mathlib.Core.Path.{_≡_, refl, ap, ap₂, sym, subst, _∙_}
 use mathlib.Core.Logic.{_⊎_, inl, inr, ⊎-elim, _↔_}
 use mathlib.Core.Bool.{Bool, true, false, cond, not, _&&_, _||_, true≢false}
-use mathlib.Core.List.{List, [], _∷_, _++_, List·Memᴰ}
+use mathlib.Core.List.{List, [], _∷_, List·Memᴰ}
 use mathlib.Core.Option.{Option, none, some, Option·some-injective, Option·none-ne-some}
 use Prim.Native.Nat.{ℕ, _-_, _*_, _/_, _≤_, _<_}
 use native.Mathlib.Omega.{arith}
-use lib.ListN.{length, take, drop, length-take}
+use lib.ListN.{length, take, length-take}
 use lib.Seq.{take-all}
 use lib.Dec.{leb, ltb, eqb}
 use lib.IntN.{ℤ}
 use lib.Signed.{leZ}
 use borrow.Author.Tests.{leb-true, le-leb, lt-ltb, eq-eqb, eqb-true, ne-eqb}
-use Rattle.octets.specs.Lists.{every, has, keep}
+use Rattle.octets.specs.Lists.{all, every, has, keep, isEmpty}
 use Rattle.octets.proofs.Lists.{mem-same, mem-take}
-use Rattle.octets.proofs.Tests.{and-left, and-right, and-both, or-left, or-right, refuted, every-mem, every-make}
+use Rattle.octets.proofs.Tests.{all-at, and-left, or-left, or-right, refuted, every-mem, every-make, empty-list}
 use Rattle.octets.proofs.Order.{less-or-not, same-or-not}
 use Rattle.spot.specs.declared.Spot.{Spot}
 use Rattle.spot.specs.Keys.{allKeys, key, signed32, unsigned32}
-use Rattle.spot.specs.Spots.{keys, find, spotsBytes, byTop, fromOn}
+use Rattle.spot.specs.Spots.{keys, find, byTop}
 use Rattle.spot.specs.Range.{ofRange}
-use Rattle.spot.specs.Query.{query, topQuery, fromOf, wants}
+use Rattle.spot.specs.Query.{query, topQuery, wants}
 use Rattle.spot.proofs.Signed.{Fits, fits-signed}
-use Rattle.spot.proofs.Orders.{report-wants, top-wants}
+use Rattle.spot.proofs.Orders.{top-wants}
 use Rattle.spot.proofs.Ranks.{byTop-from, byTop-in}
 use Rattle.spot.proofs.Canon.{keep-rises}
 use Rattle.spot.proofs.Buffers.{keys-from}
 use Rattle.block.specs.declared.Answer.{Answer}
+use Rattle.block.specs.Answers.{answer}
+use Rattle.block.specs.Node.{storeOf}
 use Rattle.block.specs.Header.{headOf}
 use Rattle.block.specs.Table.{tableSized}
 use Rattle.block.proofs.Facts.{head-facts}
@@ -35,126 +37,60 @@ use Rattle.message.specs.declared.Change.{Change}
 use Rattle.message.specs.Effects.{afterAll, appliedAnswer}
 use Rattle.message.proofs.Effects.{applied-is, applied-number}
 use Rattle.tree.specs.Lookup.{live, isLive, withKey}
-use Rattle.tree.specs.Walk.{Walk, spots, Finds, liveSpots, liveCount}
+use Rattle.tree.specs.Walk.{Walk, spots, liveSpots, liveCount}
 use Rattle.tree.specs.Report.{reportTable}
 use Rattle.tree.specs.Top.{topTable}
 use Rattle.tree.specs.Sound.{sound}
-use Rattle.tree.proofs.Tables.{live-rises, live-finds, report-finds, counted, sound-header}
-use Rattle.tree.proofs.Tops.{top-finds, top-rises}
+use Rattle.tree.specs.Reach.{settled}
+use Rattle.tree.proofs.Tables.{live-rises, live-finds, report-finds, count-finds, counted, sound-header}
+use Rattle.tree.proofs.Tops.{top-finds}
 use Rattle.within_theory.specs.Reading.{reading, givenOf, withinTable}
-use Rattle.within_theory.proofs.Certain.{within-once, within-first}
+use Rattle.within_theory.proofs.Certain.{within-first}
 use Rattle.revise.specs.Numbers.{addNumber}
 use Rattle.ranges.specs.Ranges.{forEach}
 use Rattle.ranges.specs.declared.Range.{Range}
 use Rattle.report.specs.Joined.{joined, countsOf}
-use Rattle.table.specs.Calls.{add, withdraw, report, top, reportMany, topWithin, apply, rangeFits, argumentsFit}
-use Rattle.table.specs.Answers.{withScratch, withOutput, withCounts, earlyNumber, unlessRefused, spotsAnswer, outputLeft, countsLeft}
-use Rattle.table.specs.Queries.{walkAnswer, WalkPost, ReportPost, ManyPost, TopPost, TopWithinPost}
-use Rattle.table.specs.Updates.{AddPost, WithdrawPost, ApplyPost}
-use Rattle.demands.specs.Model.{PlainSpot, PlainChange, plainMessage, noMessage, nothingSaid, saidIn, changesOutside, hasIdentity, topBefore, asBytes}
+use Rattle.table.specs.Calls.{add, withdraw, report, top, count, rebuild, reportMany, topWithin, apply, rangeFits, argumentsFit}
+use Rattle.table.specs.Answers.{ofTable, withScratch, withOutput, withCounts, earlyNumber, unlessRefused, countsLeft}
+use Rattle.table.specs.Queries.{countAnswer, ReportPost, ManyPost, TopPost, TopWithinPost, CountPost}
+use Rattle.table.specs.Updates.{AddPost, WithdrawPost, RebuildPost, ApplyPost}
+use Rattle.demands.specs.Model.{PlainSpot, PlainChange, plainMessage, noMessage, nothingSaid, saidIn, changesOutside, hasIdentity, topBefore}
 use Rattle.demands.specs.TopMarks.{MarksFew}
-use Rattle.demands.specs.Demands.{LiveSpot, OfPlaces, InOrder, reportBefore, AtCapacity, ReportOf, TopOf, WithinOf, HandedOut, CountedOut, AddedTo, WithdrawnFrom, FirstDown, AppliedTo, Demand2}
-use Rattle.demands.proofs.Plain.{toKeySpot, SpotFits, identity-key, keyed-bytes, two-fit, three-fit, range-fit, early-is}
+use Rattle.demands.specs.Demands.{LiveSpot, OfPlaces, InOrder, AtCapacity, ReportOf, TopOf, WithinOf, HandedOut, CountedOut, AddedTo, WithdrawnFrom, FirstDown, AppliedTo, RebuiltFrom, Demand2}
+use Rattle.demands.proofs.Plain.{toKeySpot, SpotFits, identity-key, two-fit, three-fit, range-fit, early-is}
 use Rattle.demands.proofs.Messages.{keyedChanges, changes-fit, changes-are}
 use Rattle.demands.proofs.Applying.{same-identity, Lives, holds-all, none-down, first-down}
 use Rattle.table.proofs.Changes.{number-is}
-use Rattle.demands.proofs.Keyed.{singlyIn, highestBy}
-use Rattle.demands.proofs.Histories.{map-accepted, output-refused, counts-refused, many-finds, many-counts}
+use Rattle.demands.proofs.Keyed.{singly, singlyIn, highestBy}
+use Rattle.demands.proofs.Histories.{map-accepted, counts-refused, many-finds, many-counts}
 use Rattle.demands.proofs.Demand.{tree-laws}
+use Rattle.demands.proofs.Shown.{top-shows, within-shows}
+use Rattle.demands.proofs.Reported.{handed-out, live-table, singly-few, report-of}
 use Rattle.demands.proofs.MarksFew.{marks-few}
 use Rattle.demands.proofs.Withins.{given-few, within-finds, within-left, under-ceiling}
 use Rattle.report.proofs.Reports.{report-turned}
 use Rattle.report.proofs.Joined.{for-each-map, for-each-mem, count-each-same}
-use Rattle.demands.proofs.Onward.{from-on-mem, mem-from-on, report-apart, turned-small, turned-in-order}
-use Rattle.demands.proofs.Alive.{toPlain, plain, Small, keyed-plain, plain-length, plain-take, plain-fit, plain-mem, mem-plain, falls-in-order, take-order, take-first, same-order, first-order, higher-apart, alive-fits, lives-small, kept-small, kept-live, live-kept, all-live, live-count}
-
--- ---- what a query hands out
-
-module _ (l : ℕ) (w : Walk) (found : List Spot) (whole : Finds w found) (small : Small found) (out map : List ℕ) (r : Answer) (out′ map′ : List ℕ)
-    (lent : l ≡ 0) (p : WalkPost l w out map r out′ map′) where
-  answered : r ≡ spotsAnswer (length out) (length (plain found))
-  unfolding unlessRefused walkAnswer
-  answered =
-      p .answered ∙ ap₂ (λ (n : ℕ) (v : Walk). unlessRefused n (walkAnswer (length out) v)) lent (whole .1) ∙
-      ap (spotsAnswer (length out)) (sym (plain-length found))
-
-  bytes : asBytes (plain found) ≡ spotsBytes found
-  bytes = keyed-bytes (plain found) (plain-fit found small) ∙ ap spotsBytes (keyed-plain found)
-
-  pub handed-out : HandedOut (plain found) out r out′
-  unfolding outputLeft
-  handed-out =
-      record {
-        answer = answered;
-        output = λ z.
-            p .output ∙ ap₂ (λ (m : ℕ) (v : Walk). outputLeft m (spots v) out) z (whole .1) ∙
-            ap₂ (λ (bs : List ℕ) (n : ℕ). bs ++ drop (12 * n) out) (sym bytes) (sym (plain-length found));
-        refused = λ n. p .output ∙ output-refused (r .number) (spots w) out n;
-      }
+use Rattle.demands.proofs.Alive.{toPlain, plain, Small, keyed-plain, plain-length, plain-take, plain-fit, plain-mem, mem-plain, falls-in-order, take-order, take-first, first-order, higher-apart, alive-fits, lives-small, kept-small, kept-live, live-kept, all-live, live-count}
 
 -- ---- Report
 
 module _ (t : List ℕ) (g : sound t ≡ true) where
-  module _ (x1 x2 y : ℤ) where
-    kept : List Spot
-    kept = keep (wants (query x1 x2 y)) (liveSpots t)
-
-    found : List Spot
-    found = fromOn (fromOf (query x1 x2 y)) kept
-
-    kept-few : Small kept
-    unfolding kept
-    kept-few = kept-small t g (wants (query x1 x2 y))
-
-    found-few : Small found
-    unfolding found
-    found-few = turned-small (fromOf (query x1 x2 y)) kept kept-few
-
-    module _ (f1 : Fits x1) (f2 : Fits x2) (fy : Fits y) where
-      asked : (s : PlainSpot) → SpotFits s → ofRange x1 x2 (s .place) && leZ y (s .rank) ≡ wants (query x1 x2 y) (toKeySpot s)
-      asked s f = report-wants x1 x2 f1 f2 (s .place) (s .rank) (f .place) (f .rank) y fy
-
-      to : (s : PlainSpot) → List·Memᴰ s (plain found) → OfPlaces x1 x2 t s × (leZ y (s .rank) ≡ true)
-      unfolding kept found
-      to s i =
-          let m = plain-mem found found-few s i in
-          let l = kept-live t g (wants (query x1 x2 y)) s (m .0, from-on-mem (fromOf (query x1 x2 y)) kept (m .1)) in
-          let a = asked s (m .0) ∙ l .1 in
-          (record { alive = l .0; of = and-left (ofRange x1 x2 (s .place)) (leZ y (s .rank)) a }, and-right (ofRange x1 x2 (s .place)) (leZ y (s .rank)) a)
-
-      from : (s : PlainSpot) → OfPlaces x1 x2 t s × (leZ y (s .rank) ≡ true) → List·Memᴰ s (plain found)
-      unfolding kept found
-      from s h =
-          let f = alive-fits t s (h .0 .alive) in
-          let a = and-both (ofRange x1 x2 (s .place)) (leZ y (s .rank)) (h .0 .of) (h .1) in
-          mem-plain found s f (mem-from-on (fromOf (query x1 x2 y)) kept (live-kept t g (wants (query x1 x2 y)) s (h .0 .alive) (sym (asked s f) ∙ a)))
-
-      report-of : ReportOf x1 x2 y t (plain found)
-      unfolding kept found
-      report-of =
-          record {
-            rise = turned-in-order x1 x2 y f1 kept kept-few (keep-rises (wants (query x1 x2 y)) 0 (liveSpots t) (live-rises t g));
-            each = λ s. (to s, from s);
-          }
-
-      is-found : (given : List PlainSpot) → ReportOf x1 x2 y t given → given ≡ plain found
-      is-found given h =
-          same-order (reportBefore x1) SpotFits (report-apart x1 x2 y f1) given (plain found) (h .rise) (report-of .rise)
-          (λ s i. let l = h .each s .0 i in (report-of .each s .1 l, alive-fits t s (l .0 .alive)))
-          (λ s i. h .each s .1 (report-of .each s .0 i))
-
-      -- the definition settles the list: one that leaves a spot out, gives one twice or in another order is no such report
-      pub report-settled : (given other : List PlainSpot) → ReportOf x1 x2 y t given → ReportOf x1 x2 y t other → given ≡ other
-      report-settled given other g h = is-found given g ∙ sym (is-found other h)
-
-      report-given : (out map : List ℕ) (r : Answer) (out′ map′ : List ℕ) → earlyNumber (withOutput t out map) (report x1 x2 y) ≡ 0 → ReportPost x1 x2 y t out map r out′ map′
-          → (given : List PlainSpot) × ReportOf x1 x2 y t given × HandedOut given out r out′
-      unfolding kept found
-      report-given out map r out′ map′ l p = (
-        plain found,
-        report-of,
-        handed-out _ (reportTable t x1 x2 y) found (report-turned t x1 x2 y kept (report-finds t g (query x1 x2 y))) found-few out map r out′ map′ l p,
-      )
+  report-given : (x1 x2 y : ℤ) → Fits x1 → Fits x2 → Fits y → (out map : List ℕ) (r : Answer) (out′ map′ : List ℕ) → earlyNumber (withOutput t out map) (report x1 x2 y) ≡ 0
+      → ReportPost x1 x2 y t out map r out′ map′
+      → (given : List PlainSpot) × ReportOf x1 x2 y (LiveSpot t) given × HandedOut given out r out′
+  report-given x1 x2 y f1 f2 fy out map r out′ map′ l p = (
+    plain (singly x1 x2 y (liveSpots t)),
+    report-of (liveSpots t) (LiveSpot t) (live-table t g) x1 x2 y f1 f2 fy,
+    handed-out _ (reportTable t x1 x2 y) (singly x1 x2 y (liveSpots t)) (report-turned t x1 x2 y _ (report-finds t g (query x1 x2 y)))
+        (singly-few (liveSpots t) (LiveSpot t) (live-table t g) x1 x2 y)
+        out
+        map
+        r
+        out′
+        map′
+        l
+        p,
+  )
 
   -- ---- many ranges
 
@@ -164,16 +100,16 @@ module _ (t : List ℕ) (g : sound t ≡ true) where
   many-given : (rs : List Range) (counts out map : List ℕ) (r : Answer) (counts′ out′ map′ : List ℕ) → every rangeFits rs ≡ true
       → earlyNumber (withCounts t out map counts) (reportMany rs) ≡ 0
       → ManyPost rs t counts out map r counts′ out′ map′
-      → (given : Range → List PlainSpot) × ((x : Range) → List·Memᴰ x rs → ReportOf (x .x1) (x .x2) (x .y) t (given x)) ×
+      → (given : Range → List PlainSpot) × ((x : Range) → List·Memᴰ x rs → ReportOf (x .x1) (x .x2) (x .y) (LiveSpot t) (given x)) ×
       HandedOut (forEach given rs) out r out′ ×
       CountedOut given rs counts r counts′
-  unfolding kept found given-in countsLeft
+  unfolding given-in countsLeft
   many-given rs counts out map r counts′ out′ map′ fit l p = (
     given-in,
-    λ x i. let f = range-fit x (every-mem rangeFits rs fit i) in report-of (x .x1) (x .x2) (x .y) (f .0) (f .1) (f .2),
+    λ x i. let f = range-fit x (every-mem rangeFits rs fit i) in report-of (liveSpots t) (LiveSpot t) (live-table t g) (x .x1) (x .x2) (x .y) (f .0) (f .1) (f .2),
     subst (λ (ss : List PlainSpot). HandedOut ss out r out′) (for-each-map toPlain (singlyIn (liveSpots t)) rs)
         (handed-out _ (joined t rs) (forEach (singlyIn (liveSpots t)) rs) (many-finds tree-laws t g rs)
-        (λ s i. let m = for-each-mem (singlyIn (liveSpots t)) rs i in found-few (m .0 .x1) (m .0 .x2) (m .0 .y) s (m .2))
+        (λ s i. let m = for-each-mem (singlyIn (liveSpots t)) rs i in singly-few (liveSpots t) (LiveSpot t) (live-table t g) (m .0 .x1) (m .0 .x2) (m .0 .y) s (m .2))
         out
         map
         r
@@ -207,18 +143,18 @@ module _ (t : List ℕ) (g : sound t ≡ true) where
     asked-places : (s : PlainSpot) → SpotFits s → ofRange x1 x2 (s .place) ≡ wants (topQuery x1 x2 0) (toKeySpot s)
     asked-places s f = top-wants x1 x2 f1 f2 (s .place) (s .rank) (f .place) (f .rank)
 
-    to-places : (s : PlainSpot) → List·Memᴰ s ranked → OfPlaces x1 x2 t s
+    to-places : (s : PlainSpot) → List·Memᴰ s ranked → OfPlaces x1 x2 (LiveSpot t) s
     unfolding of-places ranked
     to-places s i =
         let m = plain-mem (byTop of-places) few-ranked s i in
         let l = kept-live t g (wants (topQuery x1 x2 0)) s (m .0, byTop-from of-places (m .1)) in
         record { alive = l .0; of = asked-places s (m .0) ∙ l .1 }
 
-    places-in : (s : PlainSpot) → OfPlaces x1 x2 t s → List·Memᴰ (toKeySpot s) of-places
+    places-in : (s : PlainSpot) → OfPlaces x1 x2 (LiveSpot t) s → List·Memᴰ (toKeySpot s) of-places
     unfolding of-places
     places-in s h = live-kept t g (wants (topQuery x1 x2 0)) s (h .alive) (sym (asked-places s (alive-fits t s (h .alive))) ∙ h .of)
 
-    from-places : (s : PlainSpot) → OfPlaces x1 x2 t s → List·Memᴰ s ranked
+    from-places : (s : PlainSpot) → OfPlaces x1 x2 (LiveSpot t) s → List·Memᴰ s ranked
     unfolding ranked
     from-places s h = mem-plain (byTop of-places) s (alive-fits t s (h .alive)) (byTop-in of-places (places-in s h))
 
@@ -268,7 +204,7 @@ module _ (t : List ℕ) (g : sound t ≡ true) where
     top-given out map r out′ map′ l p = (
       plain (take k (byTop of-places)),
       first-of,
-      handed-out _ (topTable t x1 x2 k) (take k (byTop of-places)) (top-finds t g x1 x2 k) few-first out map r out′ map′ l (p .exact (top-rises t g x1 x2 k)),
+      handed-out _ (topTable t x1 x2 k) (take k (byTop of-places)) (top-finds t g x1 x2 k) few-first out map r out′ map′ l (top-shows t g x1 x2 k p),
     )
 
     -- and what it marks
@@ -281,7 +217,7 @@ module _ (t : List ℕ) (g : sound t ≡ true) where
         (marks-few t g x1 x2 (fits-signed x1 f1) (fits-signed x2 f2) k (plain found) (plain-fit found few-first)
         (keyed-plain found ∙ sym (ap spots (top-finds t g x1 x2 k .1)))
         map′
-        (p .exact (top-rises t g x1 x2 k) .marks ∙ map-accepted _ _ _ z))
+        (p .marks ∙ map-accepted _ _ _ z))
 
   -- ---- Top within an allowance
 
@@ -305,7 +241,7 @@ module _ (t : List ℕ) (g : sound t ≡ true) where
               under-ceiling t g x1 x2 k a s f (places-in x1 x2 f1 f2 n s h) (λ j. out (mem-plain found s f (mem-same same j)));
         },
         handed-out _ (withinTable t x1 x2 k a) found (within-finds t g x1 x2 k a) (few-first x1 x2 f1 f2 n) out map r out′ map′ l
-            (p .search .exact (within-once t g x1 x2 k a)),
+            (within-shows t g x1 x2 k a p),
       )
 
 -- ---- Add and Withdraw
@@ -499,6 +435,32 @@ module _ (t : List ℕ) (g : sound t ≡ true) where
           staysSound = p .update .staysSound g;
         }
 
+-- ---- Count and Rebuild
+
+module _ (t : List ℕ) (g : sound t ≡ true) where
+  count-given : (r : Answer) → earlyNumber (ofTable t) count ≡ 0 → CountPost t r → r ≡ answer 0 (length (plain (liveSpots t)))
+  unfolding unlessRefused countAnswer
+  count-given r l p =
+      p .answered ∙ ap₂ (λ (n : ℕ) (w : Walk). unlessRefused n (countAnswer w)) l (count-finds t g .1) ∙ ap (answer 0) (sym (plain-length (liveSpots t)))
+
+  rebuilt-from : (w : List ℕ) (r : Answer) (t′ w′ : List ℕ) → earlyNumber (withScratch t w) rebuild ≡ 0 → RebuildPost t w r t′ w′ → RebuiltFrom t r t′
+  unfolding settled
+  rebuilt-from w r t′ w′ l p =
+      let a : r ≡ answer 0 0 = p .update .answered g l in
+      let z : r .number ≡ 0 = number-is a in
+      let same : (k : ℕ) → live t′ k ≡ live t k = p .update .liveAfter g z in
+      record {
+        accepted = a;
+        after = λ s. (
+          λ h. record { placeFits = h .placeFits; rankFits = h .rankFits; there = sym (same (key (s .place) (s .rank))) ∙ h .there },
+          λ h. record { placeFits = h .placeFits; rankFits = h .rankFits; there = same (key (s .place) (s .rank)) ∙ h .there },
+        );
+        carriedOut = λ b i.
+            let e : all (isEmpty (storeOf t′ b .inserts) ∷ isEmpty (storeOf t′ b .deletes) ∷ []) ≡ true = every-mem (λ n. settled (storeOf t′ n)) _ (p .carriedOut z) i in
+            (empty-list (storeOf t′ b .inserts) (all-at _ e 0), empty-list (storeOf t′ b .deletes) (all-at _ e 1));
+        staysSound = p .update .staysSound g;
+      }
+
 -- ---- the demand
 
 pub demand2 : Demand2
@@ -524,4 +486,6 @@ demand2 =
           within-given t (h .table) x1 x2 (f .0) (f .1) k a out map r out′ map′ c (h .lent) p;
       applies = λ m t w r t′ w′ h p.
           (saidIn (plainMessage m), is-said t (h .table) m w r t′ w′ (h .lent) p, applied-to t (h .table) m w r t′ w′ (h .lent) p);
+      counts = λ t r h p. (plain (liveSpots t), all-live t (h .table), count-given t (h .table) r (h .lent) p);
+      rebuilds = λ t w r t′ w′ h p. rebuilt-from t (h .table) w r t′ w′ (h .lent) p;
     }

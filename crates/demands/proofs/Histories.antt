@@ -45,6 +45,7 @@ use Rattle.table.specs.Calls.{Call, format, add, withdraw, report, top, count, 
 use Rattle.table.specs.Answers.{withScratch, withOutput, withCounts, earlyNumber, earlyDetail, spotsAnswer, outputLeft, unlessRefused, mapLeft, countsLeft}
 use Rattle.table.specs.Queries.{walkAnswer, countAnswer, WalkPost}
 use Rattle.table.specs.Updates.{UpdatePost}
+use Rattle.table.proofs.Searching.{searched-exact, ceiling-refused}
 use Rattle.demands.specs.Model.{toldCall}
 use Rattle.demands.specs.History.{Event, MetBy, lengthsIn, certainIn, SecondTable, SameOnSecond, Agreed}
 use Rattle.demands.proofs.Keyed.{KeyReply, keyReply, replyTo, refusedOr, accepted, changed, nextBy, gives, singlyIn, highestBy}
@@ -422,7 +423,7 @@ module _ (laws : TreeLaws) where
       })
   step (top x1 x2 k) t e z s p =
       query-kept (top x1 x2 k) (earlyNumber (withOutput t (e .output) (e .readMap)) (top x1 x2 k)) (topTable t x1 x2 k) _ [] t e s (p .unchanged refl) (laws .tops t s x1 x2 k)
-      (p .promised .exact (laws .top-rises t s x1 x2 k))
+      (searched-exact (p .promised) (laws .top-rises t s x1 x2 k))
       refl
       (λ q. absurd (false≢true q))
       (λ q. absurd (false≢true q))
@@ -430,7 +431,7 @@ module _ (laws : TreeLaws) where
       (λ u f h m.
       let same = laws .second-top t u s x1 x2 k (h .bytes) m in
       record {
-        shown = shows-as f (early-again (top x1 x2 k) t u e f [] [] h refl) (same .1) (h .met .promised .exact (rw (same .0) (laws .top-rises t s x1 x2 k)));
+        shown = shows-as f (early-again (top x1 x2 k) t u e f [] [] h refl) (same .1) (searched-exact (h .met .promised) (rw (same .0) (laws .top-rises t s x1 x2 k)));
         counts = λ q. absurd (false≢true q);
         ceiling = λ q. absurd (false≢true q);
       })
@@ -461,17 +462,17 @@ module _ (laws : TreeLaws) where
       let once = laws .within-once t s x1 x2 k a in
       query-kept (topWithin x1 x2 k a) (earlyNumber (withOutput t (e .output) (e .readMap)) (topWithin x1 x2 k a)) (withinTable t x1 x2 k a) _ [] t e s (p .unchanged refl)
       (laws .withins t s x1 x2 k a)
-      (p .promised .search .exact once)
+      (searched-exact (p .promised .search) once)
       refl
       (λ q. absurd (false≢true q))
-      (λ q. p .promised .refused)
+      (λ q r. p .promised .ceiling ∙ ceiling-refused (e .answer .number) _ r)
       (λ a b d q. let z : _≡_ {A = ℕ} 0 1 = cc in omega arith)
       (λ u f h m.
       let same = within-same t u x1 x2 k a (laws .second-within t u s x1 x2 k a (h .bytes) m) in
       record {
-        shown = shows-as f (early-again (topWithin x1 x2 k a) t u e f [] [] h refl) (same .1) (h .met .promised .search .exact (same .0 ∙ once));
+        shown = shows-as f (early-again (topWithin x1 x2 k a) t u e f [] [] h refl) (same .1) (searched-exact (h .met .promised .search) (same .0 ∙ once));
         counts = λ q. absurd (false≢true q);
-        ceiling = λ q r. h .met .promised .ceiling (same .0 ∙ once) ∙ rw (r, same .2) (sym (p .promised .ceiling once));
+        ceiling = λ q r. h .met .promised .ceiling ∙ rw (r, same .2) (sym (p .promised .ceiling));
       })
   step (apply m) t e z s p =
       let cs = changesOf (readMessage m) in

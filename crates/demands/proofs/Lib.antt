@@ -6,6 +6,8 @@ pub mod Alive
 pub mod Onward
 pub mod Sorted
 pub mod Histories
+pub mod Shown
+pub mod Reported
 pub mod MarksFew
 pub mod Withins
 pub mod Demand
@@ -13,5 +15,8 @@ pub mod Worked
 pub mod Applying
 pub mod Demand2
 pub mod Demand1
+pub mod Apart
+pub mod OnSound
 pub mod LittleReading
 pub mod RefusedOutside
+pub mod Tours

@@ -2,17 +2,12 @@
 -- Assumes nothing.
 use mathlib.Core.Bool.{_&&_}
 use mathlib.Core.Path.{refl}
-use lib.ListN.{length}
 use Rattle.octets.proofs.Tests.{and-left}
 use Rattle.spot.specs.Keys.{signed32, unsigned32}
-use Rattle.block.specs.Header.{headOf}
-use Rattle.block.proofs.Facts.{head-facts}
-use Rattle.tree.proofs.Tables.{sound-header}
 use Rattle.table.specs.Calls.{top, argumentsFit}
 use Rattle.demands.specs.Demands.{LittleReading}
 use Rattle.demands.proofs.Plain.{two-fit}
-use Rattle.demands.proofs.Histories.{step}
-use Rattle.demands.proofs.Demand.{tree-laws}
+use Rattle.demands.proofs.OnSound.{second-on-sound}
 use Rattle.demands.proofs.Demand2.{top-little}
 
 pub little-reading : LittleReading
@@ -22,6 +17,5 @@ little-reading =
       marks = λ x1 x2 k t out map r out′ map′ h p z given d.
           let f = two-fit x1 x2 (and-left (signed32 x1 && signed32 x2) (unsigned32 k) (h .arguments)) in
           top-little t (h .table) x1 x2 (f .0) (f .1) k out map r out′ map′ p z given d;
-      second = λ x1 x2 k t u e f s m z h.
-          step tree-laws (top x1 x2 k) t e (head-facts (length t) (headOf t) (sound-header t s) .sized) s m .agreed .second refl z u f h;
+      second = λ x1 x2 k. second-on-sound (top x1 x2 k) refl;
     }

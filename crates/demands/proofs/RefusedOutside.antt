@@ -30,7 +30,7 @@ use Rattle.tree.proofs.Legal.{lookup-outside}
 use Rattle.tree.proofs.Tables.{sound-tree}
 use Rattle.table.specs.Calls.{Call, format, add, withdraw, report, top, count, check, rebuild, reportMany, topWithin, apply, kind, Lengths}
 use Rattle.table.specs.Answers.{ofTable, withScratch, withOutput, withCounts, lent, fewEnough, argumentNumber, earlyNumber, earlyDetail, unlessRefused, spotsAnswer, outcomes}
-use Rattle.table.specs.Queries.{walkAnswer, countAnswer, SearchPost}
+use Rattle.table.specs.Queries.{walkAnswer, countAnswer}
 use Rattle.table.specs.Updates.{scratchLeft, UpdatePost}
 use Rattle.table.proofs.Answering.{number-argument}
 use Rattle.table.proofs.Changes.{number-is}
@@ -111,19 +111,12 @@ module _ (c : Call) (t : List ℕ) (e : Event) (late : 5 < e .answer .number) (f
       ⊎-elim (λ l. let m = outcome-late c (e .answer .number) few (p .numbers l) in absurd (omega arith)) (λ l. sym (number-is (p .refusals l)))
       (same-or-not (earlyNumber (withScratch t (e .scratch)) c) 0)
 
-  -- a best-first search
-  search-late : (x1 x2 : ℤ) (exactly : Type 0) → SearchPost c x1 x2 exactly t (e .output) (e .readMap) (e .answer) (e .output′) (e .readMap′)
-      → earlyNumber (withOutput t (e .output) (e .readMap)) c ≡ e .answer .number
-  search-late x1 x2 exactly p =
-      ⊎-elim (λ l. let m = outcome-late c (e .answer .number) few (p .refusals l) in absurd (omega arith)) (λ l. sym (number-is (p .byLengths l)))
-      (same-or-not (earlyNumber (withOutput t (e .output) (e .readMap)) c) 0)
-
 late-early : (c : Call) (t : List ℕ) (e : Event) → MetBy c t e → 5 < e .answer .number → (l : Lengths) × (earlyNumber l c ≡ e .answer .number)
 late-early format t e p h = (ofTable t, unless-late _ _ (answer 0 0) (p .promised .answered) (omega arith) h)
 late-early (add place rank track) t e p h = (withScratch t (e .scratch), update-late (add place rank track) t e h refl _ _ (p .promised .update))
 late-early (withdraw place rank) t e p h = (withScratch t (e .scratch), update-late (withdraw place rank) t e h refl _ _ (p .promised .update))
 late-early (report x1 x2 y) t e p h = (withOutput t (e .output) (e .readMap), unless-late _ _ _ (p .promised .answered) (walk-late (length (e .output)) _) h)
-late-early (top x1 x2 k) t e p h = (withOutput t (e .output) (e .readMap), search-late (top x1 x2 k) t e h refl x1 x2 _ (p .promised))
+late-early (top x1 x2 k) t e p h = (withOutput t (e .output) (e .readMap), unless-late _ _ _ (p .promised .answered) (walk-late (length (e .output)) _) h)
 late-early count t e p h = (ofTable t, unless-late _ _ _ (p .promised .answered) (count-late _) h)
 late-early check t e p h = (ofTable t, unless-late _ _ (answer 0 _) (p .promised .answered) (omega arith) h)
 late-early rebuild t e p h = (withScratch t (e .scratch), update-late rebuild t e h refl _ _ (p .promised .update))
@@ -131,7 +124,7 @@ late-early (reportMany rs) t e p h = (
   withCounts t (e .output) (e .readMap) (e .counts),
   unless-late _ _ _ (p .promised .handed .answered) (walk-late (length (e .output)) _) h,
 )
-late-early (topWithin x1 x2 k a) t e p h = (withOutput t (e .output) (e .readMap), search-late (topWithin x1 x2 k a) t e h refl x1 x2 _ (p .promised .search))
+late-early (topWithin x1 x2 k a) t e p h = (withOutput t (e .output) (e .readMap), unless-late _ _ _ (p .promised .search .answered) (walk-late (length (e .output)) _) h)
 late-early (apply m) t e p h = (withScratch t (e .scratch), update-late (apply m) t e h refl _ _ (p .promised .update))
 
 -- so 8 and 9 come from a message and from places

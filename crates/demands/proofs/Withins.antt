@@ -29,13 +29,14 @@ use Rattle.tree.specs.ReadMap.{readMap}
 use Rattle.tree.specs.Sound.{sound}
 use Rattle.tree.proofs.Tops.{top-finds}
 use Rattle.within_theory.specs.Reading.{Reading, certain, givenOf, begun, reading, ceilingOf, withinTable, ceilingWithin, readsInAll}
-use Rattle.within_theory.proofs.Certain.{within-whole, within-once, within-first, within-over, within-longer, within-lower, within-top}
+use Rattle.within_theory.proofs.Certain.{within-whole, within-first, within-over, within-longer, within-lower, within-top}
 use Rattle.within_theory.proofs.Repeated.{within-second, within-none, none-given, none-ceiling}
 use Rattle.table.specs.Calls.{topWithin}
 use Rattle.table.specs.Answers.{ceilingLeft}
 use Rattle.table.specs.Queries.{TopWithinPost}
 use Rattle.demands.specs.Model.{Plain, PlainSpot, topBefore, ofPlaces, chosen, sortBy, highest}
 use Rattle.demands.specs.History.{Event, MetBy, SaidWithin}
+use Rattle.demands.specs.OnSound.{LeftWithin}
 use Rattle.demands.proofs.Orders.{unbiased-rises}
 use Rattle.demands.proofs.Keyed.{highestBy}
 use Rattle.demands.proofs.Plain.{toKeySpot, keyed, SpotFits, AllFit, keyed-length, keyed-highest, highest-fit}
@@ -56,7 +57,7 @@ pub record Left (x1 x2 : ℤ) (k a : ℕ) (t : List ℕ) (r : Answer) (map′ : 
   pub ceiling : c ≡ unbiased (ceilingOf k (reading t x1 x2 k a))
 
 module _ (t : List ℕ) (g : sound t ≡ true) (x1 x2 : ℤ) (k a : ℕ) where
-  walk-is : withinTable t x1 x2 k a ≡ walked (givenOf k (reading t x1 x2 k a)) (reading t x1 x2 k a .blocks)
+  pub walk-is : withinTable t x1 x2 k a ≡ walked (givenOf k (reading t x1 x2 k a)) (reading t x1 x2 k a .blocks)
   unfolding withinTable
   walk-is = ap (λ (b : Bool). cond b (walked (givenOf k (reading t x1 x2 k a)) (reading t x1 x2 k a .blocks)) broken) (within-whole t g x1 x2 k a)
 
@@ -71,12 +72,10 @@ module _ (t : List ℕ) (g : sound t ≡ true) (x1 x2 : ℤ) (k a : ℕ) where
   pub within-left : (out map : List ℕ) (r : Answer) (out′ map′ : List ℕ) (c : ℤ) → TopWithinPost x1 x2 k a t out map r out′ map′ c → r .number ≡ 0 → Left x1 x2 k a t r map′ c
   unfolding ceilingWithin ceilingLeft
   within-left out map r out′ map′ c p z =
-      let once = within-once t g x1 x2 k a in
-      let q = p .search .exact once in
       record {
-        detail = walk-accepted _ (length out) (withinTable t x1 x2 k a) r (q .answered) z .1 ∙ ap (λ (w : Walk). length (spots w)) walk-is;
-        marks = q .marks ∙ map-accepted _ _ _ z ∙ ap (λ (w : Walk). readMap (blocksRead w)) walk-is;
-        ceiling = p .ceiling once ∙ ap (λ (n : ℕ). ceilingLeft n (ceilingWithin t x1 x2 k a)) z;
+        detail = walk-accepted _ (length out) (withinTable t x1 x2 k a) r (p .search .answered) z .1 ∙ ap (λ (w : Walk). length (spots w)) walk-is;
+        marks = p .search .marks ∙ map-accepted _ _ _ z ∙ ap (λ (w : Walk). readMap (blocksRead w)) walk-is;
+        ceiling = p .ceiling ∙ ap (λ (n : ℕ). ceilingLeft n (ceilingWithin t x1 x2 k a)) z;
       }
 
   -- a live spot of the range that is not given is not above the ceiling
@@ -88,6 +87,34 @@ module _ (t : List ℕ) (g : sound t ≡ true) (x1 x2 : ℤ) (k a : ℕ) where
       ap (λ (y : ℤ). leZ y (unbiased c)) (sym (unbiased-biased (s .rank) (f .rank))) ∙
       unbiased-rises (biased (s .rank)) c
       (subst (λ (y : ℕ). y ≤ c) (rank-of (s .place) (s .rank) (f .rank) (f .place)) (within-over t g x1 x2 k a (toKeySpot s) i out))
+
+-- with allowance or k 0 nothing is read or given
+none-within : (t : List ℕ) (x1 x2 : ℤ) (k a : ℕ) → (k ≡ 0) ⊎ (a ≡ 0)
+    → (length (givenOf k (reading t x1 x2 k a)) ≡ 0) × (unbiased (ceilingOf k (reading t x1 x2 k a)) ≡ pos 2147483647) × (reading t x1 x2 k a .blocks ≡ [])
+unfolding unbiased begun
+none-within t x1 x2 k a h =
+    let e = within-none t x1 x2 k a h in (
+      ap (λ (s : Reading). length (givenOf k s)) e ∙ ap length (none-given t k),
+      ap unbiased (ap (ceilingOf k) e ∙ none-ceiling t k),
+      ap (λ (s : Reading). s .blocks) e,
+    )
+
+-- the same in the paper's words
+pub left-within : (x1 x2 : ℤ) (k a : ℕ) (t : List ℕ) (r : Answer) (map′ : List ℕ) (c : ℤ) → Left x1 x2 k a t r map′ c → LeftWithin x1 x2 k a t r map′ c
+left-within x1 x2 k a t r map′ c left =
+    record {
+      ceiling = left .ceiling;
+      marks = λ b l. rw (left .marks) (map-words (reading t x1 x2 k a .blocks) b l);
+      none = λ h. let e = none-within t x1 x2 k a h in (left .detail ∙ e .0, left .ceiling ∙ e .1, e .2);
+    }
+
+-- a larger allowance
+pub left-grows : (t : List ℕ) → sound t ≡ true → (x1 x2 : ℤ) (k a b : ℕ) → a ≤ b → {r q : Answer} {m n : List ℕ} {c d : ℤ} → Left x1 x2 k a t r m c → Left x1 x2 k b t q n d
+    → (r .detail ≤ q .detail) × (leZ d c ≡ true)
+left-grows t g x1 x2 k a b h left more = (
+  omega (arith, left .detail, more .detail, within-longer t g x1 x2 k a b h),
+  ap₂ leZ (more .ceiling) (left .ceiling) ∙ unbiased-rises _ _ (within-lower t g x1 x2 k a b h),
+)
 
 -- ---- the highest of the model
 
@@ -139,29 +166,23 @@ module _ (t : List ℕ) (g : sound t ≡ true) (ps : Plain) (same : keyed (ps .s
         (keep-there (wants (topQuery x1 x2 0)) (liveSpots t) (mem-same same (Memᴰ·map toKeySpot i)) (sym (top-wants x1 x2 f1 f2 (s .place) (s .rank) (f .place) (f .rank)) ∙ w))
         (λ j. out (mem-same (plain-keyed given (highest-fit x1 x2 f1 f2 many (ps .spots) fit)) (mem-plain (keyed given) s f (mem-same (sym given-keyed) j))))
 
-    given-none : (k ≡ 0) ⊎ (a ≡ 0) → (given ≡ []) × (unbiased (ceilingOf k (reading t x1 x2 k a)) ≡ pos 2147483647) × (reading t x1 x2 k a .blocks ≡ [])
-    unfolding highest unbiased begun
-    given-none h =
-        let e = within-none t x1 x2 k a h in (
-          ap (λ (n : ℕ). highest x1 x2 n (ps .spots)) (ap (λ (s : Reading). length (givenOf k s)) e ∙ ap length (none-given t k)),
-          ap unbiased (ap (ceilingOf k) e ∙ none-ceiling t k),
-          ap (λ (s : Reading). s .blocks) e,
-        )
+    given-none : many ≡ 0 → given ≡ []
+    unfolding highest
+    given-none e = ap (λ (n : ℕ). highest x1 x2 n (ps .spots)) e
 
     pub said-within : (e : Event) → MetBy (topWithin x1 x2 k a) t e → e .answer .number ≡ 0 → SaidWithin x1 x2 k a t ps given e
     said-within e p z =
         let left = within-left t g x1 x2 k a (e .output) (e .readMap) (e .answer) (e .output′) (e .readMap′) (e .ceiling′) (p .promised) z in
+        let words = left-within x1 x2 k a t (e .answer) (e .readMap′) (e .ceiling′) left in
         record {
           first = highest-first x1 x2 many k (ps .spots) (given-few k (reading t x1 x2 k a));
-          ceiling = left .ceiling;
+          ceiling = words .ceiling;
           over = λ s i w out. ap (leZ (s .rank)) (left .ceiling) ∙ given-over s i w out;
           grows = λ b f h q y.
-              let more = within-left t g x1 x2 k b (f .output) (f .readMap) (f .answer) (f .output′) (f .readMap′) (f .ceiling′) (q .promised) y in (
-                omega (arith, left .detail, more .detail, within-longer t g x1 x2 k a b h),
-                ap₂ leZ (more .ceiling) (left .ceiling) ∙ unbiased-rises _ _ (within-lower t g x1 x2 k a b h),
-              );
-          marks = λ b l. rw (left .marks) (map-words (reading t x1 x2 k a .blocks) b l);
-          none = λ h. let r = given-none h in (r .0, left .ceiling ∙ r .1, r .2);
+              left-grows t g x1 x2 k a b h left
+              (within-left t g x1 x2 k b (f .output) (f .readMap) (f .answer) (f .output′) (f .readMap′) (f .ceiling′) (q .promised) y);
+          marks = words .marks;
+          none = λ h. let r = words .none h in (given-none (sym (left .detail) ∙ r .0), r .1, r .2);
         }
 
     -- once the allowance reaches what Top reads, these are Top's spots

@@ -17,14 +17,21 @@ use Rattle.spot.specs.Query.{query, topQuery}
 use Rattle.block.specs.declared.Answer.{Answer}
 use Rattle.block.specs.Answers.{answer}
 use Rattle.block.specs.Table.{tableSized}
+use Rattle.block.specs.Header.{headOf}
+use Rattle.block.specs.Node.{storeOf}
+use Rattle.message.specs.Messages.{WritePost, ReadPost}
+use Rattle.tree.specs.Part.{whole}
 use Rattle.tree.specs.Lookup.{live}
+use Rattle.tree.specs.Reach.{reach}
 use Rattle.tree.specs.Sound.{sound}
 use Rattle.ranges.specs.Ranges.{forEach, countEach}
 use Rattle.ranges.specs.declared.Range.{Range}
-use Rattle.table.specs.Calls.{Call, add, withdraw, report, top, reportMany, topWithin, apply, isQuery, isCounting, hasCeiling, hasPosition, argumentsFit}
+use Rattle.table.specs.Calls.{Call, add, withdraw, report, top, count, rebuild, reportMany, topWithin, apply, isQuery, isCounting, hasCeiling, hasPosition, argumentsFit}
 use Rattle.table.specs.Answers.{lengths, earlyNumber, spotsAnswer}
-use Rattle.table.specs.Queries.{HandsOut, HandsOutEach, ReportPost, ManyPost, TopPost, TopWithinPost}
-use Rattle.table.specs.Updates.{AddPost, WithdrawPost, ApplyPost}
+use Rattle.table.specs.Queries.{HandsOut, HandsOutEach, ReportPost, ManyPost, TopPost, TopWithinPost, CountPost, BlocksReadPost}
+use Rattle.table.specs.Updates.{AddPost, WithdrawPost, RebuildPost, ApplyPost}
+use Rattle.press.specs.Press.{PressPost}
+use Rattle.tour.specs.Tour.{TourPost}
 use Rattle.demands.specs.Model.{PlainSpot, PlainChange, hang, takeDown, plainMessage, hasIdentity, placeBefore, topBefore, asBytes, noMessage, outside, someOutside, positionOutside, changesOutside}
 use Rattle.demands.specs.History.{Event, MetBy, SecondTable, SameOnSecond}
 use Rattle.demands.specs.TopMarks.{MarksFew}
@@ -33,7 +40,7 @@ use Rattle.demands.specs.TopMarks.{MarksFew}
 
 -- the numbers of a refusal: "6 and every later number join demand 1's five"
 abbrev pub refusals : List ℕ
-refusals = 1 ∷ 2 ∷ 3 ∷ 4 ∷ 5 ∷ 6 ∷ 8 ∷ 9 ∷ []
+refusals = 1 ∷ 2 ∷ 3 ∷ 4 ∷ 5 ∷ 6 ∷ 7 ∷ 8 ∷ 9 ∷ []
 
 -- those of them that come with a change's "position from 0 as detail" where a message is applied, requests 2026-06 and 2026-07
 abbrev pub positioned : List ℕ
@@ -73,6 +80,29 @@ pub record AnyBytes (c : Call) (t : List ℕ) (e : Event) : Type 0 where
 abbrev pub Demand1 : Type 0
 Demand1 = (t : List ℕ) (e : Event) → MetBy (e .call) t e → AnyBytes (e .call) t e
 
+-- what turns down a call that is lent no table: one of the numbers, and of those that the call has; only those `told` come with a detail
+pub record Refused (numbers told : List ℕ) (r : Answer) : Type 0 where
+  pub number : has (r .number) refusals ≡ true
+  pub own : has (r .number) numbers ≡ true
+  pub detail : has (r .number) told ≡ false → r .detail ≡ 0
+
+-- Demand 1 of the public calls that stand apart from the table, requests 2026-03 and 2026-06: "One that is turned down returns one of five numbers", or of those that
+-- joined them, "and changes no byte", for any bytes, arguments and lengths
+pub record Demand1Apart : Type 0 where
+  -- "Pressing needs at least 32,768 lent bytes, else 2"; 7; 9 of a "spot to be pressed outside the limits"
+  pub presses : (s lent : List ℕ) (r : Answer) (lent′ : List ℕ) → PressPost s lent r lent′ → (r .number ≡ 0 → ⊥)
+      → Refused (2 ∷ 7 ∷ 9 ∷ []) [] r × (lent′ ≡ lent)
+  -- 1, 2, 3 and 5 as of a Report, 5 with the number of spots
+  pub tours : (x1 x2 y : ℤ) (t out map : List ℕ) (r : Answer) (out′ map′ : List ℕ) → TourPost x1 x2 y t out map r out′ map′ → (r .number ≡ 0 → ⊥)
+      → Refused (1 ∷ 2 ∷ 3 ∷ 5 ∷ []) (5 ∷ []) r × (out′ ≡ out) × (map′ ≡ map)
+  -- 8, "an output too short for writer or reader gives 2", and 9 "with the first such position"
+  pub writes : (s lent : List ℕ) (r : Answer) (lent′ : List ℕ) → WritePost s lent r lent′ → (r .number ≡ 0 → ⊥)
+      → Refused (8 ∷ 2 ∷ 9 ∷ []) (9 ∷ []) r × (lent′ ≡ lent)
+  pub reads : (m lent : List ℕ) (r : Answer) (lent′ : List ℕ) → ReadPost m lent r lent′ → (r .number ≡ 0 → ⊥)
+      → Refused (8 ∷ 2 ∷ 9 ∷ []) (9 ∷ []) r × (lent′ ≡ lent)
+  -- "The number read is the count of ones": the map is lent to be read
+  pub counted : (map : List ℕ) (r : Answer) → BlocksReadPost map r → (r .number ≡ 0 → ⊥) → Refused (2 ∷ []) [] r
+
 -- ---- demand 2
 
 -- "An identity is live exactly when, going from the root down the one path whose ranges hold it, the first node that names it does so in P or I. Its
@@ -83,9 +113,9 @@ pub record LiveSpot (t : List ℕ) (s : PlainSpot) : Type 0 where
   pub there : live t (key (s .place) (s .rank)) ≡ some (s .track)
 
 -- "of the live spots with x1 ≤ place ≤ x2"; of a ring "all places from x1 up, followed by all places up to x2". No test bounds the rank from above: "none shall
--- be added"
-pub record OfPlaces (x1 x2 : ℤ) (t : List ℕ) (s : PlainSpot) : Type 0 where
-  pub alive : LiveSpot t s
+-- be added". L says which spots there are: the live ones of a table, or those of a list
+pub record OfPlaces (x1 x2 : ℤ) (L : PlainSpot → Type 0) (s : PlainSpot) : Type 0 where
+  pub alive : L s
   pub of : ofRange x1 x2 (s .place) ≡ true
 
 -- each comes before all that follow it: in order, and none twice
@@ -104,25 +134,25 @@ pub record AllLive (t : List ℕ) (ss : List PlainSpot) : Type 0 where
 
 -- "Report(x1, x2, y) gives all live spots with x1 ≤ place ≤ x2 and rank ≥ y, rising in place order"; of a ring "from x1 onward"; it "holds each live spot of its
 -- range once, and nothing else"
-pub record ReportOf (x1 x2 y : ℤ) (t : List ℕ) (given : List PlainSpot) : Type 0 where
+pub record ReportOf (x1 x2 y : ℤ) (L : PlainSpot → Type 0) (given : List PlainSpot) : Type 0 where
   pub rise : InOrder (reportBefore x1) given
-  pub each : (s : PlainSpot) → List·Memᴰ s given ↔ (OfPlaces x1 x2 t s × (leZ y (s .rank) ≡ true))
+  pub each : (s : PlainSpot) → List·Memᴰ s given ↔ (OfPlaces x1 x2 L s × (leZ y (s .rank) ≡ true))
 
 -- "Top(x1, x2, k) gives, of the live spots with x1 ≤ place ≤ x2, the k highest in rank order (all, if fewer), highest first"; and "Among equal ranks Top
 -- shall list the lower place first and choose by it": the first by `fall`, the second by `highest`
 pub record TopOf (x1 x2 : ℤ) (k : ℕ) (t : List ℕ) (given : List PlainSpot) : Type 0 where
   pub fall : InOrder topBefore given
-  pub wanted : (s : PlainSpot) → List·Memᴰ s given → OfPlaces x1 x2 t s
+  pub wanted : (s : PlainSpot) → List·Memᴰ s given → OfPlaces x1 x2 (LiveSpot t) s
   pub most : length given ≤ k
-  pub all : length given < k → (s : PlainSpot) → OfPlaces x1 x2 t s → List·Memᴰ s given
-  pub highest : (s : PlainSpot) → OfPlaces x1 x2 t s → (List·Memᴰ s given → ⊥) → (r : PlainSpot) → List·Memᴰ r given → topBefore r s ≡ true
+  pub all : length given < k → (s : PlainSpot) → OfPlaces x1 x2 (LiveSpot t) s → List·Memᴰ s given
+  pub highest : (s : PlainSpot) → OfPlaces x1 x2 (LiveSpot t) s → (List·Memᴰ s given → ⊥) → (r : PlainSpot) → List·Memᴰ r given → topBefore r s ≡ true
 
 -- request 2026-10: the first of the live spots of the places in Top's order, up to k, "whose rank is above every such child's", and the ceiling c: "no other live
 -- spot of the range is above it"
 pub record WithinOf (x1 x2 : ℤ) (k : ℕ) (t : List ℕ) (given : List PlainSpot) (r : Answer) (c : ℤ) : Type 0 where
   pub first : TopOf x1 x2 (length given) t given
   pub few : length given ≤ k
-  pub over : r .number ≡ 0 → (s : PlainSpot) → OfPlaces x1 x2 t s → (List·Memᴰ s given → ⊥) → leZ (s .rank) c ≡ true
+  pub over : r .number ≡ 0 → (s : PlainSpot) → OfPlaces x1 x2 (LiveSpot t) s → (List·Memᴰ s given → ⊥) → leZ (s .rank) c ≡ true
 
 -- what a query answers and leaves of the output, where these are its spots
 pub record HandedOut (given : List PlainSpot) (out : List ℕ) (r : Answer) (out′ : List ℕ) : Type 0 where
@@ -204,6 +234,13 @@ pub record AppliedTo (cs : List PlainChange) (t : List ℕ) (r : Answer) (t′ :
   pub after : r .number ≡ 0 → (s : PlainSpot) → LiveSpot t′ s ↔ AfterAll cs (LiveSpot t) s
   pub staysSound : sound t′ ≡ true
 
+-- "Rebuild leaves the live spots the same, track numbers included, and all waiting changes carried out": I and D of every node reached from the root are empty
+pub record RebuiltFrom (t : List ℕ) (r : Answer) (t′ : List ℕ) : Type 0 where
+  pub accepted : r ≡ answer 0 0
+  pub after : (s : PlainSpot) → LiveSpot t′ s ↔ LiveSpot t s
+  pub carriedOut : (b : ℕ) → List·Memᴰ b (reach (headOf t′ .levels) (storeOf t′) (whole (headOf t′))) → (storeOf t′ b .inserts ≡ []) × (storeOf t′ b .deletes ≡ [])
+  pub staysSound : sound t′ ≡ true
+
 -- a sound table, arguments within their 32 bits, and lengths that are not refused
 pub record OnSound (c : Call) (t out map w counts : List ℕ) : Type 0 where
   pub table : sound t ≡ true
@@ -221,14 +258,14 @@ pub record Demand2 : Type 0 where
       → WithdrawnFrom place rank t r t′
   pub reports : (x1 x2 y : ℤ) (t out map : List ℕ) (r : Answer) (out′ map′ : List ℕ) → OnSound (report x1 x2 y) t out map [] []
       → ReportPost x1 x2 y t out map r out′ map′
-      → (given : List PlainSpot) × ReportOf x1 x2 y t given × HandedOut given out r out′
+      → (given : List PlainSpot) × ReportOf x1 x2 y (LiveSpot t) given × HandedOut given out r out′
   pub tops : (x1 x2 : ℤ) (k : ℕ) (t out map : List ℕ) (r : Answer) (out′ map′ : List ℕ) → OnSound (top x1 x2 k) t out map [] []
       → TopPost x1 x2 k t out map r out′ map′
       → (given : List PlainSpot) × TopOf x1 x2 k t given × HandedOut given out r out′
   -- request 2026-01: each range has the spots of its single report
   pub manys : (rs : List Range) (t counts out map : List ℕ) (r : Answer) (counts′ out′ map′ : List ℕ) → OnSound (reportMany rs) t out map [] counts
       → ManyPost rs t counts out map r counts′ out′ map′
-      → (given : Range → List PlainSpot) × ((x : Range) → List·Memᴰ x rs → ReportOf (x .x1) (x .x2) (x .y) t (given x)) ×
+      → (given : Range → List PlainSpot) × ((x : Range) → List·Memᴰ x rs → ReportOf (x .x1) (x .x2) (x .y) (LiveSpot t) (given x)) ×
       HandedOut (forEach given rs) out r out′ ×
       CountedOut given rs counts r counts′
   -- request 2026-10
@@ -238,6 +275,17 @@ pub record Demand2 : Type 0 where
   -- request 2026-06
   pub applies : (m t w : List ℕ) (r : Answer) (t′ w′ : List ℕ) → OnSound (apply m) t [] [] w [] → ApplyPost m t w r t′ w′
       → (cs : List PlainChange) × (plainMessage m ≡ some cs) × AppliedTo cs t r t′
+  -- "Count gives the number of live spots"
+  pub counts : (t : List ℕ) (r : Answer) → OnSound count t [] [] [] [] → CountPost t r → (ss : List PlainSpot) × AllLive t ss × (r ≡ answer 0 (length ss))
+  pub rebuilds : (t w : List ℕ) (r : Answer) (t′ w′ : List ℕ) → OnSound rebuild t [] [] w [] → RebuildPost t w r t′ w′ → RebuiltFrom t r t′
+
+-- ---- the second table
+
+-- "On the second table the call has the same arguments and is lent an equal output and map; equal are number, detail, output and marks": an accepted call on any
+-- sound table, so also on one that no history leaves
+abbrev pub SecondOnSound : Call → Type 0
+SecondOnSound c =
+    (t u : List ℕ) (e f : Event) → sound t ≡ true → MetBy c t e → e .answer .number ≡ 0 → SecondTable c t e u f → SameOnSecond c e f
 
 -- ---- request 2026-09
 
@@ -250,9 +298,7 @@ pub record LittleReading : Type 0 where
       → TopOf x1 x2 k t given
       → MarksFew x1 x2 k given t map′
   -- "Top's answer and marks follow the second-table rule"
-  pub second : (x1 x2 : ℤ) (k : ℕ) (t u : List ℕ) (e f : Event) → sound t ≡ true → MetBy (top x1 x2 k) t e → e .answer .number ≡ 0
-      → SecondTable (top x1 x2 k) t e u f
-      → SameOnSecond (top x1 x2 k) e f
+  pub second : (x1 x2 : ℤ) (k : ℕ) → SecondOnSound (top x1 x2 k)
 
 -- ---- request 2026-06
 

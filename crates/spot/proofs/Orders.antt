@@ -4,24 +4,29 @@
 use mathlib.Core.Path.{_≡_, refl, sym, ap, ap₂, subst, _∙_}
 use mathlib.Core.Logic.{_⊎_, inl, inr, ⊎-elim, _↔_}
 use mathlib.Core.Bool.{Bool, false, _&&_, _||_, and-true}
+use mathlib.Core.List.{List}
 use Prim.Native.Nat.{ℕ, _+_, _*_, _/_, _%_, _<_}
 use native.Mathlib.Nat.{div-add-mod'}
 use native.Mathlib.Omega.{arith}
 use lib.Arith.{digits-div, digits-mod}
 use lib.Dec.{T, leb, ltb, eqb, ltb→lt, lt→ltb}
 use lib.IntN.{ℤ, pos, negsuc}
+use lib.ListN.{getD}
 use lib.Signed.{leZ, ltZ, _<ℤ_, ltZ-yes}
 use mir.Syntax.{w32}
 use mir.Val.{toZ, ofZ}
 use mir.ValLaws.{toZ-ofZ}
 use borrow.Author.Tests.{le-leb}
 use Rattle.octets.specs.Lists.{all}
+use Rattle.octets.specs.Bytes.{be}
+use Rattle.octets.proofs.Bytes.{be-lt}
 use Rattle.octets.proofs.Order.{leb-same, ltb-same}
 use Rattle.spot.specs.declared.Query.{Query}
-use Rattle.spot.specs.Keys.{word, allKeys, biased, unbiased, key, placeOf, rankIn, rankKey, rankOf}
+use Rattle.spot.specs.Keys.{word, allKeys, biased, unbiased, turned, key, placeOf, rankIn, rankKey, rankOf}
+use Rattle.spot.specs.Spots.{keyAt}
 use Rattle.spot.specs.Range.{ofRange}
 use Rattle.spot.specs.Query.{query, topQuery, fromOf, lastOf, leastOf, isRing, ends, wantsKey, placed, wanted}
-use Rattle.spot.proofs.Signed.{Fits, biased-lt, biased-inj, unbiased-biased, biased-unbiased, unbiased-fits, leZ-biased, ltZ-biased}
+use Rattle.spot.proofs.Signed.{Fits, biased-lt, biased-inj, unbiased-biased, biased-unbiased, unbiased-fits, turned-lt, toZ-turned, leZ-biased, ltZ-biased}
 use Rattle.spot.proofs.Halves.{high, low, lex-to, lex-from, pair-lt, pair-eq, rank-is}
 
 -- ---- keys and identities
@@ -58,6 +63,18 @@ rank-fits k = unbiased-fits (k % word) (low k)
 pub key-of-parts : (k : ℕ) → key (placeOf k) (rankIn k) ≡ k
 unfolding placeOf rankIn
 key-of-parts k = ap₂ (λ (x y : ℕ). x * word + y) (biased-unbiased (k / word)) (biased-unbiased (k % word)) ∙ div-add-mod' k word
+
+-- the place and the rank of a key on the card, read as signed numbers
+module _ (s : List ℕ) (i : ℕ) (bytes : (j : ℕ) → getD s j 0 < 256) where
+  pub place-word : toZ w32 (be 4 s i) ≡ placeOf (keyAt s i)
+  unfolding placeOf keyAt
+  place-word =
+      toZ-turned (be 4 s i) (be-lt 4 s i bytes) ∙ ap unbiased (sym (digits-div (turned (be 4 s i)) (turned-lt (be 4 s (i + 4)))))
+
+  pub rank-word : toZ w32 (be 4 s (i + 4)) ≡ rankIn (keyAt s i)
+  unfolding rankIn keyAt
+  rank-word =
+      toZ-turned (be 4 s (i + 4)) (be-lt 4 s (i + 4) bytes) ∙ ap unbiased (sym (digits-mod (turned (be 4 s i)) (turned-lt (be 4 s (i + 4)))))
 
 -- both ends
 pub key-lowest : key (negsuc 2147483647) (negsuc 2147483647) ≡ 0

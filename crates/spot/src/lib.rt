@@ -143,6 +143,21 @@ pub fn read_key(s: &[u8], at: usize) -> u64
     raw_key(s, at)
 }
 
+// Its place and its rank as signed numbers, for those that compare them with a query's ends: of the place the same is promised.
+pub fn read_place(s: &[u8], at: usize) -> i32
+    requires { ⌜ (at + 8 ≤ length (now s)) × (limited (keyAt (now s) at) ≡ true) ⌝ }
+    ensures { λ r. ⌜ (r ≡ placeOf (keyAt (now (s .entry)) at)) × (inLimits r ≡ true) ⌝ }
+{
+    read_i32(s, at)
+}
+
+pub fn read_rank(s: &[u8], at: usize) -> i32
+    requires { ⌜ at + 8 ≤ length (now s) ⌝ }
+    ensures { λ r. ⌜ r ≡ rankIn (keyAt (now (s .entry)) at) ⌝ }
+{
+    read_i32(s, at + 4)
+}
+
 pub fn write_key(s: &mut [u8], at: usize, k: u64)
     requires { ⌜ at + 8 ≤ length (now s) ⌝ }
     ensures { λ r. ⌜ now (s .exit) ≡ putKey (now (s .entry)) at k ⌝ }
@@ -153,7 +168,7 @@ pub fn write_key(s: &mut [u8], at: usize, k: u64)
 
 pub fn read_spot(s: &[u8], at: usize) -> Spot
     requires { ⌜ (at + 12 ≤ length (now s)) × (limited (keyAt (now s) at) ≡ true) ⌝ }
-    ensures { λ r. ⌜ r ≡ spotAt (now (s .entry)) at ⌝ }
+    ensures { λ r. ⌜ (r ≡ spotAt (now (s .entry)) at) × (limited (r .key) ≡ true) ⌝ }
 {
     let key = read_key(s, at);
     let track = octets::read32(s, at + 8) as u32;

@@ -7,4 +7,6 @@ pub mod Found
 pub mod Pairs
 pub mod Counts
 pub mod Bound
+pub mod Named
+pub mod Joined
 pub mod Swept

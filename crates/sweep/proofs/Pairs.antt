@@ -141,7 +141,7 @@ pub record Queue (ks : List ℕ) (r e : ℕ) (ps : List ℕ) : Type 0 where
   pub under : (k : ℕ) → List·Memᴰ k ps → rankKey k < e
   pub whole : (k : ℕ) → List·Memᴰ k ks → r ≤ rankKey k → rankKey k < e → List·Memᴰ k ps
 
-queue-next : (ks : List ℕ) (r e p : ℕ) (ps : List ℕ) → Queue ks r e (p ∷ ps) → Queue ks (suc (rankKey p)) e ps
+pub queue-next : (ks : List ℕ) (r e p : ℕ) (ps : List ℕ) → Queue ks r e (p ∷ ps) → Queue ks (suc (rankKey p)) e ps
 queue-next ks r e p ps q =
     let f = rising-first r (rankKey p) (rankKeys ps) (q .rise) in
     record {
@@ -194,7 +194,7 @@ module _ (ss : List Spot) (up : rising (keys ss) ≡ true) where
           le-leb (suc (rankKey p)) (rankKey k)
           (later k i (leb-true r (rankKey k) (and-left (since r k) (but p k) h)) (but-not p k (and-right (since r k) (but p k) h))))
 
-  paired-next : (r e p n : ℕ) (ps : List ℕ) (st : List StandingBlock) → Queue (keys ss) r e (p ∷ ps) → Paired ss r st → Paired ss (suc (rankKey p)) (fusedAt p n st)
+  pub paired-next : (r e p n : ℕ) (ps : List ℕ) (st : List StandingBlock) → Queue (keys ss) r e (p ∷ ps) → Paired ss r st → Paired ss (suc (rankKey p)) (fusedAt p n st)
   paired-next r e p n ps st q k = record { covers = only-next (abovePassed p) p n (λ k h. h) st ∙ on; pairs = go st taken (k .pairs) }
     where
       first : r ≤ suc (rankKey p)
@@ -268,7 +268,7 @@ beside-cut (suc c) n m ss l h =
       beside-cut c (suc n) (length (only (since 0) (take 64 ss))) (drop 64 ss) (λ p. omega (arith, e, r .2 p)) (r .3),
     )
 
-paired-first : (ss : List Spot) → Paired ss 0 (atFirst ss)
+pub paired-first : (ss : List Spot) → Paired ss 0 (atFirst ss)
 unfolding atFirst
 paired-first ss =
     record { covers = ap (only (since 0)) (first-spots ss); pairs = beside-cut (cutsFor (length ss)) 1 65 ss (λ p. omega arith) (cuts-for (length ss)) }
@@ -276,18 +276,19 @@ paired-first ss =
 -- ---- the whole sweep, and that of the ranks under y
 
 module _ (ss : List Spot) (g : Pressable ss) where
+  -- all keys, before any is passed
+  pub queue-all : Queue (keys ss) 0 allKeys (byRank (keys ss))
+  queue-all =
+      record {
+        order = omega arith;
+        rise = order-rises ss g;
+        from = λ k i. byRank-from (keys ss) i;
+        under = λ k i. rank-small k (order-small ss g k i);
+        whole = λ k i l u. byRank-in (keys ss) i;
+      }
+
   pub paired-all : Paired ss allKeys (standing (firstFused ss) (atFirst ss) (byRank (keys ss)))
-  paired-all = paired ss (g .rise) (byRank (keys ss)) 0 allKeys (firstFused ss) (atFirst ss) queue (paired-first ss)
-    where
-      queue : Queue (keys ss) 0 allKeys (byRank (keys ss))
-      queue =
-          record {
-            order = omega arith;
-            rise = order-rises ss g;
-            from = λ k i. byRank-from (keys ss) i;
-            under = λ k i. rank-small k (order-small ss g k i);
-            whole = λ k i l u. byRank-in (keys ss) i;
-          }
+  paired-all = paired ss (g .rise) (byRank (keys ss)) 0 allKeys (firstFused ss) (atFirst ss) queue-all (paired-first ss)
 
   pub paired-under : (y : ℕ) → Paired ss (y * word) (standingAt y ss)
   unfolding standingAt keysUnder

@@ -45,7 +45,7 @@ madeBy-length [] = refl
 madeBy-length (f ∷ fs) = ap suc (madeBy-length fs)
 
 -- their numbers are counted up from the next number on
-one-numbers : (p n : ℕ) (st : List StandingBlock) → numbers (madeBy (fusionAt p n st)) ≡ upTo n (length (fusionAt p n st))
+pub one-numbers : (p n : ℕ) (st : List StandingBlock) → numbers (madeBy (fusionAt p n st)) ≡ upTo n (length (fusionAt p n st))
 unfolding fuse
 one-numbers p n st = stepped (λ st m ts fs. numbers (madeBy fs) ≡ upTo n (length fs)) p n (λ st. refl) (λ us a b vs h. refl) st
 
@@ -65,7 +65,7 @@ made-stands p n st {s} =
     (λ us a b vs h i. Memᴰ·append-right us (List·Memᴰ·head (List·Memᴰ·eq-of-singleton i))) st
 
 -- a block that stands stood before or was made
-one-from : (p n : ℕ) (st : List StandingBlock) {s : StandingBlock} → List·Memᴰ s (fusedAt p n st) → List·Memᴰ s st ⊎ List·Memᴰ s (madeBy (fusionAt p n st))
+pub one-from : (p n : ℕ) (st : List StandingBlock) {s : StandingBlock} → List·Memᴰ s (fusedAt p n st) → List·Memᴰ s st ⊎ List·Memᴰ s (madeBy (fusionAt p n st))
 one-from p n st {s} = stepped (λ st m ts fs. List·Memᴰ s ts → List·Memᴰ s st ⊎ List·Memᴰ s (madeBy fs)) p n (λ st i. inl i) joins st
   where
     joins : (us : List StandingBlock) (a b : StandingBlock) (vs : List StandingBlock) → ripe p a b ≡ true → List·Memᴰ s (us ++ (fuse p n a b .made ∷ vs))
@@ -140,7 +140,7 @@ swap true z u v w h = let r = h refl in rw (r .0, r .1, r .2)
 swap false true u v w h = let r = h refl in rw (r .0, r .1, r .2)
 swap false false u v w h = ap (λ (y : Bool). u || y) (or-comm w v) ∙ sym (and-true _ ∙ ap (λ (y : Bool). (u || v) || y) (or-false w) ∙ or-assoc u v w)
 
-one-has : (ss : List Spot) (c p n : ℕ) (st : List StandingBlock) → Kept ss n st
+pub one-has : (ss : List Spot) (c p n : ℕ) (st : List StandingBlock) → Kept ss n st
     → has c (numbers (fusedAt p n st)) ≡ (has c (numbers st) || has c (numbers (madeBy (fusionAt p n st)))) && not (consumed c (fusionAt p n st))
 unfolding fuse
 one-has ss c p n st =

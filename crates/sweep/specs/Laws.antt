@@ -1,20 +1,20 @@
 -- What the proofs show of every sweep, for those that build on it.
 -- Assumes nothing.
 use mathlib.Core.Path.{_≡_}
-use Prim.Native.Nat.{ℕ, suc, _-_, _*_, _≤_, _<_}
+use Prim.Native.Nat.{ℕ, zero, suc, _-_, _*_, _≤_, _<_}
 use mathlib.Core.Bool.{Bool, true, false, not, _&&_, _||_}
-use mathlib.Core.List.{List, [], _∷_, List·Memᴰ}
+use mathlib.Core.List.{List, [], _∷_, _++_, List·Memᴰ}
 use lib.ListN.{length, getD}
 use lib.Dec.{ltb, leb, eqb}
-use Rattle.octets.specs.Lists.{has, keep, rising}
-use Rattle.spot.specs.Keys.{rankOf}
+use Rattle.octets.specs.Lists.{has, keep, rising, upTo}
+use Rattle.spot.specs.Keys.{rankKey, rankOf}
 use Rattle.spot.specs.Spots.{keys}
 use Rattle.spot.specs.Sorted.{only}
 use Rattle.spot.specs.Query.{wants}
 use Rattle.spot.specs.declared.Spot.{Spot}
 use Rattle.spot.specs.declared.Query.{Query}
-use Rattle.sweep.specs.Sweep.{StandingBlock, Fusion, cutsFor, standingAt, sweep}
-use Rattle.sweep.specs.Pressed.{Tile, tiles, noKey}
+use Rattle.sweep.specs.Sweep.{StandingBlock, Fusion, cutsFor, left, standingAt, sweep}
+use Rattle.sweep.specs.Pressed.{Tile, tiles, noKey, firstKeyOf, lastKeyOf}
 use Rattle.sweep.specs.Report.{blocksMet, numbers, standingSpots, mostRead}
 
 abbrev pub noTile : Tile
@@ -64,6 +64,46 @@ pub record TileSizes (ss : List Spot) : Type 0 where
   -- all are halves of a fusion but the last
   pub ends : (i : ℕ) → i < length (tiles ss) → consumed (suc i) (sweep ss) ≡ not (eqb (suc i) (length (tiles ss)))
 
+-- ---- what a fused block shows of its maker and of the two that it took the place of
+
+-- the tile of block b
+abbrev pub tileBy : List Spot → ℕ → Tile
+tileBy ss zero = noTile
+tileBy ss (suc i) = getD (tiles ss) i noTile
+
+-- z has the spots of x and y that are left once its maker is passed, which is a spot of one of them
+pub record FusedOf (z x y : Tile) : Type 0 where
+  pub spots : z .spots ≡ left (z .made) (x .spots ++ y .spots)
+  pub maker : List·Memᴰ (z .made) (keys (x .spots ++ y .spots))
+
+-- block b takes the place of two side by side in a row of blocks: its maker ended both, and none left of them
+pub record Joining (ss : List Spot) (b : ℕ) (row : List ℕ) : Type 0 where
+  pub before : List ℕ
+  pub first : ℕ
+  pub second : ℕ
+  pub behind : List ℕ
+  pub parts : row ≡ before ++ (first ∷ second ∷ behind)
+  pub others : (x : ℕ) → List·Memᴰ x before → tileBy ss x .ended ≡ tileBy ss b .made → ⊥
+  pub ends-first : tileBy ss first .ended ≡ tileBy ss b .made
+  pub ends-second : tileBy ss second .ended ≡ tileBy ss b .made
+  pub fused : FusedOf (tileBy ss b) (tileBy ss first) (tileBy ss second)
+
+-- so do these blocks, one after the other
+abbrev pub Joins : List Spot → List ℕ → List ℕ → Type 0
+Joins ss [] row = Unit {0}
+Joins ss (b ∷ bs) row = (j : Joining ss b row) × Joins ss bs (j .before ++ (b ∷ j .behind))
+
+pub record Fused (ss : List Spot) : Type 0 where
+  -- "in place order": a place block ends before the next begins
+  pub apart : (i : ℕ) → suc i < cutsFor (length ss) → lastKeyOf (getD (tiles ss) i noTile .spots) < firstKeyOf (getD (tiles ss) (suc i) noTile .spots)
+  -- "as the upward sweep in rank order makes them"
+  pub makers : (i : ℕ) → cutsFor (length ss) ≤ i → suc i < length (tiles ss)
+      → rankKey (getD (tiles ss) i noTile .made) < rankKey (getD (tiles ss) (suc i) noTile .made)
+  pub above : (i : ℕ) → cutsFor (length ss) ≤ i → i < length (tiles ss) → (k : ℕ) → List·Memᴰ k (keys (getD (tiles ss) i noTile .spots))
+      → rankKey (getD (tiles ss) i noTile .made) < rankKey k
+  -- the place blocks stand first, and each fused block takes the place of two
+  pub joins : Joins ss (upTo (suc (cutsFor (length ss))) (length (tiles ss) - cutsFor (length ss))) (upTo 1 (cutsFor (length ss)))
+
 -- what a Report needs of the blocks that it reads
 pub record Enough (q : Query) (ss : List Spot) : Type 0 where
   pub found : keep (wants q) (standingSpots (blocksMet q ss)) ≡ keep (wants q) ss
@@ -73,6 +113,7 @@ pub record Enough (q : Query) (ss : List Spot) : Type 0 where
 pub record SweepLaws (ss : List Spot) : Type 0 where
   pub sizes : TileSizes ss
   pub tile : (i : ℕ) → i < length (tiles ss) → TileAt ss i (getD (tiles ss) i noTile)
+  pub fused : Fused ss
   pub inside : NumbersInside ss
   pub stood : (y : ℕ) → Stood y ss
   pub enough : (q : Query) → Enough q ss

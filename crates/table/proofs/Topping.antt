@@ -37,14 +37,14 @@ use Rattle.table.specs.TopSizes.{Gives}
 use Rattle.table.proofs.Searching.{search-short, search-lent, search-broken, search-many, search-given}
 
 module _ (x1 x2 : ℤ) (k : ℕ) (t out map : List ℕ) where
-  abbrev once : Type 0
-  once = rising (keys (spots (topWalk t x1 x2 k))) ≡ true
+  abbrev once : Bool
+  once = rising (keys (spots (topWalk t x1 x2 k)))
 
   pub top-short : (r : Answer) → tableSized (length t) ≡ false → r ≡ answer 1 0 → TopPost x1 x2 k t out map r out map
-  top-short r = search-short (top x1 x2 k) refl refl refl x1 x2 once (topTable t x1 x2 k) t out map r
+  top-short r = search-short (top x1 x2 k) refl refl x1 x2 (topTable t x1 x2 k) once t out map r
 
   pub top-lent : (r : Answer) → tableSized (length t) ≡ true → eqb (length map) 512 ≡ false → r ≡ answer 2 0 → TopPost x1 x2 k t out map r out map
-  top-lent r = search-lent (top x1 x2 k) refl refl refl x1 x2 once (topTable t x1 x2 k) t out map r
+  top-lent r = search-lent (top x1 x2 k) refl refl x1 x2 (topTable t x1 x2 k) once t out map r
 
   module _ (e : tableSized (length t) ≡ true) (f : eqb (length map) 512 ≡ true) where
     table-broken : topWalk t x1 x2 k ≡ broken → isBroken (topTable t x1 x2 k) ≡ true
@@ -53,7 +53,7 @@ module _ (x1 x2 : ℤ) (k : ℕ) (t out map : List ℕ) where
 
     -- a rule is broken
     pub top-broken : (r : Answer) → topWalk t x1 x2 k ≡ broken → r ≡ answer 3 0 → TopPost x1 x2 k t out map r out map
-    top-broken r h = search-broken (top x1 x2 k) refl refl refl x1 x2 once (topTable t x1 x2 k) t out map r e f (table-broken h)
+    top-broken r h = search-broken (top x1 x2 k) refl refl x1 x2 (topTable t x1 x2 k) once t out map r e f (table-broken h)
 
     table-whole : isBroken (topWalk t x1 x2 k) ≡ false → isBroken (topTable t x1 x2 k) ≡ false
     unfolding topTable
@@ -66,7 +66,7 @@ module _ (x1 x2 : ℤ) (k : ℕ) (t out map : List ℕ) where
     -- more spots than the output holds
     pub top-many : (r : Answer) (n : ℕ) → Gives t x1 x2 k n → length out / 12 < n → r ≡ answer 5 n
         → TopPost x1 x2 k t out map r out map
-    top-many r n d = search-many (top x1 x2 k) refl refl refl x1 x2 once (topTable t x1 x2 k) t out map r e f n (table-whole (d .intact)) (d .many)
+    top-many r n d = search-many (top x1 x2 k) refl refl x1 x2 (topTable t x1 x2 k) once t out map r e f n (table-whole (d .intact)) (d .many)
 
     -- a block that the walk reads is a node's
     node-block : (b : ℕ) → List·Memᴰ b (blocksRead (topWalk t x1 x2 k)) → 1 ≤ b
@@ -87,7 +87,7 @@ module _ (x1 x2 : ℤ) (k : ℕ) (t out map : List ℕ) where
         → n ≡ length given → n ≤ length out / 12 → r ≡ answer 0 n → out′ ≡ spotsBytes given ++ drop (12 * length given) out → map′ ≡ readMap blocks
         → TopPost x1 x2 k t out map r out′ map′
     top-given r n out′ map′ d places =
-        search-given (top x1 x2 k) refl refl refl x1 x2 once (topTable t x1 x2 k) t out map r e f n out′ map′
+        search-given (top x1 x2 k) refl refl x1 x2 (topTable t x1 x2 k) once t out map r e f n out′ map′
         (record {
           intact = table-whole (d .intact);
           many = d .many;

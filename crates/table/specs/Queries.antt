@@ -2,12 +2,13 @@
 -- output, the read map and the counts as lent, out′, map′ and counts′ as left.
 -- Assumes nothing.
 use mathlib.Core.Path.{_≡_}
-use Prim.Native.Nat.{ℕ, _*_, _/_, _≤_, _<_}
-use mathlib.Core.Bool.{true, cond}
+use Prim.Native.Nat.{ℕ, _*_, _≤_}
+use lib.Dec.{eqb}
+use mathlib.Core.Bool.{Bool, true, cond}
 use mathlib.Core.List.{List, _++_, List·Memᴰ}
 use lib.ListN.{length}
-use lib.IntN.{ℤ, pos}
-use Rattle.octets.specs.Lists.{has, every, rising}
+use lib.IntN.{ℤ}
+use Rattle.octets.specs.Lists.{every, rising}
 use Rattle.octets.specs.Bitmap.{bit}
 use Rattle.spot.specs.Keys.{limited}
 use Rattle.spot.specs.Spots.{keys, limitedFrom}
@@ -17,8 +18,10 @@ use Rattle.spot.specs.declared.Query.{Query}
 use Rattle.block.specs.Answers.{answer}
 use Rattle.block.specs.declared.Answer.{Answer}
 use Rattle.block.specs.Node.{storeOf}
+use Rattle.block.specs.Table.{mapBytes}
 use Rattle.tree.specs.Walk.{Walk, broken, walked, spots, blocksRead, walkTable}
 use Rattle.tree.specs.Sound.{sound}
+use Rattle.tree.specs.ReadMap.{ones}
 use Rattle.tree.specs.Report.{reportTable}
 use Rattle.tree.specs.Top.{topWalk, topTable}
 use Rattle.within_theory.specs.Reading.{withinTable, ceilingWithin, foundOnce}
@@ -26,7 +29,7 @@ use Rattle.ranges.specs.Ranges.{forEach, countEach}
 use Rattle.ranges.specs.declared.Range.{Range}
 use Rattle.report.specs.Joined.{joined, countsOf}
 use Rattle.table.specs.Calls.{Call, report, top, count, check, reportMany, topWithin}
-use Rattle.table.specs.Answers.{ofTable, withOutput, withCounts, earlyNumber, unlessRefused, spotsAnswer, outputLeft, mapLeft, countsLeft, ceilingLeft, outcomes}
+use Rattle.table.specs.Answers.{ofTable, withOutput, withCounts, earlyNumber, unlessRefused, spotsAnswer, outputLeft, mapLeft, countsLeft, ceilingLeft}
 
 -- 3 where a rule is broken, else 0 or 5
 unfoldable pub walkAnswer : ℕ → Walk → Answer
@@ -83,40 +86,26 @@ pub record HandsOutEach (rs : List Range) (t out : List ℕ) (r : Answer) (count
   pub header : bit map′ 0 ≡ true
   pub limits : (x : Range) → List·Memᴰ x rs → every limited (keys (given x)) ≡ true
 
--- what the call c, a best-first search over these places, leaves on every table, beside what it promises `exactly`: 1 and 2 as the lengths give them, else 0, 3 with
--- detail 0, or 5 with more spots than the output holds
-pub record SearchPost (c : Call) (x1 x2 : ℤ) (exactly : Type 0) (t out map : List ℕ) (r : Answer) (out′ map′ : List ℕ) : Type 0 where
-  pub exact : exactly
-  pub byLengths : (earlyNumber (withOutput t out map) c ≡ 0 → ⊥) → r ≡ answer (earlyNumber (withOutput t out map) c) 0
-  pub refusals : earlyNumber (withOutput t out map) c ≡ 0 → has (r .number) (outcomes c) ≡ true
-  pub ruleBroken : r .number ≡ 3 → r .detail ≡ 0
-  pub tooMany : r .number ≡ 5 → length out / 12 < r .detail
-  pub unchanged : (r .number ≡ 0 → ⊥) → (out′ ≡ out) × (map′ ≡ map)
+-- what the call c, a best-first search that finds and reads what the walk w does, leaves on every table. Where an identity is found twice, which only an unsound table
+-- has, the choice between the two is free: there `handsOut` alone speaks of the output.
+pub record SearchPost (c : Call) (x1 x2 : ℤ) (w : Walk) (once : Bool) (t out map : List ℕ) (r : Answer) (out′ map′ : List ℕ) : Type 0 where
+  pub answered : r ≡ unlessRefused (earlyNumber (withOutput t out map) c) (walkAnswer (length out) w)
+  pub marks : map′ ≡ mapLeft (r .number) (blocksRead w) map
+  pub output : once ≡ true → out′ ≡ outputLeft (r .number) (spots w) out
+  pub unchanged : (r .number ≡ 0 → ⊥) → out′ ≡ out
   pub handsOut : r .number ≡ 0 → HandsOut (topQuery x1 x2 0) t out r out′ map′
 
 -- "Top(x1, x2, k), k unsigned 32-bit, gives, of the live spots with x1 ≤ place ≤ x2, the k highest in rank order (all, if fewer), highest first";
--- "Among equal ranks Top shall list the lower place first and choose by it". Where the walk finds an identity twice, which only an unsound table does, the choice between the two is free.
+-- "Among equal ranks Top shall list the lower place first and choose by it"
 abbrev pub TopPost : ℤ → ℤ → ℕ → List ℕ → List ℕ → List ℕ → Answer → List ℕ → List ℕ → Type 0
-TopPost x1 x2 k t out map r out′ map′ =
-    SearchPost (top x1 x2 k) x1 x2 (rising (keys (spots (topWalk t x1 x2 k))) ≡ true → QueryPost (top x1 x2 k) (topTable t x1 x2 k) t out map r out′ map′) t out map r
-    out′
-    map′
+TopPost x1 x2 k t = SearchPost (top x1 x2 k) x1 x2 (topTable t x1 x2 k) (rising (keys (spots (topWalk t x1 x2 k)))) t
 
 -- request 2026-10: "the guide allows Top, in a call of its own with Top's refusals, a 32-bit number of node blocks". The reading order, what is given and the ceiling
--- are `reading`, `givenOf` and `ceilingOf`; 5 is about the spots that this call gives. Where an identity is found twice, which only an unsound table has, no
--- more is promised than `SearchPost` says of every table.
+-- are `reading`, `givenOf` and `ceilingOf`; 5 is about the spots that this call gives.
 pub record TopWithinPost (x1 x2 : ℤ) (k a : ℕ) (t out map : List ℕ) (r : Answer) (out′ map′ : List ℕ) (c : ℤ) : Type 0 where
-  pub search : SearchPost (topWithin x1 x2 k a) x1 x2
-      (foundOnce t x1 x2 k a ≡ true → QueryPost (topWithin x1 x2 k a) (withinTable t x1 x2 k a) t out map r out′ map′)
-      t
-      out
-      map
-      r
-      out′
-      map′
+  pub search : SearchPost (topWithin x1 x2 k a) x1 x2 (withinTable t x1 x2 k a) (foundOnce t x1 x2 k a) t out map r out′ map′
   -- "The ceiling, returned after the detail (0 if refused)"
-  pub ceiling : foundOnce t x1 x2 k a ≡ true → c ≡ ceilingLeft (r .number) (ceilingWithin t x1 x2 k a)
-  pub refused : (r .number ≡ 0 → ⊥) → c ≡ pos 0
+  pub ceiling : c ≡ ceilingLeft (r .number) (ceilingWithin t x1 x2 k a)
 
 -- "Count gives the number of live spots"
 unfoldable pub countAnswer : Walk → Answer
@@ -129,3 +118,7 @@ pub record CountPost (t : List ℕ) (r : Answer) : Type 0 where
 -- "Check says yes exactly if the table is sound"; "1 or 0 for Check's yes or no"
 pub record CheckPost (t : List ℕ) (r : Answer) : Type 0 where
   pub answered : r ≡ unlessRefused (earlyNumber (ofTable t) check) (answer 0 (cond (sound t) 1 0))
+
+-- "The number read is the count of ones", of the map that a call has left; "2, detail 0" where "the read map isn't 512 bytes"
+pub record BlocksReadPost (map : List ℕ) (r : Answer) : Type 0 where
+  pub answered : r ≡ cond (eqb (length map) mapBytes) (answer 0 (ones map)) (answer 2 0)

@@ -3,9 +3,9 @@
 -- Assumes nothing.
 use mathlib.Core.Path.{_≡_}
 use mathlib.Core.Logic.{_≢_}
-use Prim.Native.Nat.{ℕ, zero, suc, _<_}
+use Prim.Native.Nat.{ℕ, zero, suc, _≤_, _<_}
 use mathlib.Core.Bool.{true, false, cond}
-use mathlib.Core.List.{List, _++_}
+use mathlib.Core.List.{List, [], _∷_, _++_}
 use mathlib.Core.Option.{Option, none, some}
 use lib.ListN.{length, drop, replicate}
 use lib.IntN.{ℤ}
@@ -20,7 +20,8 @@ use Rattle.block.specs.Header.{headOf}
 use Rattle.block.specs.Node.{storeOf}
 use Rattle.block.specs.HeaderRules.{headerOk}
 use Rattle.block.specs.Fresh.{formatted}
-use Rattle.message.specs.Changes.{changesOf}
+use Rattle.message.specs.declared.Change.{Change}
+use Rattle.message.specs.Changes.{changeKey, changesOf}
 use Rattle.message.specs.Messages.{readMessage}
 use Rattle.message.specs.Effects.{afterAll, appliedAnswer}
 use Rattle.tree.specs.Part.{whole}
@@ -100,6 +101,21 @@ pub record RebuildPost (t w : List ℕ) (r : Answer) (t′ w′ : List ℕ) : Ty
   pub carriedOut : r .number ≡ 0
       → every (λ b. settled (storeOf t′ b)) (reach (headOf t′ .levels) (storeOf t′) (whole (headOf t′))) ≡ true
 
+-- a message of one change, of the key j, on every table, sound or not: 3 and 4 as Add and Withdraw have them. 3: "block 0, or a node block that is read, breaks a rule
+-- that it and the entry leading to it can show"; 4: "Add: capacity live spots and the identity not live".
+pub record AsOne (t : List ℕ) (j : ℕ) (r : Answer) : Type 0 where
+  pub path : lookedUp t j ≡ Broken → r .number ≡ 3
+  pub full : r .number ≡ 4 → Full t j
+
+-- a message of several changes cs, on every table, sound or not: everything is read and laid out anew, or nothing is written
+pub record AllAnew (cs : List Change) (t : List ℕ) (r : Answer) (t′ : List ℕ) : Type 0 where
+  -- 3: "block 0, or a node block that is read, breaks a rule ..", or the spots read don't rise strictly or are more than the capacity
+  pub broken : layable (length t) (walkTable t everything) ≡ false → r .number ≡ 3
+  -- "leaves the live spots that the changes one after another would"
+  pub anew : r .number ≡ 0 → (sound t′ ≡ true) × (liveSpots t′ ≡ afterAll cs (liveSpots t))
+  -- "If any would be turned down, nothing is applied and the first such one's number is returned, with its position": which one that is, a sound table alone says
+  pub full : r .number ≡ 4 → sound t ≡ true
+
 -- request 2026-06: "Applying it .. leaves the live spots that the changes one after another would. If any would be turned down, nothing is applied and the first
 -- such one's number is returned, with its position from 0 as detail."
 pub record ApplyPost (m t w : List ℕ) (r : Answer) (t′ w′ : List ℕ) : Type 0 where
@@ -112,5 +128,11 @@ pub record ApplyPost (m t w : List ℕ) (r : Answer) (t′ w′ : List ℕ) : Ty
       w′
   -- on every table, sound or not: the detail that comes with 4 is a position
   pub position : r .number ≡ 4 → r .detail < length (changesOf (readMessage m))
+  -- on every table whose block 0 keeps the rules: a message of no changes is accepted, and changes nothing
+  pub none : earlyNumber (withScratch t w) (apply m) ≡ 0 → headerOk (length t) (headOf t) ≡ true → changesOf (readMessage m) ≡ []
+      → (r ≡ answer 0 0) × (t′ ≡ t)
+  -- on every table: one change goes the way of Add or Withdraw, several are carried out all at once
+  pub one : (c : Change) → changesOf (readMessage m) ≡ c ∷ [] → earlyNumber (withScratch t w) (apply m) ≡ 0 → AsOne t (changeKey c) r
+  pub several : earlyNumber (withScratch t w) (apply m) ≡ 0 → 2 ≤ length (changesOf (readMessage m)) → AllAnew (changesOf (readMessage m)) t r t′
   -- the figure in block 0: exact before, exact after
   pub exact : sound t ≡ true → headOf t .bound ≡ liveCount t → headOf t′ .bound ≡ liveCount t′

@@ -4,7 +4,7 @@ ghost use mathlib.Core.Bool.{true};
 ghost use lib.ListN.{length, replicate};
 ghost use Rattle.block.specs.Answers.{answer};
 ghost use Rattle.block.specs.Table.{tableSized};
-ghost use Rattle.table.specs.Queries.{ReportPost, TopPost, CountPost, CheckPost};
+ghost use Rattle.table.specs.Queries.{ReportPost, TopPost, CountPost, CheckPost, BlocksReadPost};
 ghost use Rattle.table.specs.Updates.{FormatPost, AddPost, WithdrawPost, RebuildPost};
 ghost use Rattle.table.specs.NoneGiven.{NoneGiven};
 ghost use Rattle.table.specs.TopSizes.{AllCounted, TopCounted, TopSized, Writable, AllWritten, Written};
@@ -270,6 +270,20 @@ pub fn top(
     }
     top_write(table, &mut read, q, k as usize, output, n, all.all);
     octets::copy(&read, read_map, 512);
+    block::Answer {
+        number: 0,
+        detail: n as u32,
+    }
+}
+
+// How many blocks were read, by the read map that a call has left.
+pub fn blocks_read(read_map: &[u8]) -> block::Answer
+    ensures { λ r. ⌜ BlocksReadPost (now («read_map» .entry)) r ⌝ }
+{
+    if read_map.len() != 512 {
+        return plain_answer(2);
+    }
+    let n = octets::ones(read_map);
     block::Answer {
         number: 0,
         detail: n as u32,

@@ -14,7 +14,7 @@ use Rattle.spot.specs.Spots.{spotAt, spotsIn, fromOn}
 use Rattle.spot.specs.declared.Spot.{Spot}
 use Rattle.spot.specs.declared.Query.{Query}
 use Rattle.block.specs.Answers.{answer}
-use Rattle.block.specs.Table.{block}
+use Rattle.block.specs.Table.{blocksOf, block}
 use Rattle.block.specs.declared.Answer.{Answer}
 use Rattle.tree.specs.Walk.{Walk, broken, walked, isBroken, spots, blocksRead}
 use Rattle.tree.specs.ReadMap.{readMap}
@@ -45,7 +45,7 @@ module _ (bytes map : ℕ) where
 
 module _ (t : List ℕ) (q : Query) where
   abbrev tiles : Bool
-  tiles = every (λ b. tileFine (tileEntry t b) (block t b)) (tilesRead t q)
+  tiles = every (λ b. tileFine (blocksOf (length t)) b (tileEntry t b) (block t b)) (tilesRead t q)
 
   fine-is : tourFine t q ≡ catalogueFine (length t) (block t 0) && tiles
   unfolding tourFine

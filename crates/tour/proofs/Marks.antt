@@ -13,12 +13,11 @@ use Rattle.octets.specs.Bitmap.{bit}
 use Rattle.octets.proofs.Order.{less-or-not}
 use Rattle.octets.proofs.Tests.{keep-in}
 use Rattle.octets.proofs.Sets.{has-mem, mem-has, has-not, has-keep}
-use Rattle.octets.proofs.Once.{Once, fewer, keep-once}
-use Rattle.octets.proofs.UpTo.{has-upTo, has-upTo-not, upTo-once}
+use Rattle.octets.proofs.Once.{fewer}
+use Rattle.octets.proofs.UpTo.{has-upTo, has-upTo-not}
 use Rattle.spot.specs.Query.{leastOf}
 use Rattle.spot.specs.declared.Spot.{Spot}
 use Rattle.spot.specs.declared.Query.{Query}
-use Rattle.block.specs.Table.{blocksOf}
 use Rattle.tree.specs.ReadMap.{isRead, readMap, ones}
 use Rattle.tree.proofs.Marks.{map-bit, ones-few}
 use Rattle.sweep.specs.Sweep.{StandingBlock, standingAt}
@@ -29,6 +28,7 @@ use Rattle.sweep.proofs.Steps.{numbers-in, numbers-from}
 use Rattle.catalogue.specs.Catalogue.{tileEntry, asks, tilesRead}
 use Rattle.catalogue.proofs.Blocks.{blocks-pressed}
 use Rattle.catalogue.proofs.Fine.{asks-met}
+use Rattle.tour.proofs.Steps.{read-once}
 
 -- ---- the numbers of blocks that stand
 
@@ -89,10 +89,6 @@ module _ (ss : List Spot) (g : Pressable ss) (w : SweepLaws ss) (q : Query) wher
   pub met-to-read : {b : ℕ} → List·Memᴰ b (numbers (blocksMet q ss)) → List·Memᴰ b (tilesRead (pressed ss) q)
   met-to-read {b} i = has-mem b (tilesRead (pressed ss) q) (read-met b ∙ mem-has b (numbers (blocksMet q ss)) i)
 
-  pub read-once : Once (tilesRead (pressed ss) q)
-  unfolding tilesRead
-  read-once = let m = blocksOf (length (pressed ss)) in keep-once (λ b. asks q m b (tileEntry (pressed ss) b)) (upTo 1 (m - 1)) (upTo-once 1 (m - 1))
-
   -- ---- the map
 
   pub marks-met : (b : ℕ) → b < 4096 → bit (readMap (tilesRead (pressed ss) q)) b ≡ eqb b 0 || has b (numbers (blocksMet q ss))
@@ -101,5 +97,5 @@ module _ (ss : List Spot) (g : Pressable ss) (w : SweepLaws ss) (q : Query) wher
 
   pub ones-met : ones (readMap (tilesRead (pressed ss) q)) ≤ suc (length (blocksMet q ss))
   ones-met =
-      let f = fewer (tilesRead (pressed ss) q) (numbers (blocksMet q ss)) read-once (λ b i. read-to-met i) in
+      let f = fewer (tilesRead (pressed ss) q) (numbers (blocksMet q ss)) (read-once (pressed ss) q) (λ b i. read-to-met i) in
       omega (arith, f, ones-few (tilesRead (pressed ss) q), length-numbers (blocksMet q ss))

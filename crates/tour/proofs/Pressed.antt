@@ -32,7 +32,8 @@ use Rattle.catalogue.proofs.Blocks.{tile-spots}
 use Rattle.catalogue.proofs.Fine.{read-from, tour-fine}
 use Rattle.tour.specs.Tour.{withTile, gathered, tourWalk, tourReport}
 use Rattle.tour.specs.Promises.{listReport}
-use Rattle.tour.proofs.Marks.{met-stands, read-to-met, met-to-read, read-once}
+use Rattle.tour.proofs.Steps.{read-once}
+use Rattle.tour.proofs.Marks.{met-stands, read-to-met, met-to-read}
 
 -- ---- spots in blocks side by side
 
@@ -107,12 +108,12 @@ putAll-own (s ∷ xs) found {x} i =
 -- ---- what is gathered
 
 -- no key stands twice in the lists of these blocks
-record Disjoint (f : ℕ → List Spot) (bs : List ℕ) : Type 0 where
-  each : (b : ℕ) → List·Memᴰ b bs → distinct (keys (f b)) ≡ true
-  one : (b c k : ℕ) → List·Memᴰ b bs → List·Memᴰ c bs → List·Memᴰ k (keys (f b)) → List·Memᴰ k (keys (f c)) → b ≡ c
+pub record Disjoint (f : ℕ → List Spot) (bs : List ℕ) : Type 0 where
+  pub each : (b : ℕ) → List·Memᴰ b bs → distinct (keys (f b)) ≡ true
+  pub one : (b c k : ℕ) → List·Memᴰ b bs → List·Memᴰ c bs → List·Memᴰ k (keys (f b)) → List·Memᴰ k (keys (f c)) → b ≡ c
 
 module _ (t : List ℕ) (q : Query) where
-  abbrev own : ℕ → List Spot
+  abbrev pub own : ℕ → List Spot
   own b = keep (wants q) (tileSpots t b)
 
   pub gathered-from : (bs : List ℕ) (found : List Spot) {x : Spot} → List·Memᴰ x (gathered t q bs found)
@@ -137,7 +138,7 @@ module _ (t : List ℕ) (q : Query) where
       (List·Memᴰ·cases-cons i)
 
   -- it rises in place order
-  gathered-rises : (bs : List ℕ) (found : List Spot) → Once bs → Disjoint own bs → rising (keys found) ≡ true
+  pub gathered-rises : (bs : List ℕ) (found : List Spot) → Once bs → Disjoint own bs → rising (keys found) ≡ true
       → ((b k : ℕ) → List·Memᴰ b bs → List·Memᴰ k (keys (own b)) → List·Memᴰ k (keys found) → ⊥)
       → rising (keys (gathered t q bs found)) ≡ true
   unfolding withTile
@@ -198,7 +199,7 @@ module _ (ss : List Spot) (g : Pressable ss) (w : SweepLaws ss) (q : Query) wher
   gathered-is : gathered (pressed ss) q (tilesRead (pressed ss) q) [] ≡ keep (wants q) ss
   gathered-is =
       same-members (gathered (pressed ss) q (tilesRead (pressed ss) q) []) (keep (wants q) ss)
-      (gathered-rises (pressed ss) q (tilesRead (pressed ss) q) [] (read-once ss g w q) disjoint refl (λ b k i j h. List·Memᴰ·not-nil h))
+      (gathered-rises (pressed ss) q (tilesRead (pressed ss) q) [] (read-once (pressed ss) q) disjoint refl (λ b k i j h. List·Memᴰ·not-nil h))
       (keep-rises (wants q) 0 ss (g .rise)) to from
     where
       to : (x : Spot) → List·Memᴰ x (gathered (pressed ss) q (tilesRead (pressed ss) q) []) → List·Memᴰ x (keep (wants q) ss)

@@ -1,11 +1,13 @@
 -- Request 2026-03 of the Report of a tour that pressing made.
 -- Assumes nothing.
-use mathlib.Core.Path.{_≡_, ap, _∙_}
+use mathlib.Core.Path.{_≡_, ap, ap₂, _∙_}
+use mathlib.Core.Bool.{Bool, cond}
 use mathlib.Core.List.{List}
 use Prim.Native.Nat.{ℕ, _≤_}
 use native.Mathlib.Omega.{arith}
 use lib.ListN.{length}
 use lib.IntN.{ℤ}
+use lib.Dec.{eqb}
 use Rattle.octets.specs.Lists.{keep}
 use Rattle.octets.specs.Bitmap.{bit}
 use Rattle.spot.specs.Query.{query, fromOf, wants}
@@ -21,6 +23,7 @@ use Rattle.sweep.specs.Pressed.{Pressable, pressed}
 use Rattle.sweep.specs.Report.{mostRead}
 use Rattle.sweep.specs.Laws.{SweepLaws}
 use Rattle.catalogue.specs.Catalogue.{tilesRead}
+use Rattle.catalogue.proofs.Blocks.{sized-pressed}
 use Rattle.tour.specs.Tour.{tourReport, tourNumber, TourPost}
 use Rattle.tour.specs.Promises.{listReport, OnPressed}
 use Rattle.tour.proofs.Accepted.{accepted}
@@ -30,10 +33,14 @@ use Rattle.tour.proofs.Pressed.{report-is}
 
 module _ (ss : List Spot) (g : Pressable ss) (w : SweepLaws ss) (x1 x2 y : ℤ) (out map : List ℕ) (r : Answer) (out′ map′ : List ℕ)
     (p : TourPost x1 x2 y (pressed ss) out map r out′ map′) where
-  answered : r ≡ unlessRefused (tourNumber (length (pressed ss)) (length map)) (spotsAnswer (length out) (length (listReport x1 x2 y ss)))
+  -- a pressed tour has its length
+  number-is : tourNumber (length (pressed ss)) (length map) ≡ cond (eqb (length map) 512) 0 2
+  unfolding tourNumber
+  number-is = ap (λ (b : Bool). cond b (cond (eqb (length map) 512) 0 2) 1) (sized-pressed ss g w)
+
+  answered : r ≡ unlessRefused (cond (eqb (length map) 512) 0 2) (spotsAnswer (length out) (length (listReport x1 x2 y ss)))
   unfolding walkAnswer
-  answered =
-      p .answered ∙ ap (λ (v : Walk). unlessRefused (tourNumber (length (pressed ss)) (length map)) (walkAnswer (length out) v)) (report-is ss g w x1 x2 y)
+  answered = p .answered ∙ ap₂ (λ (n : ℕ) (v : Walk). unlessRefused n (walkAnswer (length out) v)) number-is (report-is ss g w x1 x2 y)
 
   map-is : r .number ≡ 0 → map′ ≡ readMap (tilesRead (pressed ss) (query x1 x2 y))
   map-is z = accepted x1 x2 y (pressed ss) out map r out′ map′ p z .marks

@@ -57,7 +57,7 @@ module _ (t u : List ℕ) (long : length u ≡ length t) (first : block u 0 ≡ 
     unfolding tourFine
     fine-second =
         ap₂ _&&_ (ap₂ catalogueFine long first)
-        (ap (every (fine u q)) (read-second q) ∙ every-same (fine u q) (fine t q) (tilesRead t q) (λ b i. ap₂ tileFine (entry-second b) (same b i)))
+        (ap (every (fine u q)) (read-second q) ∙ every-same (fine u q) (fine t q) (tilesRead t q) (λ b i. ap (λ (n : ℕ). tileFine (blocksOf n) b (tileEntry u b) (block u b)) long ∙ ap₂ (tileFine (blocksOf (length t)) b) (entry-second b) (same b i)))
 
     walk-second : tourWalk u q ≡ tourWalk t q
     unfolding tourWalk

@@ -8,8 +8,9 @@ use native.Mathlib.Omega.{arith}
 use lib.ListN.{length, replicate, length-replicate}
 use Rattle.octets.specs.Lists.{every, keep, upTo}
 use Rattle.octets.specs.Bitmap.{setBit}
-use Rattle.octets.proofs.Tests.{every-mem, every-join, keep-append, keep-mem, keep-there, refuted}
-use Rattle.octets.proofs.UpTo.{upTo-more, upTo-in, upTo-from}
+use Rattle.octets.proofs.Tests.{and-left, every-mem, every-join, keep-append, keep-mem, keep-passes, keep-there, refuted}
+use Rattle.octets.proofs.UpTo.{upTo-more, upTo-in, upTo-from, upTo-once}
+use Rattle.octets.proofs.Once.{Once, keep-once}
 use Rattle.spot.specs.Query.{wants}
 use Rattle.spot.specs.Spots.{spotsIn, putAll}
 use Rattle.spot.specs.declared.Spot.{Spot}
@@ -20,10 +21,11 @@ use Rattle.tree.specs.Trace.{marked}
 use Rattle.tree.proofs.MapBits.{marked-append, marked-length, marks-make}
 use Rattle.query.specs.Merging.{Orderly}
 use Rattle.query.specs.Walks.{Collected}
-use Rattle.catalogue.specs.Catalogue.{tourSized, catalogueFine, tileEntry, tileFine, tileSpots, asks, tilesRead}
+use Rattle.sweep.specs.Report.{meetsSpan}
+use Rattle.catalogue.specs.Catalogue.{tourSized, tileEntry, tileFine, tileSpots, stands, asks, tilesRead}
+use Rattle.catalogue.specs.Reading.{LimitedEntry}
 use Rattle.catalogue.specs.declared.Entry.{Entry}
 use Rattle.catalogue.proofs.Lengths.{sized-lengths}
-use Rattle.catalogue.proofs.Facts.{EntryFacts, entry-fine}
 use Rattle.tour.specs.Tour.{withTile, gathered}
 use Rattle.tour.specs.Gathering.{Gatherable, TourReadable, TourRead}
 use Rattle.tour.specs.declared.Found.{Found}
@@ -40,7 +42,7 @@ module _ (t : List ℕ) (q : Query) where
   asked b = asks q blocks b (tileEntry t b)
 
   abbrev pub fine : ℕ → Bool
-  fine b = tileFine (tileEntry t b) (block t b)
+  fine b = tileFine blocks b (tileEntry t b) (block t b)
 
   -- the blocks read before block b
   abbrev readTo : ℕ → List ℕ
@@ -54,6 +56,17 @@ module _ (t : List ℕ) (q : Query) where
   pub read-inside : (b : ℕ) → List·Memᴰ b (tilesRead t q) → (1 ≤ b) × (b < blocks)
   unfolding tilesRead
   read-inside b i = let r = upTo-from 1 (blocks - 1) (keep-mem asked (upTo 1 (blocks - 1)) i .0) in (omega (arith, r .0), omega (arith, r .0, r .1))
+
+  -- each once, and it stands
+  pub read-once : Once (tilesRead t q)
+  unfolding tilesRead
+  read-once = keep-once asked (upTo 1 (blocks - 1)) (upTo-once 1 (blocks - 1))
+
+  pub read-stands : (b : ℕ) → List·Memᴰ b (tilesRead t q) → stands q blocks b (tileEntry t b) ≡ true
+  unfolding tilesRead asks
+  read-stands b i =
+      let e = tileEntry t b in
+      and-left (stands q blocks b e) (meetsSpan q (e .low) (e .high)) (keep-passes asked (upTo 1 (blocks - 1)) i)
 
   read-more : (b : ℕ) → 1 ≤ b → readTo (b + 1) ≡ readTo b ++ cond (asked b) (b ∷ []) []
   read-more b h =
@@ -116,7 +129,7 @@ module _ (t : List ℕ) (q : Query) where
       next-is = read-more b (s .some) ∙ ap (λ (c : Bool). readTo b ++ cond c (b ∷ []) []) (ap (asks q blocks b) (sym p) ∙ a)
 
       -- one that breaks its layout
-      pub read-stop : {seen′ found′ : List ℕ} {r : Found} → tileFine e (block t b) ≡ false → r .ok ≡ false → r .spots ≡ 0 → TourRead t q seen′ found′ r
+      pub read-stop : {seen′ found′ : List ℕ} {r : Found} → tileFine blocks b e (block t b) ≡ false → r .ok ≡ false → r .spots ≡ 0 → TourRead t q seen′ found′ r
       unfolding tilesRead
       read-stop f o z =
           record {
@@ -125,7 +138,7 @@ module _ (t : List ℕ) (q : Query) where
                 (refuted (every fine (tilesRead t q))
                 (λ h.
                 false≢true
-                (sym f ∙ ap (λ (x : Entry). tileFine x (block t b)) p
+                (sym f ∙ ap (λ (x : Entry). tileFine blocks b x (block t b)) p
                 ∙ every-mem fine (tilesRead t q) h (keep-there asked (upTo 1 (blocks - 1)) (upTo-in 1 (blocks - 1) b (s .some) (omega arith)) (ap (asks q blocks b) (sym p) ∙ a)))));
             few = omega arith;
             marks = λ h. absurd (false≢true (sym o ∙ h));
@@ -134,17 +147,15 @@ module _ (t : List ℕ) (q : Query) where
           }
 
       -- one in order
-      module _ (f : tileFine e (block t b) ≡ true) where
-        pub read-gatherable : tourSized (length t) ≡ true → catalogueFine (length t) (block t 0) ≡ true → Gatherable (block t b) e found n
-        read-gatherable z k =
+      module _ (f : tileFine blocks b e (block t b) ≡ true) where
+        pub read-gatherable : tourSized (length t) ≡ true → LimitedEntry e → Gatherable (block t b) e found n
+        read-gatherable z g =
             let u = sized-lengths (length t) z in
-            let g = subst EntryFacts (sym p) (entry-fine t b k (s .some) l) in
             record {
               long = block-length t b (omega (arith, u .whole));
-              some = g .some;
-              few = g .few;
-              low = g .low-limited;
-              high = g .high-limited;
+              entry = g;
+              blocks = blocks;
+              number = b;
               fine = f;
               order = s .order;
               buffer = s .buffer;
@@ -164,7 +175,7 @@ module _ (t : List ℕ) (q : Query) where
               some = omega arith;
               most = omega arith;
               few = omega (arith, s .few, s .some, c .1);
-              kept = ap (every fine) next-is ∙ every-join fine (readTo b) (b ∷ []) (s .kept) (and-true (fine b) ∙ ap (λ (x : Entry). tileFine x (block t b)) (sym p) ∙ f);
+              kept = ap (every fine) next-is ∙ every-join fine (readTo b) (b ∷ []) (s .kept) (and-true (fine b) ∙ ap (λ (x : Entry). tileFine blocks b x (block t b)) (sym p) ∙ f);
               marks = m ∙ ap (λ (x : List ℕ). setBit x b) (s .marks) ∙ sym (marked-append (replicate 512 0) (readTo b) (b ∷ [])) ∙ ap (marked (replicate 512 0)) (sym next-is);
               spots = own;
               order = subst Orderly (sym (c .0 .spots)) (c .0 .order);

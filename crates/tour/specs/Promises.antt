@@ -2,12 +2,12 @@
 -- Assumes nothing.
 use mathlib.Core.Path.{_≡_}
 use Prim.Native.Nat.{ℕ, _≤_, _<_}
-use mathlib.Core.Bool.{true, _||_}
+use mathlib.Core.Bool.{true, cond, _||_}
 use mathlib.Core.List.{List, List·Memᴰ}
 use lib.ListN.{length, take, getD}
 use lib.Dec.{eqb}
 use lib.IntN.{ℤ}
-use Rattle.octets.specs.Lists.{keep, every, has}
+use Rattle.octets.specs.Lists.{keep, every, has, distinct}
 use Rattle.octets.specs.Bitmap.{bit}
 use Rattle.octets.specs.Bytes.{be}
 use Rattle.spot.specs.Keys.{limited}
@@ -25,7 +25,7 @@ use Rattle.sweep.specs.Pressed.{pressed}
 use Rattle.sweep.specs.Report.{blocksMet, numbers, mostRead}
 use Rattle.press.specs.Press.{spotsGiven, PressPost}
 use Rattle.catalogue.specs.Catalogue.{tileSpots}
-use Rattle.tour.specs.Tour.{tourNumber, TourPost}
+use Rattle.tour.specs.Tour.{TourPost}
 
 -- all spots of a list with a place of the range and a rank of at least y, from x1 onward
 abbrev pub listReport : ℤ → ℤ → ℤ → List Spot → List Spot
@@ -33,8 +33,8 @@ listReport x1 x2 y ss = fromOn (fromOf (query x1 x2 y)) (keep (wants (query x1 x
 
 -- a Report of a pressed tour, with any arguments, output and map
 pub record OnPressed (ss : List Spot) (x1 x2 y : ℤ) (out map : List ℕ) (r : Answer) (out′ map′ : List ℕ) : Type 0 where
-  -- "3 if a block read breaks its layout, never on a pressed one"
-  pub answered : r ≡ unlessRefused (tourNumber (length (pressed ss)) (length map)) (spotsAnswer (length out) (length (listReport x1 x2 y ss)))
+  -- "1 if its length isn't 1 to 16 whole blocks", "3 if a block read breaks its layout, never on a pressed one", whose length is right
+  pub answered : r ≡ unlessRefused (cond (eqb (length map) 512) 0 2) (spotsAnswer (length out) (length (listReport x1 x2 y ss)))
   pub output : out′ ≡ outputLeft (r .number) (listReport x1 x2 y ss) out
   -- "reads just the catalogue and each block standing once all ranks under y are passed whose span of places meets the range"
   pub marks : r .number ≡ 0 → (b : ℕ) → b < 4096 → bit map′ b ≡ eqb b 0 || has b (numbers (blocksMet (query x1 x2 y) ss))
@@ -50,6 +50,8 @@ pub record TourHandsOut (x1 x2 y : ℤ) (t out : List ℕ) (r : Answer) (out′ 
   pub marked : (s : Spot) → List·Memᴰ s given → (b : ℕ) × (bit map′ b ≡ true) × List·Memᴰ s (tileSpots t b) × (b ≡ 0 → ⊥)
   pub header : bit map′ 0 ≡ true
   pub limits : every limited (keys given) ≡ true
+  -- blocks that stand at one time have no identity in common, as the catalogue shows
+  pub once : distinct (keys given) ≡ true
 
 -- "The marks follow the second-table rule": on a second tour of that length, equal in the marked blocks, an accepted call gives the same report and marks
 pub record SameTour (r r₂ : Answer) (out′ out₂′ map′ map₂′ : List ℕ) : Type 0 where

@@ -50,11 +50,11 @@ fn gather(tour: &[u8], q: spot::Query, seen: &mut [u8], found: &mut [u8]) -> Fou
     let mut n: usize = 0;
     let mut b = 1;
     while b < m {
-        let e = catalogue::entry_at(&tour[start..end], b);
+        let e = catalogue::read_entry(&tour[start..end], b);
         if catalogue::asks(q, m, b, e) {
             let from = b * 2048;
             let to = from + 2048;
-            if !catalogue::tile_ok(&tour[from..to], e) {
+            if !catalogue::tile_ok(&tour[from..to], m, b, e) {
                 return Found {
                     ok: false,
                     spots: 0,

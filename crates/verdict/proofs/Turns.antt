@@ -2,18 +2,16 @@
 -- Assumes nothing.
 use mathlib.Core.Path.{_≡_, refl, sym, ap, ap₂, subst, _∙_}
 use mathlib.Core.Logic.{_≢_}
-use Prim.Native.Nat.{ℕ, zero, suc, _+_, _-_, _≤_, _<_}
+use Prim.Native.Nat.{ℕ, suc, _+_, _-_, _≤_, _<_}
 use mathlib.Core.Bool.{Bool, true, false, cond, not, _&&_}
 use mathlib.Core.List.{List, [], _∷_, _++_, append-assoc, append-nil}
 use mathlib.Core.Option.{Option}
 use lib.ListN.{length, take}
-use lib.Dec.{leb, eqb}
+use lib.Dec.{eqb}
 use native.Mathlib.Omega.{arith}
 use Rattle.octets.specs.Lists.{has}
 use Rattle.octets.specs.Bytes.{be}
-use Rattle.octets.proofs.Order.{same-or-not}
 use Rattle.octets.proofs.Tests.{and-left, and-right}
-use mathlib.Core.Logic.{⊎-elim}
 use Rattle.spot.specs.Spots.{find}
 use Rattle.spot.specs.Keys.{limited}
 use Rattle.spot.specs.declared.Spot.{Spot}
@@ -36,9 +34,8 @@ use Rattle.rows.specs.Rows.{rowOf, rowKey, rowValue, rowAt, rowFits, putRow, ro
 use Rattle.rows.specs.Lining.{Rows, RowPut}
 use Rattle.rows.proofs.Merged.{row-key, row-fits, rows-more, row-after}
 use Rattle.verdict.specs.declared.There.{There}
-use Rattle.verdict.specs.declared.There.the-variants.{Yes, No, Unknown}
 use Rattle.verdict.specs.declared.Reckoned.{Reckoned}
-use Rattle.verdict.specs.Verdicts.{reckonedFor, reckoned, oneMore, oneLess, nextLive, thereAfter, refusedAt, Tried}
+use Rattle.verdict.specs.Verdicts.{reckonedFor, reckoned, nextLive, thereAfter, refusedAt, Tried}
 use Rattle.verdict.proofs.Steps.{refused-four, refused-other}
 use Rattle.verdict.proofs.Stepping.{thereIn, there-is, row-adds, stepped, step-is}
 
@@ -53,38 +50,6 @@ pub next-is : {most : ℕ} {adds : Bool} {y : There} {r : Reckoned} (t : List �
 unfolding reckonedFor
 next-is {most} {adds} {y} {r} t rs x live e f g h =
     e ∙ ap₂ (λ n b. nextLive n b y live) f g ∙ ap (λ (z : There). nextLive (capacity (length t)) (not (eqb (rowValue x) 0)) z live) h
-
-more-number : (most live : ℕ) → has (oneMore most live .number) (0 ∷ 3 ∷ 4 ∷ []) ≡ true
-unfolding oneMore
-more-number most live = go (leb most live)
-  where
-    go : (b : Bool) → has (cond b (reckoned 4 live) (reckoned 0 (suc live)) .number) (0 ∷ 3 ∷ 4 ∷ []) ≡ true
-    go true = refl
-    go false = refl
-
-less-number : (live : ℕ) → has (oneLess live .number) (0 ∷ 3 ∷ 4 ∷ []) ≡ true
-unfolding oneLess
-less-number zero = refl
-less-number (suc n) = refl
-
-next-number : (most : ℕ) (adds : Bool) (x : There) (live : ℕ) → has (nextLive most adds x live .number) (0 ∷ 3 ∷ 4 ∷ []) ≡ true
-next-number most adds Unknown live = refl
-next-number most true Yes live = refl
-next-number most false Yes live = less-number live
-next-number most true No live = more-number most live
-next-number most false No live = refl
-
-of-number : (t : List ℕ) (rs : List (List ℕ)) (x : List ℕ) (live : ℕ) → has (reckonedFor t rs x live .number) (0 ∷ 3 ∷ 4 ∷ []) ≡ true
-unfolding reckonedFor
-of-number t rs x live = next-number (capacity (length t)) (not (eqb (rowValue x) 0)) (thereAfter (rowAt (rowKey x) rs) (lookedUp t (rowKey x))) live
-
-pub refused-number : (n i : ℕ) → refusedAt n i .number ≡ n
-refused-number n i =
-    ⊎-elim (λ (e : n ≡ 4). ap (λ (a : Answer). a .number) (sym (refused-four n i e)) ∙ sym e)
-    (λ (e : n ≡ 4 → ⊥). ap (λ (a : Answer). a .number) (sym (refused-other n i e))) (same-or-not n 4)
-
-pub refused-detail : (n i : ℕ) → (n ≡ 4 → ⊥) → refusedAt n i .detail ≡ 0
-refused-detail n i e = ap (λ (a : Answer). a .detail) (sym (refused-other n i e))
 
 -- ---- one turn on a sound table
 
@@ -116,7 +81,7 @@ stepped-by bytes c ss y e = go (turnsDown bytes c ss) refl e
 
 -- ---- the turns
 
-module _ (t m : List ℕ) (h : List (List ℕ)) (live : ℕ) where
+module _ (t m : List ℕ) (h : List (List ℕ)) where
   -- i of n changes are done: these are the rows, and so many spots are live
   pub record Turn (n : ℕ) (k : List (List ℕ)) (spots r at i : ℕ) : Type 0 where
     pub few : i ≤ n
@@ -129,13 +94,13 @@ module _ (t m : List ℕ) (h : List (List ℕ)) (live : ℕ) where
     pub rows : Rows k r
     pub count : r ≤ i
     pub sized : length k ≡ length h
-    pub counts : sound t ≡ true → live ≡ liveCount t → spots ≡ length (afterAll past (liveSpots t))
-    pub judged : sound t ≡ true → live ≡ liveCount t
-        → appliedAnswer (length t) (changesOf (readMessage m)) (liveSpots t) ≡ appliedFrom (length t) i (changesOf (readChanges 0 (n - i) m at)) (afterAll past (liveSpots t))
+    pub counts : spots ≡ length (afterAll past (liveSpots t))
+    pub judged : appliedAnswer (length t) (changesOf (readMessage m)) (liveSpots t)
+        ≡ appliedFrom (length t) i (changesOf (readChanges 0 (n - i) m at)) (afterAll past (liveSpots t))
 
-  pub turn-start : {n : ℕ} → messageAnswer m ≡ answer 0 0 → n ≡ length (changesOf (readMessage m)) → Turn n h live 0 7 0
+  pub turn-start : {n live : ℕ} → messageAnswer m ≡ answer 0 0 → live ≡ liveCount t → n ≡ length (changesOf (readMessage m)) → Turn n h live 0 7 0
   unfolding liveCount
-  turn-start {n} a e =
+  turn-start {n} a known e =
       let ok = accepted-message m a in
       let x = message-there m (ok .0) in
       let same : be 2 m 5 ≡ n - 0 = omega (arith, e, message-count m (ok .0)) in
@@ -151,12 +116,12 @@ module _ (t m : List ℕ) (h : List (List ℕ)) (live : ℕ) where
         rows = record { inside = omega arith; rises = refl; fit = refl };
         count = omega arith;
         sized = refl;
-        counts = λ s k. k;
-        judged = λ s k. ap (λ (o : Option (List Change)). appliedFrom (length t) 0 (changesOf o) (liveSpots t)) is;
+        counts = known;
+        judged = ap (λ (o : Option (List Change)). appliedFrom (length t) 0 (changesOf o) (liveSpots t)) is;
       }
 
-module _ {t m : List ℕ} {h : List (List ℕ)} {live : ℕ} where
-  module _ {n : ℕ} {k : List (List ℕ)} {spots r at i : ℕ} (v : Turn t m h live n k spots r at i) (l : i < n) where
+module _ {t m : List ℕ} {h : List (List ℕ)} where
+  module _ {n : ℕ} {k : List (List ℕ)} {spots r at i : ℕ} (v : Turn t m h n k spots r at i) (l : i < n) where
     abbrev here : Change
     here = changeAt m at
 
@@ -187,33 +152,31 @@ module _ {t m : List ℕ} {h : List (List ℕ)} {live : ℕ} where
     abbrev spotsNow : List Spot
     spotsNow = afterAll (v .past) (liveSpots t)
 
-    module _ {x : List ℕ} {y : Reckoned} (ex : x ≡ rowOf (changeAt m at)) (e : y ≡ reckonedFor t (take r k) x spots) where
-      next-sound : sound t ≡ true → live ≡ liveCount t → Stepped (length t) here spotsNow y
-      next-sound s w =
+    module _ (s : sound t ≡ true) {x : List ℕ} {y : Reckoned} (ex : x ≡ rowOf (changeAt m at)) (e : y ≡ reckonedFor t (take r k) x spots) where
+      next-sound : Stepped (length t) here spotsNow y
+      next-sound =
           stepped-by (length t) here spotsNow y
-          (e ∙ ap (λ (z : List ℕ). reckonedFor t (take r k) z spots) ex ∙ ap₂ (λ (rs : List (List ℕ)) (j : ℕ). reckonedFor t rs (rowOf here) j) (v .is) (v .counts s w) ∙ of-is t s (v .past) here)
+          (e ∙ ap (λ (z : List ℕ). reckonedFor t (take r k) z spots) ex ∙ ap₂ (λ (rs : List (List ℕ)) (j : ℕ). reckonedFor t rs (rowOf here) j) (v .is) (v .counts) ∙ of-is t s (v .past) here)
 
-      judged-here : sound t ≡ true → live ≡ liveCount t → appliedAnswer (length t) (changesOf (readMessage m)) (liveSpots t) ≡ appliedFrom (length t) i (here ∷ rest) spotsNow
-      judged-here s w = v .judged s w ∙ ap (λ (cs : List Change). appliedFrom (length t) i cs spotsNow) split
+      judged-here : appliedAnswer (length t) (changesOf (readMessage m)) (liveSpots t) ≡ appliedFrom (length t) i (here ∷ rest) spotsNow
+      judged-here = v .judged ∙ ap (λ (cs : List Change). appliedFrom (length t) i cs spotsNow) split
 
-      pub turn-stops : {a : Answer} {k′ : List (List ℕ)} {so : ℕ} → y .number ≢ 0 → a ≡ refusedAt (y .number) i → Tried (live ≡ liveCount t) t m h k′ (record { answer = a; rows = so })
+      pub turn-stops : {a : Answer} {k′ : List (List ℕ)} {so : ℕ} → y .number ≢ 0 → a ≡ refusedAt (y .number) i → Tried t m h k′ (record { answer = a; rows = so })
       turn-stops {a} {k′} {so} z f =
-          let num : a .number ≡ y .number = ap (λ (b : Answer). b .number) f ∙ refused-number (y .number) i in
+          let turned = next-sound .refused z in
+          let four : a ≡ answer 4 i = f ∙ ap (λ (j : ℕ). refusedAt j i) (turned .1) ∙ sym (refused-four 4 i refl) in
+          let num : a .number ≡ 4 = ap (λ (b : Answer). b .number) four in
           record {
-            numbers =
-                ap (λ (j : ℕ). has j (0 ∷ 3 ∷ 4 ∷ [])) (num ∙ ap (λ (w : Reckoned). w .number) e) ∙ of-number t (take r k) x spots;
-            detail = λ w. ap (λ (b : Answer). b .detail) f ∙ refused-detail (y .number) i (λ q. w (num ∙ q));
-            position = λ w.
-                let at : a .detail ≡ i = ap (λ (b : Answer). b .detail) (f ∙ sym (refused-four (y .number) i (sym num ∙ w))) in
-                omega (arith, at, v .long, l);
-            lined = λ w. absurd (z (sym num ∙ w));
-            judged = λ s w.
-                let g = next-sound s w .refused z in
-                f ∙ ap (λ (j : ℕ). refusedAt j i) (g .1) ∙ sym (refused-four 4 i refl) ∙ sym (judged-here s w ∙ applied-turned (length t) i here rest spotsNow (g .0));
+            numbers = ap (λ (j : ℕ). has j (0 ∷ 3 ∷ 4 ∷ [])) num;
+            detail = λ w. absurd (w num);
+            position = λ w. omega (arith, ap (λ (b : Answer). b .detail) four, v .long, l);
+            lined = λ w. let no : ⊥ = omega (arith, num, w) in absurd no;
+            judged = λ w. four ∙ sym (judged-here ∙ applied-turned (length t) i here rest spotsNow (turned .0));
+            full = λ w. s;
           }
 
       pub turn-goes : {k′ : List (List ℕ)} {r′ at′ i′ : ℕ} → y .number ≡ 0 → RowPut k k′ r x r′ → at′ ≡ at + changeSize 0 (changeAt m at) → i′ ≡ suc i
-          → Turn t m h live n k′ (y .live) r′ at′ i′
+          → Turn t m h n k′ (y .live) r′ at′ i′
       turn-goes {k′} {r′} {at′} {i′} z p ea ei =
           let same : readChanges 0 (n - i′) m at′ ≡ readChanges 0 (n - suc i) m (at + changeSize 0 here) = ap₂ (λ j q. readChanges 0 (n - j) m q) ei ea in
           record {
@@ -227,18 +190,18 @@ module _ {t m : List ℕ} {h : List (List ℕ)} {live : ℕ} where
             rows = p .rows;
             count = omega (arith, p .count, v .count);
             sized = p .sized ∙ v .sized;
-            counts = λ s w. next-sound s w .accepted z .1 ∙ ap length (sym (after-append (v .past) here (liveSpots t)));
-            judged = λ s w.
-                judged-here s w ∙ applied-on (length t) i here rest spotsNow (next-sound s w .accepted z .0)
+            counts = next-sound .accepted z .1 ∙ ap length (sym (after-append (v .past) here (liveSpots t)));
+            judged =
+                judged-here ∙ applied-on (length t) i here rest spotsNow (next-sound .accepted z .0)
                 ∙ ap₂ (λ (j : ℕ) (us : List Spot). appliedFrom (length t) j rest us) (sym ei) (sym (after-append (v .past) here (liveSpots t)))
                 ∙ ap (λ (o : Option (List Change)). appliedFrom (length t) i′ (changesOf o) (afterAll (v .past ++ (here ∷ [])) (liveSpots t))) (sym same);
           }
 
-  module _ {n : ℕ} {k : List (List ℕ)} {spots r at i : ℕ} (v : Turn t m h live n k spots r at i) (l : n ≤ i) where
+  module _ {n : ℕ} {k : List (List ℕ)} {spots r at i : ℕ} (v : Turn t m h n k spots r at i) (l : n ≤ i) where
     nothing : changesOf (readChanges 0 (n - i) m at) ≡ []
     nothing = left-none 0 n m at i l
 
-    pub turn-ends : {a : Answer} → a ≡ refusedAt 0 0 → Tried (live ≡ liveCount t) t m h k (record { answer = a; rows = r })
+    pub turn-ends : {a : Answer} → a ≡ refusedAt 0 0 → Tried t m h k (record { answer = a; rows = r })
     turn-ends {a} f =
         let zero-is : a ≡ answer 0 0 = f ∙ sym (refused-other 0 0 (λ e. omega (arith, e))) in
         record {
@@ -250,5 +213,6 @@ module _ {t m : List ℕ} {h : List (List ℕ)} {live : ℕ} where
             rows = v .rows;
             sized = v .sized;
           };
-          judged = λ s w. zero-is ∙ sym (v .judged s w ∙ ap (λ (cs : List Change). appliedFrom (length t) i cs (afterAll (v .past) (liveSpots t))) nothing);
+          judged = λ w. zero-is ∙ sym (v .judged ∙ ap (λ (cs : List Change). appliedFrom (length t) i cs (afterAll (v .past) (liveSpots t))) nothing);
+          full = λ w. let no : ⊥ = omega (arith, ap (λ (b : Answer). b .number) zero-is, w) in absurd no;
         }

@@ -79,14 +79,11 @@ pub record Triable (t m : List ℕ) (rows : List (List ℕ)) : Type 0 where
   pub message : messageAnswer m ≡ answer 0 0
   pub room : 4096 ≤ length rows
 
--- on every table: 0 with the rows of the message, 3 or 4. On a sound one, where `known` says that the number of live spots is known, what the changes one after another come to.
-pub record Tried (known : Type 0) (t m : List ℕ) (rows rows′ : List (List ℕ)) (r : Ruling) : Type 0 where
+-- on every table: 0 with the rows of the message, 3 or 4. On a sound one, what the changes one after another come to; 4 on no other.
+pub record Tried (t m : List ℕ) (rows rows′ : List (List ℕ)) (r : Ruling) : Type 0 where
   pub numbers : has (r .answer .number) (0 ∷ 3 ∷ 4 ∷ []) ≡ true
   pub detail : r .answer .number ≢ 4 → r .answer .detail ≡ 0
   pub position : r .answer .number ≡ 4 → r .answer .detail < length (changesOf (readMessage m))
   pub lined : r .answer .number ≡ 0 → LinedUp m rows rows′ (r .rows)
-  pub judged : sound t ≡ true → known → r .answer ≡ appliedAnswer (length t) (changesOf (readMessage m)) (liveSpots t)
-
--- it is known without being told
-abbrev pub Always : Type 0
-Always = Unit {0}
+  pub judged : sound t ≡ true → r .answer ≡ appliedAnswer (length t) (changesOf (readMessage m)) (liveSpots t)
+  pub full : r .answer .number ≡ 4 → sound t ≡ true

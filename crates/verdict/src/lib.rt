@@ -4,13 +4,14 @@ ghost use mathlib.Core.Bool.{true};
 ghost use Prim.Native.Nat.{_≤_};
 ghost use lib.ListN.{length, take};
 ghost use Rattle.block.specs.Table.{tableSized};
+ghost use Rattle.tree.specs.Sound.{sound};
 ghost use Rattle.tree.specs.Walk.{liveCount};
 ghost use Rattle.lookup.specs.Answers.{lookedUp};
 ghost use Rattle.rows.specs.Rows.{rowAt};
 ghost use Rattle.rows.specs.Lining.{Rows};
-ghost use Rattle.verdict.specs.Verdicts.{thereBy, thereAs, thereAfter, oneMore, oneLess, nextLive, reckonedFor, refusedAt, Triable, Tried, Always};
+ghost use Rattle.verdict.specs.Verdicts.{thereBy, thereAs, thereAfter, oneMore, oneLess, nextLive, reckonedFor, refusedAt, Triable, Tried};
 
-// Whether a spot is there. On an unsound table it may be unknown.
+// Whether a spot is there. Unknown only where a rule is broken, and so on no sound table.
 pub enum There {
     Yes,
     No,
@@ -135,10 +136,10 @@ fn refused_at(number: u32, at: usize) -> block::Answer
     block::Answer { number, detail: 0 }
 }
 
-// Change by change, from this number of live spots on.
+// Change by change on a sound table, from its number of live spots on.
 fn step_through(table: &[u8], m: &[u8], rows: &mut [[u64; 2]], live: usize) -> Ruling
-    requires { ⌜ Triable (now table) (now m) (now rows) ⌝ }
-    ensures { λ r. ⌜ Tried (live ≡ liveCount (now (table .entry))) (now (table .entry)) (now (m .entry)) (now (rows .entry)) (now (rows .exit)) r ⌝ }
+    requires { ⌜ Triable (now table) (now m) (now rows) × (sound (now table) ≡ true) × (live ≡ liveCount (now table)) ⌝ }
+    ensures { λ r. ⌜ Tried (now (table .entry)) (now (m .entry)) (now (rows .entry)) (now (rows .exit)) r ⌝ }
 {
     let n = message::count_of(m);
     let mut spots = live;
@@ -165,10 +166,11 @@ fn step_through(table: &[u8], m: &[u8], rows: &mut [[u64; 2]], live: usize) -> R
     }
 }
 
-// The figure in block 0 is never below the number of live spots: where all additions find room beside it, none is looked up. Else the live spots are counted.
+// The figure in block 0 is never below the number of live spots: where all additions find room beside it, none is looked up. Else the live spots are counted; 4 is an answer
+// on a sound table alone, so that look-ups and a walk of everything can't disagree on it.
 pub fn verdict(table: &[u8], m: &[u8], rows: &mut [[u64; 2]]) -> Ruling
     requires { ⌜ Triable (now table) (now m) (now rows) ⌝ }
-    ensures { λ r. ⌜ Tried Always (now (table .entry)) (now (m .entry)) (now (rows .entry)) (now (rows .exit)) r ⌝ }
+    ensures { λ r. ⌜ Tried (now (table .entry)) (now (m .entry)) (now (rows .entry)) (now (rows .exit)) r ⌝ }
 {
     let most = block::capacity_of(table.len());
     let figure = block::bound_of(table) as usize;
@@ -178,13 +180,13 @@ pub fn verdict(table: &[u8], m: &[u8], rows: &mut [[u64; 2]]) -> Ruling
             rows: rows::line_up(m, rows),
         };
     }
-    let mut seen = [0u8; block::MAP_BYTES];
-    let all = query::count_table(table, &mut seen, spot::everything());
-    if !all.ok {
+    if !soundness::is_sound(table) {
         return Ruling {
             answer: refused_at(3, 0),
             rows: 0,
         };
     }
+    let mut seen = [0u8; block::MAP_BYTES];
+    let all = query::count_table(table, &mut seen, spot::everything());
     step_through(table, m, rows, all.tally.spots)
 }

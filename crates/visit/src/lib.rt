@@ -151,8 +151,9 @@ fn wanted_each(t: &[u8], at: usize, n: usize, q: spot::Query) -> [bool; 64]
     let mut m = [false; 64];
     let mut i = 0;
     while i < n {
-        let k = spot::read_key(t, at + 12 * i);
-        m[i] = spot::wanted(spot::place_of(k), spot::rank_in(k), q.x1, q.x2, q.y);
+        let place = spot::read_place(t, at + 12 * i);
+        let rank = spot::read_rank(t, at + 12 * i);
+        m[i] = spot::wanted(place, rank, q.x1, q.x2, q.y);
         i += 1;
     }
     m

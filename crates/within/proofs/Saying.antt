@@ -4,7 +4,7 @@ use mathlib.Core.Path.{_≡_, refl, ap, sym, subst, _∙_}
 use mathlib.Core.Logic.{_⊎_, inl, inr, ⊎-elim}
 use mathlib.Core.Bool.{Bool, true, false, cond, _||_}
 use mathlib.Core.List.{List, [], _++_}
-use Prim.Native.Nat.{ℕ, zero, suc, _*_, _/_, _≤_, _<_}
+use Prim.Native.Nat.{ℕ, suc, _*_, _/_, _≤_, _<_}
 use native.Mathlib.Omega.{arith}
 use lib.ListN.{length, drop}
 use lib.Dec.{eqb}
@@ -27,8 +27,8 @@ use Rattle.within_theory.specs.Reading.{Reading, begun, reading, givenOf, ceili
 use Rattle.within_theory.proofs.Following.{Sure}
 use Rattle.within_theory.proofs.Repeated.{within-none, none-given, none-ceiling}
 use Rattle.table.specs.Calls.{Call, topWithin}
-use Rattle.table.specs.Answers.{earlyNumber, ceilingLeft}
-use Rattle.table.specs.Queries.{QueryPost, SearchPost, TopWithinPost}
+use Rattle.table.specs.Answers.{withOutput, earlyNumber, unlessRefused, outputLeft, mapLeft, ceilingLeft}
+use Rattle.table.specs.Queries.{walkAnswer, SearchPost, TopWithinPost}
 use Rattle.table.proofs.Searching.{Serves, search-short, search-lent, search-broken, search-many, search-given}
 use Rattle.within.specs.Within.{saidOf, Saying, NoneSaid, GivenOut}
 use Rattle.within.specs.declared.Said.{Said}
@@ -37,15 +37,10 @@ use Rattle.within.specs.declared.Said.{Said}
 abbrev pub highest : ℤ
 highest = pos 2147483647
 
--- a ceiling is left where the call is accepted; after a refusal it is 0, whatever it would have been
-pub left-some : (n : ℕ) (c : ℤ) → n ≡ 0 → ceilingLeft n c ≡ c
+-- a ceiling is left where the call is accepted
+pub ceiling-accepted : (n : ℕ) (c : ℤ) → n ≡ 0 → ceilingLeft n c ≡ c
 unfolding ceilingLeft
-left-some n c h = ap (λ (i : ℕ). ceilingLeft i c) h
-
-pub left-none : (n : ℕ) (c : ℤ) → (n ≡ 0 → ⊥) → ceilingLeft n c ≡ pos 0
-unfolding ceilingLeft
-left-none zero c h = absurd (h refl)
-left-none (suc n) c h = refl
+ceiling-accepted n c h = ap (λ (i : ℕ). ceilingLeft i c) h
 
 -- the ceiling as it is held
 pub ceiling-as : {x1 x2 : ℤ} {k a : ℕ} {t out map : List ℕ} {r : Answer} {out′ map′ : List ℕ} {c d : ℤ} → c ≡ d → TopWithinPost x1 x2 k a t out map r out′ map′ c
@@ -68,8 +63,8 @@ module _ (x1 x2 : ℤ) (k a : ℕ) (t out map : List ℕ) where
   abbrev call : Call
   call = topWithin x1 x2 k a
 
-  abbrev once : Type 0
-  once = foundOnce t x1 x2 k a ≡ true
+  abbrev once : Bool
+  once = foundOnce t x1 x2 k a
 
   abbrev gives : Walk
   gives = withinTable t x1 x2 k a
@@ -78,20 +73,20 @@ module _ (x1 x2 : ℤ) (k a : ℕ) (t out map : List ℕ) where
   ended = reading t x1 x2 k a
 
   abbrev Search : Answer → Type 0
-  Search r = SearchPost call x1 x2 (once → QueryPost call gives t out map r out map) t out map r out map
+  Search r = SearchPost call x1 x2 gives once t out map r out map
 
   -- refused
   refused-as : (n d : ℕ) (s : Said) → s ≡ saidOf (suc n) d (pos 0) → Search (answer (suc n) d) → Saying x1 x2 k a t out map s out map
   unfolding ceilingLeft
   refused-as n d s e v =
-      subst (λ (z : Said). Saying x1 x2 k a t out map z out map) (sym e) (record { search = v; ceiling = λ h. refl; refused = λ h. refl })
+      subst (λ (z : Said). Saying x1 x2 k a t out map z out map) (sym e) (record { search = v; ceiling = refl })
 
   pub within-short : (s : Said) → tableSized (length t) ≡ false → s ≡ saidOf 1 0 (pos 0) → Saying x1 x2 k a t out map s out map
-  within-short s e h = refused-as 0 0 s h (search-short call refl refl refl x1 x2 once gives t out map (answer 1 0) e refl)
+  within-short s e h = refused-as 0 0 s h (search-short call refl refl x1 x2 gives once t out map (answer 1 0) e refl)
 
   module _ (e : tableSized (length t) ≡ true) where
     pub within-lent : (s : Said) → eqb (length map) 512 ≡ false → s ≡ saidOf 2 0 (pos 0) → Saying x1 x2 k a t out map s out map
-    within-lent s f h = refused-as 1 0 s h (search-lent call refl refl refl x1 x2 once gives t out map (answer 2 0) e f refl)
+    within-lent s f h = refused-as 1 0 s h (search-lent call refl refl x1 x2 gives once t out map (answer 2 0) e f refl)
 
     module _ (f : eqb (length map) 512 ≡ true) where
       walk-of : (b : Bool) → ended .whole ≡ b → gives ≡ cond b (walked (givenOf k ended) (ended .blocks)) broken
@@ -101,7 +96,7 @@ module _ (x1 x2 : ℤ) (k a : ℕ) (t out map : List ℕ) where
       -- a rule is broken
       pub within-broken : (s : Said) → ended .whole ≡ false → s ≡ saidOf 3 0 (pos 0) → Saying x1 x2 k a t out map s out map
       within-broken s w h =
-          refused-as 2 0 s h (search-broken call refl refl refl x1 x2 once gives t out map (answer 3 0) e f (ap isBroken (walk-of false w)) refl)
+          refused-as 2 0 s h (search-broken call refl refl x1 x2 gives once t out map (answer 3 0) e f (ap isBroken (walk-of false w)) refl)
 
       -- more spots than the output holds
       pub within-many : (s : Said) (n : ℕ) → ended .whole ≡ true → n ≡ length (givenOf k ended) → length out / 12 < n → s ≡ saidOf 5 n (pos 0)
@@ -109,9 +104,9 @@ module _ (x1 x2 : ℤ) (k a : ℕ) (t out map : List ℕ) where
       within-many s n w m l h =
           let is = walk-of true w in
           refused-as 4 n s h
-          (search-many call refl refl refl x1 x2 once gives t out map (answer 5 n) e f n (ap isBroken is) (m ∙ sym (ap (λ (v : Walk). length (spots v)) is)) l refl)
+          (search-many call refl refl x1 x2 gives once t out map (answer 5 n) e f n (ap isBroken is) (m ∙ sym (ap (λ (v : Walk). length (spots v)) is)) l refl)
 
-      serves : {n : ℕ} {seen′ out′ : List ℕ} (g : GivenOut t x1 x2 k a n out seen′ out′) → Serves t x1 x2 once gives (g .given) (g .blocks)
+      serves : {n : ℕ} {seen′ out′ : List ℕ} (g : GivenOut t x1 x2 k a n out seen′ out′) → Serves t x1 x2 gives once (g .given) (g .blocks)
       serves g =
           let is = walk-of true (g .sure .whole) in
           record {
@@ -132,11 +127,10 @@ module _ (x1 x2 : ℤ) (k a : ℕ) (t out map : List ℕ) where
           subst (λ (z : Said). Saying x1 x2 k a t out map z out′ map′) (sym h)
           (record {
             search =
-                search-given call refl refl refl x1 x2 once gives t out map (answer 0 n) e f n out′ map′ (serves g) (g .counted) l refl
+                search-given call refl refl x1 x2 gives once t out map (answer 0 n) e f n out′ map′ (serves g) (g .counted) l refl
                 (g .output ∙ ap (λ (i : ℕ). spotsBytes (g .given) ++ drop (12 * i) out) (g .counted))
                 (m ∙ g .map);
-            ceiling = λ z. ap unbiased (sure .ceiling z);
-            refused = λ z. absurd (z refl);
+            ceiling = ap unbiased (sure .ceiling);
           })
 
 -- ---- no node is read
@@ -179,19 +173,15 @@ module _ (x1 x2 : ℤ) (t : List ℕ) where
     unfolding earlyNumber
     within-zero out map s out′ map′ v =
         let post = v .top in
+        let same : topTable t x1 x2 0 ≡ withinTable t x1 x2 k a = top-none ∙ sym walk-none in
         record {
           search =
               record {
-                exact =
-                    λ h.
-                    subst (λ (w : Walk). QueryPost (topWithin x1 x2 k a) w t out map (s .answer) out′ map′) (top-none ∙ sym walk-none) (post .exact none-rising);
-                byLengths = post .byLengths;
-                refusals = post .refusals;
-                ruleBroken = post .ruleBroken;
-                tooMany = post .tooMany;
+                answered = post .answered ∙ ap (λ (w : Walk). unlessRefused (earlyNumber (withOutput t out map) (topWithin x1 x2 k a)) (walkAnswer (length out) w)) same;
+                marks = post .marks ∙ ap (λ (w : Walk). mapLeft (s .answer .number) (blocksRead w) map) same;
+                output = λ h. post .output none-rising ∙ ap (λ (w : Walk). outputLeft (s .answer .number) (spots w) out) same;
                 unchanged = post .unchanged;
                 handsOut = post .handsOut;
               };
-          ceiling = λ h. v .ceiling ∙ ap (ceilingLeft (s .answer .number)) (sym ceiling-none);
-          refused = λ h. v .ceiling ∙ left-none (s .answer .number) highest h;
+          ceiling = v .ceiling ∙ ap (ceilingLeft (s .answer .number)) (sym ceiling-none);
         }

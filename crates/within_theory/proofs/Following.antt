@@ -5,7 +5,7 @@ use mathlib.Core.Path.{_≡_, refl, ap, ap₂, sym, subst, _∙_}
 use mathlib.Core.Logic.{_⊎_, inl, inr, ⊎-elim}
 use mathlib.Core.Bool.{Bool, true, false, true≢false}
 use mathlib.Core.List.{List, [], _∷_, _++_, append-nil, List·Memᴰ, List·Memᴰ·not-nil, List·Memᴰ·cases-cons, List·Memᴰ·append-cases, Memᴰ·cast}
-use Prim.Native.Nat.{ℕ, suc, _+_, _-_, _≤_, _<_, max, min}
+use Prim.Native.Nat.{ℕ, suc, _+_, _-_, _/_, _≤_, _<_, max, min}
 use native.Mathlib.Omega.{arith}
 use lib.ListN.{length, take, length-append, length-take}
 use lib.Seq.{take-all, take-append-seam}
@@ -19,8 +19,8 @@ use Rattle.spot.specs.Query.{topQuery}
 use Rattle.spot.specs.Spots.{keys, byTop}
 use Rattle.spot.specs.declared.Spot.{Spot}
 use Rattle.spot.proofs.Buffers.{keys-mem}
-use Rattle.spot.proofs.Ranks.{byTop-from}
-use Rattle.spot.proofs.TopKeys.{top-inj}
+use Rattle.spot.proofs.Ranks.{tk, byTop-from}
+use Rattle.spot.proofs.TopKeys.{top-inj, top-rank}
 use Rattle.block.specs.declared.Asked.{Asked}
 use Rattle.block.specs.declared.Asked.the-variants.{Root, Child}
 use Rattle.block.specs.Header.{headOf}
@@ -37,7 +37,7 @@ use Rattle.tree.proofs.BestFirst.{Progress}
 use Rattle.within_theory.specs.Reading.{Reading, lineUpAll, ties, obeysAt, readable, readFirst, aboveAll, certain, stopped, begun, reading, givenOf, heldBack, showsRank, ceilingOf, foundOnce, greatest}
 pub use Rattle.within_theory.proofs.Lines.{NotBefore, Ties}
 use Rattle.within_theory.proofs.Lines.{Lined, sum-lineUpAll, lineUpAll-in, twin-some, twin-counts, twin-ties, ties-twin, first-or-later, head-twins, others-after}
-use Rattle.within_theory.proofs.Greatest.{same-as-great, same-greatest, greatest-same}
+use Rattle.within_theory.proofs.Greatest.{SameBy, same-by, same-as-great, same-greatest, greatest-same, first-tops}
 use Rattle.within_theory.proofs.Readings.{first-read, first-stuck, reading-goes-on, reading-stays, broken-stays, empty-stopped, enough-stopped, not-stopped, reading-lined, above-all, not-above, certain-many, held-sums, readable-yes, unreadable-node, unreadable-again, unreadable-tied}
 
 -- the lists of a search after as many reads as blocks, and what is given of the spots found
@@ -257,13 +257,14 @@ Halts k a unread found given blocks =
     (k ≤ length given) ⊎
     (((unread ≡ []) ⊎ (length blocks ≡ a)) × ((s : Spot) → List·Memᴰ s found → (u : Pending) × List·Memᴰ u unread × (rankOf (s .key) ≤ promised u)))
 
--- what a search that may read `a` blocks gives, reads and says of the rest. Where an identity is found twice, which only an unsound table has, the choice between the two is free.
+-- what a search that may read `a` blocks gives, reads and says of the rest. Where an identity is found twice, which only an unsound table has, the choice between the
+-- two is free: how many are given and the ceiling don't hang on it.
 pub record Sure (t : List ℕ) (x1 x2 : ℤ) (k a : ℕ) (given : List Spot) (blocks : List ℕ) (c : ℕ) : Type 0 where
   pub whole : reading t x1 x2 k a .whole ≡ true
   pub read : reading t x1 x2 k a .blocks ≡ blocks
   pub many : length given ≡ length (givenOf k (reading t x1 x2 k a))
   pub same : foundOnce t x1 x2 k a ≡ true → given ≡ givenOf k (reading t x1 x2 k a)
-  pub ceiling : foundOnce t x1 x2 k a ≡ true → c ≡ ceilingOf k (reading t x1 x2 k a)
+  pub ceiling : c ≡ ceilingOf k (reading t x1 x2 k a)
 
 -- where no identity stands twice, two spots of one identity are one
 distinct-spot : (ss : List Spot) → distinct (keys ss) ≡ true → (s u : Spot) → List·Memᴰ s ss → List·Memᴰ u ss → s .key ≡ u .key → s ≡ u
@@ -296,7 +297,7 @@ module _ (t : List ℕ) (x1 x2 : ℤ) (k : ℕ) (unread : List Pending) (found g
   given-above : (x : Spot) → List·Memᴰ x given → above x ≡ true
   given-above x i =
       above-all (here .unread) x
-      (λ u j. let r = same-as-great promised (here .unread) unread (g .line .sums) j in omega (arith, r .2, p .ahead x i (r .0) (r .1)))
+      (λ u j. let r = same-as-great promised (here .unread) unread (same-by promised (here .unread) unread (g .line .sums)) j in omega (arith, r .2, p .ahead x i (r .0) (r .1)))
 
   -- what is given, and after it what is found and certain
   ranking : List Spot
@@ -365,18 +366,32 @@ module _ (t : List ℕ) (x1 x2 : ℤ) (k : ℕ) (unread : List Pending) (found g
         sym first-given ∙
         ap (take k) (descends-same ranking (certain here) ranking-falls (top-descends (keep above (here .found))) ranking-same (sharp d))
 
-    held-same : distinct (keys (here .found)) ≡ true → Same (heldBack k here) found
-    held-same d f = omega (arith, held-sums k here f, g .spots f, ap (sum f) (same-here d))
+    -- the ranks given are the definition's, whichever of two spots of one identity is given; so are those of what is left
+    given-ranks : SameBy (λ s. rankOf (s .key)) given (givenOf k here)
+    unfolding givenOf certain
+    given-ranks f =
+        ap (sum (λ s. f (rankOf (s .key)))) (sym first-given) ∙ by-top (take k ranking) ∙
+        first-tops k ranking (certain here) ranking-falls (top-descends (keep above (here .found))) (same-by tk ranking (certain here) ranking-same) (λ n. f (n / word)) ∙
+        sym (by-top (take k (certain here)))
+      where
+        by-top : (ss : List Spot) → sum (λ s. f (rankOf (s .key))) ss ≡ sum (λ s. f (tk s / word)) ss
+        by-top ss = sum-same (λ s. f (rankOf (s .key))) (λ s. f (tk s / word)) ss (λ s i. ap f (sym (top-rank (s .key))))
 
-    ceiling-here : distinct (keys (here .found)) ≡ true → ((u : Pending) → List·Memᴰ u unread → promised u < word)
+    held-ranks : SameBy (λ s. rankOf (s .key)) (heldBack k here) found
+    held-ranks f =
+        let r : Spot → ℕ = λ s. f (rankOf (s .key)) in
+        omega (arith, held-sums k here r, g .spots r, given-ranks f)
+
+    ceiling-here : ((u : Pending) → List·Memᴰ u unread → promised u < word)
         → max (greatest promised unread) (greatest (λ (s : Spot). rankOf (s .key)) found) ≡ ceilingOf k here
     unfolding ceilingOf
-    ceiling-here d kids =
+    ceiling-here kids =
         let shows : Pending → ℕ = λ u. showsRank (u .part .asked) in
         let rank : Spot → ℕ = λ s. rankOf (s .key) in
         ap₂ max
-        (greatest-same promised shows unread (λ u i. sym (shows-promise (u .part .asked) (kids u i))) ∙ sym (same-greatest shows (here .unread) unread (g .line .sums)))
-        (sym (same-greatest rank (heldBack k here) found (held-same d)))
+        (greatest-same promised shows unread (λ u i. sym (shows-promise (u .part .asked) (kids u i))) ∙
+        sym (same-greatest shows (here .unread) unread (same-by shows (here .unread) unread (g .line .sums))))
+        (sym (same-greatest rank (heldBack k here) found held-ranks))
 
   -- why it ends
   module _ (a : ℕ) (few : length blocks ≤ a) (why : Halts k a unread found given blocks) where
@@ -406,7 +421,7 @@ module _ (t : List ℕ) (x1 x2 : ℤ) (k : ℕ) (unread : List Pending) (found g
         emptied e =
             no-member (here .unread)
             (λ u i.
-            let r = same-as-great promised (here .unread) unread (g .line .sums) i in
+            let r = same-as-great promised (here .unread) unread (same-by promised (here .unread) unread (g .line .sums)) i in
             List·Memᴰ·not-nil (mem-same e (r .1)))
 
 -- at its end, with the root read
@@ -427,5 +442,5 @@ sure-at-end t x1 x2 k a unread found given blocks ceiling p g few why kids is =
       read = ap (λ (r : Reading). r .blocks) rest ∙ g .read;
       many = many-here t x1 x2 k unread found given blocks p g full ∙ ap (λ (r : Reading). length (givenOf k r)) (sym rest);
       same = λ h. same-here t x1 x2 k unread found given blocks p g full (once h) ∙ ap (givenOf k) (sym rest);
-      ceiling = λ h. is ∙ ceiling-here t x1 x2 k unread found given blocks p g full (once h) kids ∙ ap (ceilingOf k) (sym rest);
+      ceiling = is ∙ ceiling-here t x1 x2 k unread found given blocks p g full kids ∙ ap (ceilingOf k) (sym rest);
     }

@@ -30,7 +30,7 @@ room : (c : tie.Then1 Inv-loop μ-loop) → c .before .before .before .before .l
 room c =
     let start = c .before .before .before .before .before .before .before in
     let a = start .args in
-    taken-room (a .list .now) (a .from) (a .n) (a .cut) (limitOf (a .limit)) (c .before .before .before .before .loop .inv) (c .before .before .before .loop-test .taken) (c .before .before .read-spot .ensures) (c .before .in-band .ensures) (c .if1 .taken) (start .pre .1)
+    taken-room (a .list .now) (a .from) (a .n) (a .cut) (limitOf (a .limit)) (c .before .before .before .before .loop .inv) (c .before .before .before .loop-test .taken) (c .before .before .read-spot .ensures .0) (c .before .in-band .ensures) (c .if1 .taken) (start .pre .1)
 
 element-set-from-s : tie.Need-element-set-from-s Inv-loop μ-loop
 element-set-from-s c = let m = room c in omega (arith, c .before .before .before .before .loop .inv .long)
@@ -40,8 +40,8 @@ loop-again c =
     let a = c .before .before .before .before .before .before .before .args in
     let r = c .before .before .before .before .loop .inv in
     let l = c .before .before .before .loop-test .taken in
-    ⊎-elim (λ w. taken-in (a .list .now) (a .from) (a .n) (a .cut) (limitOf (a .limit)) r l (c .before .before .read-spot .ensures) (c .before .in-band .ensures) (w .0 .taken) (c .before .before .before .before .before .before .before .pre .1) (w .1))
-    (λ w. taken-out (a .list .now) (a .from) (a .n) (a .cut) (limitOf (a .limit)) r l (c .before .before .read-spot .ensures) (c .before .in-band .ensures) (w .0 .left) (w .1))
+    ⊎-elim (λ w. taken-in (a .list .now) (a .from) (a .n) (a .cut) (limitOf (a .limit)) r l (c .before .before .read-spot .ensures .0) (c .before .in-band .ensures) (w .0 .taken) (c .before .before .before .before .before .before .before .pre .1) (w .1))
+    (λ w. taken-out (a .list .now) (a .from) (a .n) (a .cut) (limitOf (a .limit)) r l (c .before .before .read-spot .ensures .0) (c .before .in-band .ensures) (w .0 .left) (w .1))
     (c .if1 .came)
 
 returns : tie.Need-returns Inv-loop μ-loop

@@ -2,6 +2,7 @@
 -- Assumes nothing.
 use borrow.Author.Needs.{needs}
 use native.Mathlib.Omega.{arith}
+use Prim.Native.Nat.{_≤_}
 use mathlib.Core.Path.{_≡_, sym, _∙_}
 use lib.ListN.{length}
 use denote.Ref.{now}
@@ -10,7 +11,7 @@ use Rattle.block.proofs.Making.{blocks-least}
 use Rattle.message.specs.Changes.{changesOf}
 use Rattle.message.specs.Messages.{readMessage}
 use Rattle.message.proofs.Cursor.{accepted-message}
-use Rattle.carry.proofs.Carried.{carried-none, carried-or, carried-unfit}
+use Rattle.carry.proofs.Carried.{carried-nothing, carried-single, carried-several, carried-unfit}
 use Rattle.carry.proofs.One.{length-none}
 use Rattle.carry.proofs.carry.Statement.{statement}
 use Rattle.carry.proofs.carry.Tie as tie
@@ -36,7 +37,7 @@ returns-2 c =
     let at-count-of = at-if2 .before in
     let at-if1 = at-count-of .before in
     let none : length (changesOf (readMessage (now (at-if1 .before .before .before .before .before .before .args .m)))) ≡ 0 = omega (arith, at-count-of .count-of .ensures .0, at-if2 .if2 .taken) in
-    carried-or (sym (at-if1 .before .header-ok .ensures) ∙ not-false _ (at-if1 .if1 .left)) (carried-none _ _ _ _ (c .plain-answer2 .ensures) (length-none _ none))
+    carried-nothing (sym (at-if1 .before .header-ok .ensures) ∙ not-false _ (at-if1 .if1 .left)) (length-none _ none) (c .plain-answer2 .ensures)
 
 carry-one-requires : tie.Need-carry-one-requires
 carry-one-requires c κs =
@@ -50,8 +51,12 @@ carry-one-requires c κs =
 returns-3 : tie.Need-returns-3
 returns-3 c =
     let at-call = c .before .before .before .before in
-    let at-if1 = at-call .before .before .before .before .before .before in
-    carried-or (sym (at-if1 .before .header-ok .ensures) ∙ not-false _ (at-if1 .if1 .left)) (at-call .carry-one .ensures)
+    let at-if3 = at-call .before .before .before in
+    let at-count-of = at-if3 .before .before in
+    let at-if1 = at-count-of .before in
+    let start = at-if1 .before .before .before .before .before .before in
+    let one : length (changesOf (readMessage (now (start .args .m)))) ≡ 1 = omega (arith, at-count-of .count-of .ensures .0, at-if3 .if3 .taken) in
+    carried-single (sym (at-if1 .before .header-ok .ensures) ∙ not-false _ (at-if1 .if1 .left)) one (at-call .carry-one .ensures)
 
 carry-many-requires : tie.Need-carry-many-requires
 carry-many-requires c κs =
@@ -62,8 +67,13 @@ carry-many-requires c κs =
 returns-4 : tie.Need-returns-4
 returns-4 c =
     let at-call = c .before .before .before .before in
-    let at-if1 = at-call .before .before .before .before .before .before in
-    carried-or (sym (at-if1 .before .header-ok .ensures) ∙ not-false _ (at-if1 .if1 .left)) (at-call .carry-many .ensures)
+    let at-if3 = at-call .before .before .before in
+    let at-if2 = at-if3 .before in
+    let at-count-of = at-if2 .before in
+    let at-if1 = at-count-of .before in
+    let start = at-if1 .before .before .before .before .before .before in
+    let many : 2 ≤ length (changesOf (readMessage (now (start .args .m)))) = omega (arith, at-count-of .count-of .ensures .0, at-if2 .if2 .left, at-if3 .if3 .left) in
+    carried-several (sym (at-if1 .before .header-ok .ensures) ∙ not-false _ (at-if1 .if1 .left)) many (at-call .carry-many .ensures)
 
 pub carry-spec : {M : Type 1} → statement M
 carry-spec =

@@ -8,10 +8,11 @@ use Rattle.catalogue.proofs.tile_ok.Tie as tie
 
 returns : tie.Need-returns
 returns c =
-    let at-last = c .before .before .before in
+    let at-tail = c .before .before in
+    let at-last = at-tail .before .before in
     let at-first = at-last .before .before in
     let a = at-first .before .before .args in
-    tile-made (a .e) (now (a .s)) (c .before .rises .ensures) (at-first .raw-key .ensures) (at-last .raw-key2 .ensures) (c .zeros .ensures)
+    tile-made (a .m) (a .b) (a .e) (now (a .s)) (c .before .rises .ensures) (at-first .raw-key .ensures) (at-last .raw-key2 .ensures) (at-tail .zeros .ensures) (c .above-maker .ensures)
 
 pub tile-ok-spec : {M : Type 1} → statement M
 tile-ok-spec =
@@ -21,7 +22,8 @@ tile-ok-spec =
     (λ c. search needs)
     (λ c. search needs)
     (λ c κs. search needs)
-    (λ c κs. search needs)
     (λ c. search needs)
+    (λ c κs. search needs)
+    (λ c κs. search needs)
     (λ c κs. search needs)
     returns)

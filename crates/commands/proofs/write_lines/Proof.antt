@@ -52,7 +52,7 @@ loop-again c =
       next (spot .result) o (p .loop .i) (p .loop .inv .1) (c .before .before .write-spot-line .ensures)
           (toZ-ofZ w32 (place .result) (record { sfits = place .ok }) ∙ place .ensures)
           (toZ-ofZ w32 (rank .result) (record { sfits = rank .ok }) ∙ rank .ensures)
-          (spot .ensures),
+          (spot .ensures .0),
     )
 
 same-length : tie.Need-same-length Inv-loop μ-loop

@@ -46,7 +46,7 @@ read-spot-requires c κs =
 returns : tie.Need-returns
 returns c =
     let a = c .before .before .before .before .before .args in
-    c .read-spot .ensures ∙ ap (λ (x : ℕ). spotAt (now (a .t)) (x + 12 * a .j)) (start (c .before))
+    c .read-spot .ensures .0 ∙ ap (λ (x : ℕ). spotAt (now (a .t)) (x + 12 * a .j)) (start (c .before))
 
 pub spot-by-spec : {M : Type 1} → statement M
 spot-by-spec =

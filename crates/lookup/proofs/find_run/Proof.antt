@@ -23,7 +23,7 @@ returns-2 : tie.Need-returns-2
 returns-2 c =
     let s = c .before .before .before .before .before in
     let a = s .args in
-    found-at (now (a .t)) (a .n) (a .at) (a .k) (s .pre .rise) (c .before .before .before .below .ensures .0) (omega arith) (c .before .read-spot .ensures)
+    found-at (now (a .t)) (a .n) (a .at) (a .k) (s .pre .rise) (c .before .before .before .below .ensures .0) (omega arith) (c .before .read-spot .ensures .0)
 
 pub find-run-spec : {M : Type 1} → statement M
 find-run-spec =

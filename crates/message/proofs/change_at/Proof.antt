@@ -20,7 +20,7 @@ read-spot-requires c κs =
 returns : tie.Need-returns
 returns c =
     let a = c .before .before .before .before .args in
-    ap Add (c .read-spot .ensures) ∙ sym (change-adds (now (a .s)) (a .at) (c .before .if1 .taken))
+    ap Add (c .read-spot .ensures .0) ∙ sym (change-adds (now (a .s)) (a .at) (c .before .if1 .taken))
 
 add-read-key : tie.Need-add-read-key
 add-read-key c = omega (arith, c .before .before .before .pre .inside)

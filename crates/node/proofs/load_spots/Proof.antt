@@ -30,7 +30,7 @@ loop-again : tie.Need-loop-again Inv-loop μ-loop
 loop-again c =
     let l = c .before .before .loop in
     let a = c .before .before .before .before .before .args in
-    (omega arith, simp length-set (l .inv .1), record-loaded (spotAt (now (a .s))) 12 (l .out .spots) (a .at) (l .i) (omega arith) (l .inv .2) (c .read-spot .ensures))
+    (omega arith, simp length-set (l .inv .1), record-loaded (spotAt (now (a .s))) 12 (l .out .spots) (a .at) (l .i) (omega arith) (l .inv .2) (c .read-spot .ensures .0))
 
 returns : tie.Need-returns Inv-loop μ-loop
 returns c =

@@ -43,7 +43,7 @@ write-spot-requires c κs =
     omega (
       arith,
       at-loop .loop .inv .long,
-      laid-room (now (start .args .spots)) (start .args .p) (start .pre .0) 2048 refl (at-loop .loop .inv) (at-rank .before .before .loop-test .taken) (at-rank .before .read-spot .ensures)
+      laid-room (now (start .args .spots)) (start .args .p) (start .pre .0) 2048 refl (at-loop .loop .inv) (at-rank .before .before .loop-test .taken) (at-rank .before .read-spot .ensures .0)
           (at-rank .rank-key .ensures) (c .before .if1 .taken),
     )
 
@@ -54,7 +54,7 @@ add-at c =
     let start = at-loop .before .before .before .before .before .before .before in
     omega (
       arith,
-      laid-room (now (start .args .spots)) (start .args .p) (start .pre .0) 2048 refl (at-loop .loop .inv) (at-rank .before .before .loop-test .taken) (at-rank .before .read-spot .ensures)
+      laid-room (now (start .args .spots)) (start .args .p) (start .pre .0) 2048 refl (at-loop .loop .inv) (at-rank .before .before .loop-test .taken) (at-rank .before .read-spot .ensures .0)
           (at-rank .rank-key .ensures) (c .before .before .before .before .if1 .taken),
     )
 
@@ -66,9 +66,9 @@ loop-again c =
     let s = now (start .args .spots) in
     let p = start .args .p in
     ⊎-elim
-    (λ w. laid-in s p (start .pre .0) 2048 refl (at-loop .loop .inv) (at-rank .before .before .loop-test .taken) (at-rank .before .read-spot .ensures) (at-rank .rank-key .ensures) (w .0 .taken)
+    (λ w. laid-in s p (start .pre .0) 2048 refl (at-loop .loop .inv) (at-rank .before .before .loop-test .taken) (at-rank .before .read-spot .ensures .0) (at-rank .rank-key .ensures) (w .0 .taken)
     (w .5 ∙ w .2 .ensures) (w .6))
-    (λ w. laid-out s p (start .pre .0) 2048 refl (at-loop .loop .inv) (at-rank .before .before .loop-test .taken) (at-rank .before .read-spot .ensures) (at-rank .rank-key .ensures) (w .0 .left)
+    (λ w. laid-out s p (start .pre .0) 2048 refl (at-loop .loop .inv) (at-rank .before .before .loop-test .taken) (at-rank .before .read-spot .ensures .0) (at-rank .rank-key .ensures) (w .0 .left)
     (w .1) (w .2))
     (c .if1 .came)
 

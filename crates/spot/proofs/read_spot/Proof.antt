@@ -9,7 +9,7 @@ use Rattle.spot.proofs.read_spot.Tie as tie
 
 returns : tie.Need-returns
 unfolding spotAt
-returns c = ap₂ spot (c .before .read-key .ensures .0) (c .read32 .ensures .0)
+returns c = (ap₂ spot (c .before .read-key .ensures .0) (c .read32 .ensures .0), c .before .read-key .ensures .1)
 
 pub read-spot-spec : {M : Type 1} → statement M
 read-spot-spec =

@@ -15,7 +15,8 @@ use Rattle.block.specs.Table.{blocksOf, block}
 use Rattle.block.proofs.Frames.{block-length, part-is}
 use Rattle.catalogue.specs.Catalogue.{tileEntry, tileFine, asks}
 use Rattle.catalogue.proofs.Lengths.{Lengths, sized-lengths}
-use Rattle.catalogue.proofs.Facts.{EntryFacts, entry-of, entry-fine}
+use Rattle.catalogue.specs.Reading.{LimitedEntry}
+use Rattle.catalogue.proofs.Facts.{entry-of}
 use Rattle.tour.specs.Gathering.{Gatherable}
 use Rattle.tour.proofs.Steps.{ReadTo, read-start, read-as, seen-length, read-skip, read-stop, read-gatherable, read-next, read-end}
 use Rattle.tour.proofs.gather.Statement.{statement}
@@ -58,17 +59,26 @@ module _ (c : tie.After-asks Inv-loop μ-loop) where
   abbrev turn : tie.In-loop Inv-loop μ-loop
   turn = c .before .before .before
 
-  entry : c .before .entry-at .result ≡ tileEntry (tour turn) (b turn)
-  entry = c .before .entry-at .ensures ∙ sym (entry-of (tour turn) (b turn))
+  entry : c .before .read-entry .result ≡ tileEntry (tour turn) (b turn)
+  entry = c .before .read-entry .ensures .0 ∙ sym (entry-of (tour turn) (b turn))
 
-  facts : EntryFacts (c .before .entry-at .result)
-  facts = subst EntryFacts (sym entry) (entry-fine (tour turn) (b turn) (start turn .pre .catalogue) (turn .before .loop .inv .some) (more turn))
+  facts : LimitedEntry (c .before .read-entry .result)
+  facts = c .before .read-entry .ensures .1
 
-part-entry-at-end : tie.Need-part-entry-at-end Inv-loop μ-loop
-part-entry-at-end c = omega (arith, inside c)
+part-read-entry-end : tie.Need-part-read-entry-end Inv-loop μ-loop
+part-read-entry-end c = omega (arith, inside c)
 
-entry-at-requires : tie.Need-entry-at-requires Inv-loop μ-loop
-entry-at-requires c κs = (c .before .before .loop .inv .some, low (c .before), block-length (tour (c .before)) 0 (omega (arith, inside (c .before))))
+read-entry-requires : tie.Need-read-entry-requires Inv-loop μ-loop
+read-entry-requires c κs =
+    let v = c .before in
+    record {
+      long = block-length (tour v) 0 (omega (arith, inside v));
+      bytes = length (tour v);
+      sized = start v .pre .sized;
+      fine = start v .pre .catalogue;
+      some = v .before .loop .inv .some;
+      below = more v;
+    }
 
 mul-from : tie.Need-mul-from Inv-loop μ-loop
 mul-from c = let l = low (turn (c .before)) in omega arith
@@ -106,8 +116,8 @@ module _ (c : tie.After-tile-ok Inv-loop μ-loop) where
   abbrev asked : tie.After-asks Inv-loop μ-loop
   asked = c .before .before .before
 
-  fine-is : c .tile-ok .result ≡ tileFine (asked .before .entry-at .result) (block (tour (turn asked)) (b (turn asked)))
-  fine-is = c .tile-ok .ensures ∙ ap (tileFine (asked .before .entry-at .result)) (part-is (tour (turn asked)) (b (turn asked)))
+  fine-is : c .tile-ok .result ≡ tileFine (blocksOf (length (tour (turn asked)))) (b (turn asked)) (asked .before .read-entry .result) (block (tour (turn asked)) (b (turn asked)))
+  fine-is = c .tile-ok .ensures ∙ ap (tileFine (blocksOf (length (tour (turn asked)))) (b (turn asked)) (asked .before .read-entry .result)) (part-is (tour (turn asked)) (b (turn asked)))
 
 returns : tie.Need-returns Inv-loop μ-loop
 returns c =
@@ -129,10 +139,10 @@ gather-tile-requires c κs =
     let at-if2 = c .before .before .before .before .before .before in
     let a = asked (at-if2 .before) in
     let v = turn a in
-    let e = a .before .entry-at .result in
+    let e = a .before .read-entry .result in
     subst (λ (s : List ℕ). Gatherable s e (v .before .loop .found) (v .before .loop .n)) (sym (part-is (tour v) (b v)))
     (read-gatherable (tour v) (start v .args .q) (v .before .loop .inv) (more v) (entry a) (sym (a .asks .ensures) ∙ at-if2 .before .before .before .if1 .taken)
-    (sym (fine-is (at-if2 .before)) ∙ not-false _ (at-if2 .if2 .left)) (start v .pre .sized) (start v .pre .catalogue))
+    (sym (fine-is (at-if2 .before)) ∙ not-false _ (at-if2 .if2 .left)) (start v .pre .sized) (facts a))
 
 add-n : tie.Need-add-n Inv-loop μ-loop
 add-n c =
@@ -158,9 +168,9 @@ loop-again c =
     let q = start v .args .q in
     ⊎-elim
     (λ w.
-    let yes : asks q (blocksOf (length t)) (b v) (a .before .entry-at .result) ≡ true = sym (a .asks .ensures) ∙ w .0 .taken in
-    let good : tileFine (a .before .entry-at .result) (block t (b v)) ≡ true =
-    sym (w .2 .ensures ∙ ap (tileFine (a .before .entry-at .result)) (part-is t (b v))) ∙ not-false _ (w .3 .left)
+    let yes : asks q (blocksOf (length t)) (b v) (a .before .read-entry .result) ≡ true = sym (a .asks .ensures) ∙ w .0 .taken in
+    let good : tileFine (blocksOf (length t)) (b v) (a .before .read-entry .result) (block t (b v)) ≡ true =
+    sym (w .2 .ensures ∙ ap (tileFine (blocksOf (length t)) (b v) (a .before .read-entry .result)) (part-is t (b v))) ∙ not-false _ (w .3 .left)
     in
     read-as t q (w .13) (w .14) (w .15)
     (read-next t q (l .inv) (more v) (entry a) yes good (w .5 .ensures) (rw (part-is t (b v)) at (w .10 .ensures))))
@@ -198,8 +208,8 @@ gather-spec =
     loop-holds
     (λ c. omega arith)
     (λ c. omega arith)
-    part-entry-at-end
-    entry-at-requires
+    part-read-entry-end
+    read-entry-requires
     (λ c κs. search needs)
     mul-from
     add-to

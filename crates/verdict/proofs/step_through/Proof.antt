@@ -13,18 +13,18 @@ use Rattle.verdict.proofs.step_through.Statement.{statement}
 use Rattle.verdict.proofs.step_through.Tie as tie
 
 abbrev Inv-loop : tie.InvT-loop
-Inv-loop table m rows₀ live n spots₀ r₀ at₀ i₀ rows spots r at i = Turn table m rows₀ live n rows spots r at i
+Inv-loop table m rows₀ live n spots₀ r₀ at₀ i₀ rows spots r at i = Turn table m rows₀ n rows spots r at i
 
 abbrev μ-loop : tie.MeasureT-loop
 μ-loop table m rows₀ live n spots₀ r₀ at₀ i₀ rows spots r at i = n - i
 
 count-of-requires : tie.Need-count-of-requires Inv-loop μ-loop
-count-of-requires c κs = accepted-message (now (c .before .before .args .m)) (c .before .before .pre .message) .0
+count-of-requires c κs = accepted-message (now (c .before .before .args .m)) (c .before .before .pre .0 .message) .0
 
 loop-holds : tie.Need-loop-holds Inv-loop μ-loop
 loop-holds c =
     let start = c .before .before .before in
-    turn-start (now (start .args .table)) (now (start .args .m)) (now (start .args .rows)) (start .args .live) (start .pre .message) (c .count-of .ensures .0)
+    turn-start (now (start .args .table)) (now (start .args .m)) (now (start .args .rows)) (start .pre .0 .message) (start .pre .2) (c .count-of .ensures .0)
 
 change-at-requires : tie.Need-change-at-requires Inv-loop μ-loop
 change-at-requires c κs = turn-change (c .before .loop .inv) (c .loop-test .taken)
@@ -33,7 +33,7 @@ next-of-requires : tie.Need-next-of-requires Inv-loop μ-loop
 next-of-requires c κs =
     let at-loop = c .before .before .before .before in
     let start = at-loop .before .before .before .before in
-    (start .pre .sized, at-loop .loop .inv .rows)
+    (start .pre .0 .sized, at-loop .loop .inv .rows)
 
 refused-at-requires : tie.Need-refused-at-requires Inv-loop μ-loop
 refused-at-requires c κs =
@@ -54,7 +54,8 @@ returns c =
     let at-change-at = at-row-of .before in
     let test = at-change-at .before in
     let at-loop = test .before in
-    turn-stops (at-loop .loop .inv) (test .loop-test .taken) (at-row-of .row-of .ensures .0 ∙ ap rowOf (at-change-at .change-at .ensures)) (at-next-of .next-of .ensures) (at-if1 .if1 .taken) (c .refused-at .ensures)
+    let start = at-loop .before .before .before .before in
+    turn-stops (at-loop .loop .inv) (test .loop-test .taken) (start .pre .1) (at-row-of .row-of .ensures .0 ∙ ap rowOf (at-change-at .change-at .ensures)) (at-next-of .next-of .ensures) (at-if1 .if1 .taken) (c .refused-at .ensures)
 
 put-row-requires : tie.Need-put-row-requires Inv-loop μ-loop
 put-row-requires c κs =
@@ -66,7 +67,7 @@ put-row-requires c κs =
     let start = at-count-of .before .before .before in
     let v = at-loop .loop .inv in (
       v .rows,
-      omega (arith, v .count, v .sized, at-count-of .count-of .ensures .1, test .loop-test .taken, start .pre .room),
+      omega (arith, v .count, v .sized, at-count-of .count-of .ensures .1, test .loop-test .taken, start .pre .0 .room),
       turn-fits v (test .loop-test .taken) (at-row-of .row-of .result) (at-row-of .row-of .ensures .0 ∙ ap rowOf (at-change-at .change-at .ensures)) (at-row-of .row-of .ensures .1),
     )
 
@@ -97,7 +98,8 @@ loop-again c =
     let at-change-at = at-row-of .before in
     let test = at-change-at .before in
     let at-loop = test .before in
-    turn-goes (at-loop .loop .inv) (test .loop-test .taken) (at-row-of .row-of .ensures .0 ∙ ap rowOf (at-change-at .change-at .ensures)) (at-next-of .next-of .ensures) (at-if1 .if1 .left) (at-put-row .put-row .ensures)
+    let start = at-loop .before .before .before .before in
+    turn-goes (at-loop .loop .inv) (test .loop-test .taken) (start .pre .1) (at-row-of .row-of .ensures .0 ∙ ap rowOf (at-change-at .change-at .ensures)) (at-next-of .next-of .ensures) (at-if1 .if1 .left) (at-put-row .put-row .ensures)
     (ap (λ (j : ℕ). at-loop .loop .at + j) (c .size-of .ensures)) (omega arith)
 
 same-length-2 : tie.Need-same-length-2 Inv-loop μ-loop

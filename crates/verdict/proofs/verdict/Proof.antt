@@ -1,13 +1,15 @@
--- `verdict::verdict` meets its contract: by the figure in block 0, or by the count.
+-- `verdict::verdict` meets its contract: by the figure in block 0, or on a sound table by the count.
 -- Assumes nothing.
 use denote.Ref.{now}
-use mathlib.Core.Path.{refl}
+use mathlib.Core.Bool.{true}
+use mathlib.Core.Path.{_≡_, refl, sym, _∙_}
 use lib.ListN.{length}
 use borrow.Author.Tests.{not-true, not-false}
 use Rattle.query.proofs.Whole.{counted-as}
 use Rattle.block.proofs.Making.{sized-least}
 use Rattle.message.proofs.Cursor.{accepted-message}
-use Rattle.verdict.proofs.Ends.{roomy, uncounted, by-count}
+use Rattle.tree.specs.Sound.{sound}
+use Rattle.verdict.proofs.Ends.{roomy, unsound, sound-count}
 use borrow.Author.Needs.{needs}
 use native.Mathlib.Omega.{arith}
 use Rattle.verdict.proofs.verdict.Statement.{statement}
@@ -34,29 +36,26 @@ returns c =
     let start = at-capacity-of .before .before .before in
     roomy (now (start .args .table)) (at-refused-at .refused-at .ensures) (at-line-up .line-up .ensures) (at-bound-of .bound-of .ensures .0) (at-adds-of .adds-of .ensures .0) (at-capacity-of .capacity-of .ensures) (at-if1 .if1 .taken)
 
-count-table-requires : tie.Need-count-table-requires
-count-table-requires c κs =
-    let start = c .before .before .before .before .before .before .before .before in
-    (start .pre .sized, refl)
-
 returns-2 : tie.Need-returns-2
 returns-2 c =
     let at-if2 = c .before in
-    let at-count-table = at-if2 .before .before .before in
-    let at-everything = at-count-table .before in
-    let start = at-everything .before .before .before .before .before .before .before .before in
-    let counted = counted-as (at-everything .everything .ensures) (at-count-table .count-table .ensures) in
-    uncounted (now (start .args .table)) (c .refused-at2 .ensures) (counted .ok) (not-true _ (at-if2 .if2 .taken))
+    let at-is-sound = at-if2 .before in
+    unsound _ (c .refused-at2 .ensures) (at-is-sound .is-sound .ensures) (not-true _ (at-if2 .if2 .taken))
 
-returns-3 : tie.Need-returns-3
-returns-3 c =
-    let at-step-through = c .before in
-    let at-if2 = at-step-through .before .before in
-    let at-count-table = at-if2 .before .before .before in
+count-table-requires : tie.Need-count-table-requires
+count-table-requires c κs =
+    let start = c .before .before .before .before .before .before .before .before .before .before in
+    (start .pre .sized, refl)
+
+step-through-requires : tie.Need-step-through-requires
+step-through-requires c κs =
+    let at-count-table = c .before .before in
     let at-everything = at-count-table .before in
-    let start = at-everything .before .before .before .before .before .before .before .before in
-    let counted = counted-as (at-everything .everything .ensures) (at-count-table .count-table .ensures) in
-    by-count (now (start .args .table)) (counted .spots (not-false _ (at-if2 .if2 .left))) (at-step-through .step-through .ensures)
+    let at-if2 = at-everything .before .before in
+    let at-is-sound = at-if2 .before in
+    let start = at-is-sound .before .before .before .before .before .before .before in
+    let is-sound : sound (now (start .args .table)) ≡ true = sym (at-is-sound .is-sound .ensures) ∙ not-false _ (at-if2 .if2 .left) in
+    (start .pre, is-sound, sound-count _ is-sound (counted-as (at-everything .everything .ensures) (at-count-table .count-table .ensures)))
 
 pub verdict-spec : {M : Type 1} → statement M
 verdict-spec =
@@ -70,11 +69,12 @@ verdict-spec =
     (λ c κs. search needs)
     (λ c. search needs)
     returns
+    (λ c κs. search needs)
+    (λ c κs. search needs)
+    returns-2
     (λ c. search needs)
     (λ c κs. search needs)
     count-table-requires
-    (λ c κs. search needs)
-    returns-2
-    (λ c κs. search needs)
+    step-through-requires
     (λ c. search needs)
-    returns-3)
+    (λ c. search needs))

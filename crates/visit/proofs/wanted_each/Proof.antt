@@ -2,12 +2,12 @@
 -- Assumes nothing.
 use borrow.Author.Needs.{needs}
 use native.Mathlib.Omega.{arith}
-use mathlib.Core.Path.{_≡_, ap, subst, _∙_}
-use Prim.Native.Nat.{ℕ, _-_, _≤_}
+use mathlib.Core.Path.{_≡_, subst}
+use Prim.Native.Nat.{ℕ, _+_, _-_, _*_, _≤_}
 use denote.Ref.{now}
 use Rattle.spot.proofs.Signed.{Fits}
-use Rattle.spot.specs.Query.{wantsKey}
-use Rattle.spot.proofs.Limits.{limited-small}
+use Rattle.spot.specs.Spots.{keyAt}
+use Rattle.spot.proofs.Card.{keyAt-lt}
 use Rattle.visit.proofs.Search.{key-reads}
 use Rattle.spot.proofs.Orders.{key-wants}
 use Rattle.visit.proofs.Marking.{wanted-none, wanted-more}
@@ -24,26 +24,29 @@ abbrev μ-loop : tie.MeasureT-loop
 loop-holds : tie.Need-loop-holds Inv-loop μ-loop
 loop-holds c = (omega arith, wanted-none (now (c .before .args .t)) (c .before .args .at) (c .before .args .q))
 
-mul-read-key : tie.Need-mul-read-key Inv-loop μ-loop
-mul-read-key c = omega arith
+mul-read-place : tie.Need-mul-read-place Inv-loop μ-loop
+mul-read-place c = omega arith
 
-add-read-key : tie.Need-add-read-key Inv-loop μ-loop
-add-read-key c = omega arith
+add-read-place : tie.Need-add-read-place Inv-loop μ-loop
+add-read-place c = omega arith
 
-read-key-requires : tie.Need-read-key-requires Inv-loop μ-loop
-read-key-requires c κs = key-reads (c .before .before .before .pre .0) (c .before .loop .i) (omega arith)
+read-place-requires : tie.Need-read-place-requires Inv-loop μ-loop
+read-place-requires c κs = key-reads (c .before .before .before .pre .0) (c .before .loop .i) (omega arith)
 
-place-of-requires : tie.Need-place-of-requires Inv-loop μ-loop
-place-of-requires c κs = search needs
+mul-read-rank : tie.Need-mul-read-rank Inv-loop μ-loop
+mul-read-rank c = omega arith
 
-rank-in-requires : tie.Need-rank-in-requires Inv-loop μ-loop
-rank-in-requires c κs = search needs
+add-read-rank : tie.Need-add-read-rank Inv-loop μ-loop
+add-read-rank c = omega arith
+
+read-rank-requires : tie.Need-read-rank-requires Inv-loop μ-loop
+read-rank-requires c κs = omega arith
 
 wanted-requires : tie.Need-wanted-requires Inv-loop μ-loop
 wanted-requires c κs = search needs
 
 array-write-m : tie.Need-array-write-m Inv-loop μ-loop
-array-write-m c = omega (arith, c .before .before .before .before .before .before .before .before .loop .inv .1 .sized)
+array-write-m c = omega (arith, c .before .before .before .before .before .before .before .loop .inv .1 .sized)
 
 add-i : tie.Need-add-i Inv-loop μ-loop
 add-i c = omega arith
@@ -54,12 +57,10 @@ loop-less c = omega arith
 loop-again : tie.Need-loop-again Inv-loop μ-loop
 loop-again c =
     let told = c .before .struct-told3 .given in
-    let at-rank = c .before .before .before .before in
-    let rank = at-rank .rank-in in
-    let place = at-rank .before .place-of in
-    let at-read = at-rank .before .before in
-    let read = at-read .read-key in
-    let at-loop = at-read .before .before in
+    let rank = c .before .before .before .before .read-rank in
+    let at-place = c .before .before .before .before .before in
+    let place = at-place .read-place in
+    let at-loop = at-place .before .before in
     let l = at-loop .loop in
     let s = at-loop .before .before .args in
     let fits1 : Fits (s .q .x1) = record { sfits = told .0 .1 } in
@@ -67,10 +68,9 @@ loop-again c =
     let fitsy : Fits (s .q .y) = record { sfits = told .1 .1 .0 .1 } in (
       omega arith,
       wanted-more (now (s .t)) (s .at) (s .q) (l .i) (l .inv .1) (omega arith)
-          (key-wants (s .q) (read .result) fits1 fits2 fitsy (at-loop .before .before .pre .1) (limited-small (read .result) (read .ensures .1))
-          (place .result) (rank .result)
-          (record { sfits = place .ok }) (record { sfits = rank .ok }) (place .ensures) (rank .ensures) (c .wanted .ensures)
-          ∙ ap (wantsKey (s .q)) (read .ensures .0)),
+          (key-wants (s .q) (keyAt (now (s .t)) (s .at + 12 * l .i)) fits1 fits2 fitsy (at-loop .before .before .pre .1)
+          (keyAt-lt (now (s .t)) (s .at + 12 * l .i)) (place .result) (rank .result)
+          (record { sfits = place .ok }) (record { sfits = rank .ok }) (place .ensures .0) (rank .ensures) (c .wanted .ensures)),
     )
 
 returns : tie.Need-returns Inv-loop μ-loop
@@ -87,11 +87,12 @@ wanted-each-spec =
     Inv-loop
     μ-loop
     loop-holds
-    mul-read-key
-    add-read-key
-    read-key-requires
-    place-of-requires
-    rank-in-requires
+    mul-read-place
+    add-read-place
+    read-place-requires
+    mul-read-rank
+    add-read-rank
+    read-rank-requires
     wanted-requires
     array-write-m
     add-i

@@ -1,6 +1,7 @@
 -- `within::say_none` meets its contract: what the Top of none answers, with the highest rank where it is accepted.
 -- Assumes nothing.
-use Rattle.within.proofs.Saying.{highest, left-some, left-none}
+use Rattle.within.proofs.Saying.{highest, ceiling-accepted}
+use Rattle.table.proofs.Searching.{ceiling-refused}
 use mir.ValLaws.{toZ-ofZ}
 use mir.Syntax.{w32}
 use mathlib.Core.Path.{sym}
@@ -15,7 +16,7 @@ returns c =
     let start = at-top .before .before .before .before .before .before in
     record {
       top = rw (toZ-ofZ w32 _ (start .fits .x1), toZ-ofZ w32 _ (start .fits .x2)) at (at-top .top .ensures);
-      ceiling = sym (left-none (at-top .top .result .number) highest (λ h. omega (arith, c .if1 .taken)));
+      ceiling = sym (ceiling-refused (at-top .top .result .number) highest (λ h. omega (arith, c .if1 .taken)));
     }
 
 returns-2 : tie.Need-returns-2
@@ -24,7 +25,7 @@ returns-2 c =
     let start = at-top .before .before .before .before .before .before in
     record {
       top = rw (toZ-ofZ w32 _ (start .fits .x1), toZ-ofZ w32 _ (start .fits .x2)) at (at-top .top .ensures);
-      ceiling = sym (left-some (at-top .top .result .number) highest (omega (arith, c .if1 .left)));
+      ceiling = sym (ceiling-accepted (at-top .top .result .number) highest (omega (arith, c .if1 .left)));
     }
 
 pub say-none-spec : {M : Type 1} → statement M
