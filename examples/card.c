@@ -42,14 +42,14 @@ static void print(uint32_t n) { print_from(0, n); }
 
 int main(void) {
     static const struct spot spots[] = {{0, 5, 1}, {240, 7, 2}, {-120, 7, 3}, {600, -3, 4}};
-    static const spot_range ranges[RANGES] = {{-200, 300, 0}, {100, 700, -5}};
+    static const struct spot_range ranges[RANGES] = {{-200, 300, 0}, {100, 700, -5}};
     static const struct spot_change changes[CHANGES] = {{SPOT_WITHDRAW, {600, -3, 0}}, {SPOT_ADD, {0, 5, 9}}};
     static const struct spot_change too_far = {SPOT_ADD, {SPOT_HIGHEST_PLACE + 1, 5, 9}};
     uint32_t counts[RANGES];
     uint64_t answer;
     uint32_t n, first;
     int32_t ceiling;
-    size_t i;
+    unsigned long i, len;
 
     accepted("format", spot_format(table, sizeof table));
     for (i = 0; i < sizeof spots / sizeof spots[0]; i++)
@@ -61,7 +61,7 @@ int main(void) {
     print(n);
     printf("blocks read:");
     for (i = 0; i < SPOT_MOST_BLOCKS; i++)
-        if (spot_marked(read_map, i)) printf(" %u", (unsigned)i);
+        if (spot_marked(read_map, i)) printf(" %lu", i);
     printf("\n");
 
     n = accepted("report", spot_report(table, sizeof table, 240, -120, 0, output, sizeof output, read_map, sizeof read_map));
@@ -91,8 +91,9 @@ int main(void) {
 
     n = accepted("report", spot_report(table, sizeof table, INT32_MIN, INT32_MAX, INT32_MIN, listed, sizeof listed, read_map, sizeof read_map));
     accepted("press", spot_press(listed, SPOT_BYTES * n, tour, sizeof tour));
-    printf("a tour of the %" PRIu32 " spots of the table: %u blocks\n", n, (unsigned)(spot_tour_len(tour) / SPOT_BLOCK_BYTES));
-    n = accepted("tour_report", spot_tour_report(tour, spot_tour_len(tour), 200, -100, -5, output, sizeof output, read_map, sizeof read_map));
+    len = spot_tour_len(tour, sizeof tour);
+    printf("a tour of the %" PRIu32 " spots of the table: %lu blocks\n", n, len / SPOT_BLOCK_BYTES);
+    n = accepted("tour_report", spot_tour_report(tour, len, 200, -100, -5, output, sizeof output, read_map, sizeof read_map));
     printf("%" PRIu32 " of them from 200 cm on past the door to -100 cm with rank -5 or more:\n", n);
     print(n);
     spot_write(listed, spots[3]);
@@ -101,11 +102,16 @@ int main(void) {
 
     for (i = 0; i < CHANGES; i++) spot_write_change(list + SPOT_CHANGE_BYTES * i, changes[i]);
     accepted("write_message", spot_write_message(list, sizeof list, message, sizeof message));
-    printf("a message of %u changes, %u bytes; after it:\n", (unsigned)spot_message_changes(message), (unsigned)spot_message_len(message));
-    accepted("apply", spot_apply(table, sizeof table, work, sizeof work, message, spot_message_len(message)));
+    len = spot_message_len(message, sizeof message);
+    printf("a message of %d changes, %lu bytes, is sent\n", CHANGES, len);
+    /* Whoever receives it passes the number of bytes that came, not the length that stands in them. */
+    answer = spot_apply(table, sizeof table, work, sizeof work, message, len - 1);
+    printf("with its last byte lost: %" PRIu32 ", %s\n", spot_number(answer), spot_error_text(spot_number(answer)));
+    accepted("apply", spot_apply(table, sizeof table, work, sizeof work, message, len));
+    printf("whole; after it:\n");
     n = accepted("report", spot_report(table, sizeof table, INT32_MIN, INT32_MAX, INT32_MIN, output, sizeof output, read_map, sizeof read_map));
     print(n);
-    accepted("read_message", spot_read_message(message, spot_message_len(message), list, sizeof list));
+    accepted("read_message", spot_read_message(message, len, list, sizeof list));
     printf("its first change %s rank %" PRId32 "\n", spot_read_change(list).kind == SPOT_ADD ? "adds" : "withdraws", spot_read_change(list).spot.rank);
     spot_write_change(list + SPOT_CHANGE_BYTES, too_far);
     answer = spot_write_message(list, sizeof list, message, sizeof message);

@@ -2,8 +2,9 @@ use crate::{raw, Answer, Refusal, Spot, CHANGE, MOST_CHANGES, SPOT};
 use core::fmt;
 use core::iter::FusedIterator;
 
-/// A change to a table: a spot that is put in, or the place and rank of one that is taken out.
+/// A change to a table: a spot that is put in, or the place and rank of one that is taken out. A later version may have other kinds: a match needs a wildcard.
 #[derive(Clone, Copy, Debug, PartialEq, Eq, Hash)]
+#[non_exhaustive]
 pub enum Change {
     /// As [`Table::add`](crate::Table::add): one of the same place and rank is replaced.
     Add(Spot),
@@ -17,14 +18,11 @@ pub enum Change {
 }
 
 impl Change {
-    /// The change in the first 13 bytes: a kind, 1 or 2, and the spot, of which a withdrawal has zeros for the track. None where they hold no change.
-    ///
-    /// # Panics
-    ///
-    /// Where there are fewer.
+    /// The change in the first 13 bytes: a kind, 1 or 2, and the spot, of which a withdrawal has zeros for the track. None where they hold no change, or are fewer.
     pub fn read(bytes: &[u8]) -> Option<Change> {
-        let spot = Spot::read(&bytes[1..]);
-        match (bytes[0], spot.track) {
+        let (kind, rest) = bytes.split_first()?;
+        let spot = Spot::read(rest)?;
+        match (*kind, spot.track) {
             (1, _) => Some(Change::Add(spot)),
             (2, 0) => Some(Change::Withdraw { place: spot.place, rank: spot.rank }),
             _ => None,
@@ -59,6 +57,7 @@ impl Change {
 
 /// Why a message or a list of changes was turned down, and by which change. Every lent byte is as it was, but for a work area after [`Broken`](Refusal::Broken).
 #[derive(Clone, Copy, Debug, PartialEq, Eq, Hash)]
+#[non_exhaustive]
 pub struct MessageRefusal {
     /// Why.
     pub refusal: Refusal,
@@ -68,7 +67,7 @@ pub struct MessageRefusal {
 }
 
 impl MessageRefusal {
-    fn of(answer: Answer) -> Result<(), MessageRefusal> {
+    pub(crate) fn of(answer: Answer) -> Result<(), MessageRefusal> {
         let Err(refusal) = answer.result() else { return Ok(()) };
         let by_change = matches!(refusal, Refusal::Full | Refusal::PlaceOutside);
         Err(MessageRefusal { refusal, position: by_change.then_some(answer.detail as usize) })
@@ -124,14 +123,23 @@ pub struct Message<B> {
     bytes: B,
 }
 
-/// The length of the message that begins with these bytes: its first four say it.
+/// The length of the message at the front of these bytes, as its first four say it: at least 7, and never more than there are. None where no whole message stands there.
 ///
-/// # Panics
+/// It parts messages that stand one behind the other. What was received as one message is taken as it came: it is refused where its own length differs.
 ///
-/// Where there are fewer than four.
-pub fn message_len(bytes: &[u8]) -> usize {
-    u32::from_be_bytes([bytes[0], bytes[1], bytes[2], bytes[3]]) as usize
+/// ```
+/// use spot_table::message_len;
+/// assert_eq!(message_len(&[0, 0, 0, 7, 1, 0, 0, 99]), Some(7));
+/// assert_eq!(message_len(&[0, 0, 0, 8, 1, 0, 0]), None);
+/// assert_eq!(message_len(&[0, 0, 0]), None);
+/// ```
+pub fn message_len(bytes: &[u8]) -> Option<usize> {
+    let said = u32::from_be_bytes(*bytes.first_chunk()?) as usize;
+    (MESSAGE_HEAD..=bytes.len()).contains(&said).then_some(said)
 }
+
+/// Length, version and number of changes.
+const MESSAGE_HEAD: usize = 7;
 
 impl<B> Message<B> {
     /// The message in these bytes, whatever they hold. They are the message alone, without any that lie behind it.
@@ -148,6 +156,11 @@ impl<B> Message<B> {
 impl<'a> Message<&'a [u8]> {
     /// Writes the message of up to 4,096 changes at the front of the lent bytes; [`MESSAGE`](crate::MESSAGE) of them always suffice. Those behind it stay as they were; after a refusal all
     /// do. The list of changes takes 53 kB of stack here.
+    ///
+    /// # Errors
+    ///
+    /// [`NotAMessage`](Refusal::NotAMessage) for over 4,096 changes, [`LentLength`](Refusal::LentLength) where the message finds no room, [`PlaceOutside`](Refusal::PlaceOutside) with the
+    /// position of the first change whose place lies outside the limits.
     ///
     /// ```
     /// use spot_table::{Change, Message, Refusal, HIGHEST_PLACE, MESSAGE};
@@ -167,7 +180,8 @@ impl<'a> Message<&'a [u8]> {
             row.copy_from_slice(&c.to_bytes());
         }
         MessageRefusal::of(raw::write_message(&list[..CHANGE * n], lent))?;
-        Ok(Message { bytes: &lent[..message_len(lent)] })
+        let len = message_len(lent).unwrap_or(0);
+        Ok(Message { bytes: &lent[..len] })
     }
 }
 
@@ -177,25 +191,40 @@ impl<B: AsRef<[u8]>> Message<B> {
         self.bytes.as_ref()
     }
 
+    /// The number of changes that the message says it has; that many are in it where `read` accepts it. None of under 7 bytes.
+    pub fn said_changes(&self) -> Option<usize> {
+        let head: &[u8; MESSAGE_HEAD] = self.bytes().first_chunk()?;
+        Some(usize::from(u16::from_be_bytes([head[5], head[6]])))
+    }
+
     /// The changes, in their order. The list takes 13 bytes for each; what lies behind them stays as it was.
+    ///
+    /// # Errors
+    ///
+    /// [`NotAMessage`](Refusal::NotAMessage) where the bytes are no message, [`LentLength`](Refusal::LentLength) where the changes find no room in the list,
+    /// [`PlaceOutside`](Refusal::PlaceOutside) with the position of the first change whose place lies outside the limits.
     pub fn read<'o>(&self, list: &'o mut [u8]) -> Result<Changes<'o>, MessageRefusal> {
-        let bytes = self.bytes();
-        MessageRefusal::of(raw::read_message(bytes, list))?;
-        Ok(changes(list, usize::from(u16::from_be_bytes([bytes[5], bytes[6]]))))
+        MessageRefusal::of(raw::read_message(self.bytes(), list))?;
+        Ok(Changes { bytes: &list[..CHANGE * self.said_changes().unwrap_or(0)] })
     }
 
     pub(crate) fn apply(&self, table: &mut [u8], work: &mut [u8]) -> Result<(), MessageRefusal> {
-        MessageRefusal::of(raw::apply(table, work, self.bytes()))
+        MessageRefusal::of(raw::apply(table, self.bytes(), work))
     }
 }
 
-/// The first n changes of a list, as [`read_message`](crate::read_message) writes them.
+/// The first n changes of a list, as [`read_message`](crate::read_message) writes them; none where it has under 13 · n bytes or something among them is no change.
 ///
-/// # Panics
-///
-/// Where the list has under 13 · n bytes, and later where it holds something that is no change.
-pub fn changes(list: &[u8], n: usize) -> Changes<'_> {
-    Changes { bytes: &list[..CHANGE * n] }
+/// ```
+/// use spot_table::{changes, Change};
+/// let list = [2, 0, 0, 0, 240, 0, 0, 0, 7, 0, 0, 0, 0, 99];
+/// assert_eq!(changes(&list, 1).unwrap().collect::<Vec<_>>(), [Change::Withdraw { place: 240, rank: 7 }]);
+/// assert!(changes(&list, 2).is_none());
+/// assert!(changes(&[0; 13], 1).is_none());
+/// ```
+pub fn changes(list: &[u8], n: usize) -> Option<Changes<'_>> {
+    let bytes = list.get(..CHANGE.checked_mul(n)?)?;
+    bytes.chunks_exact(CHANGE).all(|row| Change::read(row).is_some()).then_some(Changes { bytes })
 }
 
 /// The changes of a list, from the first to the last.
@@ -210,7 +239,7 @@ impl Iterator for Changes<'_> {
     fn next(&mut self) -> Option<Change> {
         let (first, rest) = self.bytes.split_at_checked(CHANGE)?;
         self.bytes = rest;
-        Some(Change::read(first).expect("a list of changes"))
+        Change::read(first)
     }
 
     fn size_hint(&self) -> (usize, Option<usize>) {

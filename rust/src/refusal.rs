@@ -1,7 +1,10 @@
 use core::fmt;
 
 /// Why a call was turned down. Every lent byte is as it was, but for a work area after [`Broken`](Refusal::Broken): its first table-length bytes are zero then.
+///
+/// There may be more of them in a later version: a match needs a wildcard.
 #[derive(Clone, Copy, Debug, PartialEq, Eq, Hash)]
+#[non_exhaustive]
 pub enum Refusal {
     /// 1: the table is not a whole number of blocks, or has under 9 or over 4,096; or the tour is not 1 to 16 whole blocks.
     TableLength,
@@ -28,10 +31,17 @@ pub enum Refusal {
     NotAMessage,
     /// 9: Add, Withdraw, pressing a tour and writing, reading and applying a message only. A place doesn't lie from [`LOWEST_PLACE`](crate::LOWEST_PLACE) to [`HIGHEST_PLACE`](crate::HIGHEST_PLACE). This is asked after 2 and before 3.
     PlaceOutside,
+    /// A number that this version of the crate doesn't know: the archive is that of a later one.
+    Unknown {
+        /// The number.
+        number: u32,
+        /// What goes with it.
+        detail: u32,
+    },
 }
 
 impl Refusal {
-    /// The refusal of this number and detail; none for a number that is not 1 to 9.
+    /// The refusal of this number and detail; none for 0, with which a call is accepted.
     pub const fn new(number: u32, detail: u32) -> Option<Refusal> {
         match number {
             1 => Some(Refusal::TableLength),
@@ -43,11 +53,12 @@ impl Refusal {
             7 => Some(Refusal::NotPressable),
             8 => Some(Refusal::NotAMessage),
             9 => Some(Refusal::PlaceOutside),
-            _ => None,
+            0 => None,
+            number => Some(Refusal::Unknown { number, detail }),
         }
     }
 
-    /// The papers' number, 1 to 9.
+    /// The papers' number.
     pub const fn number(self) -> u32 {
         match self {
             Refusal::TableLength => 1,
@@ -59,6 +70,7 @@ impl Refusal {
             Refusal::NotPressable => 7,
             Refusal::NotAMessage => 8,
             Refusal::PlaceOutside => 9,
+            Refusal::Unknown { number, .. } => number,
         }
     }
 
@@ -66,6 +78,7 @@ impl Refusal {
     pub const fn detail(self) -> u32 {
         match self {
             Refusal::Output { spots } => spots,
+            Refusal::Unknown { detail, .. } => detail,
             _ => 0,
         }
     }
@@ -87,6 +100,7 @@ impl fmt::Display for Refusal {
             }
             Refusal::NotAMessage => f.write_str("the bytes are no message, or no list of changes"),
             Refusal::PlaceOutside => f.write_str("a place does not lie from -1,000,000 to 1,000,000 cm"),
+            Refusal::Unknown { number, .. } => write!(f, "refusal {number}, which this version doesn't know"),
         }
     }
 }

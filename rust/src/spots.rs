@@ -1,6 +1,7 @@
-use crate::{MAP, SPOT};
+use crate::{blocks_read, MAP, SPOT};
 use core::fmt;
 use core::iter::FusedIterator;
+use core::ops::{RangeFrom, RangeFull, RangeInclusive, RangeToInclusive};
 
 /// A place in centimetres, a rank and a track number.
 #[derive(Clone, Copy, Debug, PartialEq, Eq, Hash)]
@@ -15,12 +16,12 @@ pub struct Spot {
 }
 
 impl Spot {
-    /// The spot in the first 12 bytes.
-    ///
-    /// # Panics
-    ///
-    /// Where there are fewer.
-    pub fn read(bytes: &[u8]) -> Spot {
+    /// The spot in the first 12 bytes; none where there are fewer.
+    pub fn read(bytes: &[u8]) -> Option<Spot> {
+        bytes.first_chunk().map(Spot::of)
+    }
+
+    fn of(bytes: &[u8; SPOT]) -> Spot {
         let word = |i: usize| [bytes[i], bytes[i + 1], bytes[i + 2], bytes[i + 3]];
         Spot { place: i32::from_be_bytes(word(0)), rank: i32::from_be_bytes(word(4)), track: u32::from_be_bytes(word(8)) }
     }
@@ -30,7 +31,7 @@ impl Spot {
     /// ```
     /// let spot = spot_table::Spot { place: 240, rank: -1, track: 2 };
     /// assert_eq!(spot.to_bytes(), [0, 0, 0, 240, 255, 255, 255, 255, 0, 0, 0, 2]);
-    /// assert_eq!(spot_table::Spot::read(&spot.to_bytes()), spot);
+    /// assert_eq!(spot_table::Spot::read(&spot.to_bytes()), Some(spot));
     /// ```
     pub fn to_bytes(self) -> [u8; SPOT] {
         let mut bytes = [0; SPOT];
@@ -41,7 +42,57 @@ impl Spot {
     }
 }
 
-/// The places from x1 to x2, or, if x1 is greater, on past the door, and the lowest rank. The ends may be any numbers.
+/// The places from x1 to x2, both inside, or, if x1 is greater, all from x1 up and then, past the door, all up to x2. The ends may be any numbers.
+///
+/// Rust's ranges with a last place that is inside, or without one, are taken as places, too.
+///
+/// ```
+/// use spot_table::Places;
+/// assert_eq!(Places::from(0..=240), Places { x1: 0, x2: 240 });
+/// assert_eq!(Places::from(100..), Places { x1: 100, x2: i32::MAX });
+/// assert_eq!(Places::from(..), Places::ALL);
+/// let past_the_door = Places { x1: 240, x2: 0 };
+/// # let _ = past_the_door;
+/// ```
+#[derive(Clone, Copy, Debug, PartialEq, Eq, Hash)]
+pub struct Places {
+    /// The first place.
+    pub x1: i32,
+    /// The last place.
+    pub x2: i32,
+}
+
+impl Places {
+    /// All of them.
+    pub const ALL: Places = Places { x1: i32::MIN, x2: i32::MAX };
+}
+
+impl From<RangeInclusive<i32>> for Places {
+    fn from(range: RangeInclusive<i32>) -> Places {
+        let (x1, x2) = range.into_inner();
+        Places { x1, x2 }
+    }
+}
+
+impl From<RangeFrom<i32>> for Places {
+    fn from(range: RangeFrom<i32>) -> Places {
+        Places { x1: range.start, ..Places::ALL }
+    }
+}
+
+impl From<RangeToInclusive<i32>> for Places {
+    fn from(range: RangeToInclusive<i32>) -> Places {
+        Places { x2: range.end, ..Places::ALL }
+    }
+}
+
+impl From<RangeFull> for Places {
+    fn from(_: RangeFull) -> Places {
+        Places::ALL
+    }
+}
+
+/// [`Places`], and the lowest rank.
 #[repr(C)]
 #[derive(Clone, Copy, Debug, PartialEq, Eq, Hash)]
 pub struct Range {
@@ -53,19 +104,33 @@ pub struct Range {
     pub y: i32,
 }
 
-/// The first n spots of an output, as Report and Top write them.
+impl Range {
+    /// All places and all ranks.
+    pub const ALL: Range = Range { x1: i32::MIN, x2: i32::MAX, y: i32::MIN };
+
+    /// The places, and the lowest rank.
+    ///
+    /// ```
+    /// use spot_table::Range;
+    /// assert_eq!(Range::new(0..=240, 5), Range { x1: 0, x2: 240, y: 5 });
+    /// ```
+    pub fn new(places: impl Into<Places>, y: i32) -> Range {
+        let Places { x1, x2 } = places.into();
+        Range { x1, x2, y }
+    }
+}
+
+/// The first n spots of an output, as Report and Top write them; none where it has under 12 · n bytes.
 ///
 /// ```
+/// use spot_table::{spots, Spot};
 /// let output = [0, 0, 0, 240, 255, 255, 255, 255, 0, 0, 0, 2, 99];
-/// let all: Vec<_> = spot_table::spots(&output, 1).collect();
-/// assert_eq!(all, [spot_table::Spot { place: 240, rank: -1, track: 2 }]);
+/// let all: Vec<_> = spots(&output, 1).unwrap().collect();
+/// assert_eq!(all, [Spot { place: 240, rank: -1, track: 2 }]);
+/// assert!(spots(&output, 2).is_none());
 /// ```
-///
-/// # Panics
-///
-/// Where the output has under 12 · n bytes.
-pub fn spots(output: &[u8], n: usize) -> Spots<'_> {
-    Spots { bytes: &output[..SPOT * n] }
+pub fn spots(output: &[u8], n: usize) -> Option<Spots<'_>> {
+    Some(Spots { bytes: output.get(..SPOT.checked_mul(n)?)? })
 }
 
 /// The spots of an output, from the first to the last or from the back.
@@ -75,6 +140,11 @@ pub struct Spots<'a> {
 }
 
 impl<'a> Spots<'a> {
+    /// Those that a call has written.
+    pub(crate) fn first(output: &'a [u8], n: u32) -> Spots<'a> {
+        Spots { bytes: &output[..SPOT * n as usize] }
+    }
+
     /// The bytes of the spots that are left, 12 each.
     pub fn bytes(&self) -> &'a [u8] {
         self.bytes
@@ -85,9 +155,9 @@ impl Iterator for Spots<'_> {
     type Item = Spot;
 
     fn next(&mut self) -> Option<Spot> {
-        let (first, rest) = self.bytes.split_at_checked(SPOT)?;
+        let (first, rest) = self.bytes.split_first_chunk()?;
         self.bytes = rest;
-        Some(Spot::read(first))
+        Some(Spot::of(first))
     }
 
     fn size_hint(&self) -> (usize, Option<usize>) {
@@ -97,9 +167,9 @@ impl Iterator for Spots<'_> {
 
 impl DoubleEndedIterator for Spots<'_> {
     fn next_back(&mut self) -> Option<Spot> {
-        let (rest, last) = self.bytes.split_at_checked(self.bytes.len().checked_sub(SPOT)?)?;
+        let (rest, last) = self.bytes.split_last_chunk()?;
         self.bytes = rest;
-        Some(Spot::read(last))
+        Some(Spot::of(last))
     }
 }
 
@@ -112,17 +182,13 @@ impl fmt::Debug for Spots<'_> {
     }
 }
 
-/// The spots of each range of an output, as Report of many ranges writes them: one item for each count.
-///
-/// # Panics
-///
-/// Where the output has under 12 bytes for each spot that is counted.
-pub fn reports<'a>(output: &'a [u8], counts: &'a [u32]) -> Reports<'a> {
-    Reports { spots: spots(output, total(counts)), counts }
+/// The spots of each range of an output, as Report of many ranges writes them: one item for each count. None where the output has under 12 bytes for each spot that is counted.
+pub fn reports<'a>(output: &'a [u8], counts: &'a [u32]) -> Option<Reports<'a>> {
+    Some(Reports { spots: spots(output, total(counts)?)?, counts })
 }
 
-fn total(counts: &[u32]) -> usize {
-    counts.iter().map(|n| *n as usize).sum()
+fn total(counts: &[u32]) -> Option<usize> {
+    counts.iter().try_fold(0, |sum: usize, n| sum.checked_add(*n as usize))
 }
 
 /// The spots of each range, from the first range to the last or from the back.
@@ -133,6 +199,11 @@ pub struct Reports<'a> {
 }
 
 impl<'a> Reports<'a> {
+    /// Those that a call has written.
+    pub(crate) fn first(output: &'a [u8], n: u32, counts: &'a [u32]) -> Reports<'a> {
+        Reports { spots: Spots::first(output, n), counts }
+    }
+
     /// The spots of all ranges that are left, one range's behind the other's.
     pub fn all(&self) -> Spots<'a> {
         self.spots.clone()
@@ -161,8 +232,8 @@ impl<'a> Iterator for Reports<'a> {
 
 impl<'a> DoubleEndedIterator for Reports<'a> {
     fn next_back(&mut self) -> Option<Spots<'a>> {
-        let (_, rest) = self.counts.split_last()?;
-        let (others, own) = self.spots.bytes.split_at(SPOT * total(rest));
+        let (last, rest) = self.counts.split_last()?;
+        let (others, own) = self.spots.bytes.split_at(self.spots.bytes.len() - SPOT * *last as usize);
         *self = Reports { spots: Spots { bytes: others }, counts: rest };
         Some(Spots { bytes: own })
     }
@@ -179,6 +250,7 @@ impl fmt::Debug for Reports<'_> {
 
 /// What a Top within an allowance gives: the first of Top's spots, those that are certain, and how high the rest can be.
 #[derive(Clone, Debug)]
+#[non_exhaustive]
 pub struct Within<'a> {
     /// The spots that are certain, in Top's order.
     pub spots: Spots<'a>,
@@ -241,7 +313,7 @@ impl ReadMap {
 
     /// How many blocks are marked.
     pub fn ones(&self) -> u32 {
-        self.0.iter().map(|byte| byte.count_ones()).sum()
+        blocks_read(&self.0).detail
     }
 
     /// The 512 bytes.

@@ -1,9 +1,9 @@
-use crate::{raw, spots, ReadMap, Refusal, Spot, Spots, SPOT, TOUR_SPOTS};
+use crate::{raw, Range, ReadMap, Refusal, Spot, Spots, BLOCK, SPOT, TOUR_SPOTS};
 
 /// A pressed tour in bytes that are owned or borrowed: a read-only table of up to 512 spots in 1 to 16 blocks, for a show that is hung once.
 ///
 /// ```
-/// use spot_table::{ReadMap, Refusal, Spot, Tour, TOUR};
+/// use spot_table::{Places, Range, ReadMap, Refusal, Spot, Tour, TOUR};
 ///
 /// let spots = [(0, 5), (240, 7), (600, 3)].map(|(place, rank)| Spot { place, rank, track: 1 });
 /// let mut lent = [0; TOUR];
@@ -11,12 +11,13 @@ use crate::{raw, spots, ReadMap, Refusal, Spot, Spots, SPOT, TOUR_SPOTS};
 /// assert_eq!(tour.bytes().len(), 2 * 2048);
 ///
 /// let (mut output, mut map) = ([0; 3 * 12], ReadMap::new());
-/// let found = tour.report(100, 600, 4, &mut output, &mut map)?;
+/// let found = tour.report(Range::new(100..=600, 4), &mut output, &mut map)?;
 /// assert_eq!(found.map(|s| s.place).collect::<Vec<_>>(), [240]);
 /// assert_eq!(map.blocks().collect::<Vec<_>>(), [0, 1]);
 ///
 /// let copy = Tour::new(tour.bytes().to_vec());
-/// assert_eq!(copy.report(600, 0, 0, &mut output, &mut map)?.map(|s| s.place).collect::<Vec<_>>(), [600, 0]);
+/// let past_the_door = Range::new(Places { x1: 600, x2: 0 }, 0);
+/// assert_eq!(copy.report(past_the_door, &mut output, &mut map)?.map(|s| s.place).collect::<Vec<_>>(), [600, 0]);
 /// # Ok::<(), Refusal>(())
 /// ```
 #[derive(Clone, Copy, Debug)]
@@ -24,13 +25,19 @@ pub struct Tour<B> {
     bytes: B,
 }
 
-/// The length of the tour that begins with these bytes: its first four say it.
+/// The length of the tour at the front of these bytes, as its first four say it: whole blocks, at least one, and never more than there are. None where no whole tour stands there.
 ///
-/// # Panics
-///
-/// Where there are fewer than four.
-pub fn tour_len(bytes: &[u8]) -> usize {
-    u32::from_be_bytes([bytes[0], bytes[1], bytes[2], bytes[3]]) as usize
+/// ```
+/// use spot_table::{tour_len, Tour, TOUR};
+/// let mut lent = [0; TOUR];
+/// Tour::press(&[], &mut lent)?;
+/// assert_eq!(tour_len(&lent), Some(2048));
+/// assert_eq!(tour_len(&lent[..2047]), None);
+/// # Ok::<(), spot_table::Refusal>(())
+/// ```
+pub fn tour_len(bytes: &[u8]) -> Option<usize> {
+    let said = u32::from_be_bytes(*bytes.first_chunk()?) as usize;
+    ((1..=bytes.len()).contains(&said) && said % BLOCK == 0).then_some(said)
 }
 
 impl<B> Tour<B> {
@@ -49,6 +56,11 @@ impl<'a> Tour<&'a [u8]> {
     /// Presses up to 512 spots, strictly rising by place, then by rank, at the front of the lent bytes, at least [`TOUR`](crate::TOUR) of them. Those behind the tour stay as they
     /// were; after a refusal all do.
     ///
+    /// # Errors
+    ///
+    /// [`LentLength`](Refusal::LentLength) for fewer bytes, [`NotPressable`](Refusal::NotPressable) for over 512 spots or others than strictly rising ones,
+    /// [`PlaceOutside`](Refusal::PlaceOutside) where a place lies outside the limits.
+    ///
     /// ```
     /// use spot_table::{Refusal, Spot, Tour, HIGHEST_PLACE, TOUR};
     /// let spot = Spot { place: 0, rank: 5, track: 1 };
@@ -66,7 +78,8 @@ impl<'a> Tour<&'a [u8]> {
             part.copy_from_slice(&s.to_bytes());
         }
         raw::press(&bytes[..SPOT * n], lent).result()?;
-        Ok(Tour { bytes: &lent[..tour_len(lent)] })
+        let len = tour_len(lent).unwrap_or(0);
+        Ok(Tour { bytes: &lent[..len] })
     }
 }
 
@@ -78,8 +91,13 @@ impl<B: AsRef<[u8]>> Tour<B> {
 
     /// All spots with x1 ≤ place ≤ x2 and rank ≥ y, rising in place order; past the door as [`Table::report`](crate::Table::report) does. The output takes 12 bytes each. The map marks
     /// the blocks read: the catalogue and at most 3 + 2 · (spots div 64) others, past the door 4 + 2 · (spots div 64).
-    pub fn report<'o>(&self, x1: i32, x2: i32, y: i32, output: &'o mut [u8], map: &mut ReadMap) -> Result<Spots<'o>, Refusal> {
-        let n = raw::tour_report(self.bytes(), x1, x2, y, output, map.bytes_mut()).result()?;
-        Ok(spots(output, n as usize))
+    ///
+    /// # Errors
+    ///
+    /// [`TableLength`](Refusal::TableLength) where the bytes are not 1 to 16 whole blocks, [`Broken`](Refusal::Broken) where the catalogue or a block that is read breaks the layout,
+    /// [`Output`](Refusal::Output) for more spots than the output has room for.
+    pub fn report<'o>(&self, range: Range, output: &'o mut [u8], map: &mut ReadMap) -> Result<Spots<'o>, Refusal> {
+        let n = raw::tour_report(self.bytes(), range, output, map.bytes_mut()).result()?;
+        Ok(Spots::first(output, n))
     }
 }

@@ -11,7 +11,9 @@ fn refusals() {
         let e: &dyn std::error::Error = &r;
         assert!(!e.to_string().is_empty());
     }
-    assert_eq!([0, 10, u32::MAX].map(|number| Refusal::new(number, 0)), [None; 3]);
+    assert_eq!(Refusal::new(0, 7), None);
+    let unknown = Answer::new(10, 7).result().unwrap_err();
+    assert_eq!((unknown, unknown.number(), unknown.detail()), (Refusal::Unknown { number: 10, detail: 7 }, 10, 7));
     assert_eq!(Answer::new(0, 9).result(), Ok(9));
     assert_eq!(Table::format(vec![0; 8 * BLOCK]).unwrap_err(), Refusal::TableLength);
     let mut table = Table::format(vec![0; 9 * BLOCK]).unwrap();
@@ -35,24 +37,25 @@ fn messages() {
     assert_eq!([[0; CHANGE], [2; CHANGE], [3; CHANGE]].map(|row| Change::read(&row)), [None; 3]);
     let mut lent = [9; 50];
     let message = Message::write(&changes, &mut lent).unwrap().bytes().to_vec();
-    assert_eq!((message.len(), message_len(&lent), &lent[42..]), (42, 42, &[9; 8][..]));
+    assert_eq!((message.len(), message_len(&lent), &lent[42..]), (42, Some(42), &[9; 8][..]));
     let (message, mut list) = (Message::new(message), [9; 3 * CHANGE + 1]);
     let read = message.read(&mut list).unwrap();
     assert_eq!((read.len(), read.clone().collect::<Vec<_>>()), (3, changes.to_vec()));
     assert_eq!((list[3 * CHANGE], message.clone().into_bytes().len()), (9, 42));
-    let refused = |refusal, position| MessageRefusal { refusal, position };
-    assert_eq!(message.read(&mut list[..38]).unwrap_err(), refused(Refusal::LentLength, None));
-    assert_eq!(Message::new(&message.bytes()[..41]).read(&mut list).unwrap_err(), refused(Refusal::NotAMessage, None));
+    let why = |refused: MessageRefusal| (refused.refusal, refused.position);
+    assert_eq!(why(message.read(&mut list[..38]).unwrap_err()), (Refusal::LentLength, None));
+    assert_eq!(why(Message::new(&message.bytes()[..41]).read(&mut list).unwrap_err()), (Refusal::NotAMessage, None));
+    assert_eq!((message.said_changes(), Message::new(&message.bytes()[..6]).said_changes()), (Some(3), None));
     let mut work = vec![0; 9 * BLOCK];
     let mut table = Table::format(vec![0; 9 * BLOCK]).unwrap();
     assert_eq!((table.apply(&message, &mut work), table.count()), (Ok(()), Ok(2)));
-    assert_eq!(table.apply(&message, &mut work[1..]), Err(refused(Refusal::LentLength, None)));
-    assert_eq!(Table::new([9; 9 * BLOCK]).apply(&message, &mut work), Err(refused(Refusal::Broken, None)));
+    assert_eq!(table.apply(&message, &mut work[1..]).map_err(why), Err((Refusal::LentLength, None)));
+    let broken = Table::new([9; 9 * BLOCK]).apply(&message, &mut work).unwrap_err();
+    assert_eq!((why(broken), broken.to_string()), ((Refusal::Broken, None), Refusal::Broken.to_string()));
     let beyond = [changes[0], Change::Add(spot(HIGHEST_PLACE + 1))];
     let outside = Message::write(&beyond, &mut lent).unwrap_err();
-    assert_eq!(outside, refused(Refusal::PlaceOutside, Some(1)));
+    assert_eq!(why(outside), (Refusal::PlaceOutside, Some(1)));
     assert_eq!(outside.to_string(), std::format!("the change at position 1, from 0: {}", Refusal::PlaceOutside));
-    assert_eq!(refused(Refusal::Broken, None).to_string(), Refusal::Broken.to_string());
     assert_eq!(Refusal::from(outside), Refusal::PlaceOutside);
 }
 
@@ -66,7 +69,7 @@ fn iterators() {
     }
     assert_eq!((table.capacity(), table.count(), table.check()), (176, Ok(176), Ok(true)));
     let (mut output, mut map) = (vec![0; 176 * SPOT], ReadMap::new());
-    let spots = table.report(i32::MIN, i32::MAX, i32::MIN, &mut output, &mut map).unwrap();
+    let spots = table.report(Range::ALL, &mut output, &mut map).unwrap();
     assert_eq!((spots.len(), spots.bytes().len()), (176, 176 * SPOT));
     assert_eq!(spots.clone().collect::<Vec<_>>(), due);
     assert_eq!(spots.rev().collect::<Vec<_>>(), due.iter().copied().rev().collect::<Vec<_>>());
@@ -75,7 +78,7 @@ fn iterators() {
     assert!((0..5000).all(|b| map.marks(b) == blocks.contains(&b)));
     assert_eq!(marked(&[]).next(), None);
     assert_eq!(marked(&[255; MAP]).collect::<Vec<_>>(), (0..4096).collect::<Vec<_>>());
-    let best = table.top(0, 1760, 3, &mut output, &mut map).unwrap();
+    let best = table.top(0..=1760, 3, &mut output, &mut map).unwrap();
     assert_eq!(best.map(|s| (s.rank, s.place)).collect::<Vec<_>>(), [(6, 60), (6, 130), (6, 200)]);
 }
 
@@ -119,19 +122,38 @@ fn spots_and_ceiling() {
         (0, 90, 3, 0, &[], i32::MAX),
         (0, 90, 0, 1, &[], i32::MAX),
     ] {
-        let best = table.top_within(x1, x2, k, allowance, &mut output, &mut map).unwrap();
+        let best = table.top_within(Places { x1, x2 }, k, allowance, &mut output, &mut map).unwrap();
         assert_eq!((best.spots.clone().map(|s| s.rank).collect::<Vec<_>>(), best.ceiling), (ranks.to_vec(), ceiling));
         assert_eq!(map.ones(), if k == 0 || allowance == 0 { 1 } else { 2 });
     }
-    assert_eq!(table.top_within(0, 90, 3, 1, &mut [0; 35], &mut map).unwrap_err(), Refusal::Output { spots: 3 });
+    assert_eq!(table.top_within(0..=90, 3, 1, &mut [0; 35], &mut map).unwrap_err(), Refusal::Output { spots: 3 });
 }
 
-/// The C header says the same: version, sizes, and the words of each number.
+fn read(path: &str) -> String {
+    std::fs::read_to_string(std::format!("{}/../{path}", env!("CARGO_MANIFEST_DIR"))).unwrap()
+}
+
+/// What the header says is the version of the crate, of the tool and of the topmost heading of the changes; where one differs, `make version` carries the header's number to the first two.
+#[test]
+fn version() {
+    let header = read("include/spot_table.h");
+    let part =
+        |name: &str| header.split(&std::format!("#define SPOT_VERSION_{name} ")).nth(1).and_then(|rest| rest.lines().next()).unwrap();
+    let due = ["MAJOR", "MINOR", "PATCH"].map(part).join(".");
+    let after = |path: &str, before: &str| {
+        let text = read(path);
+        text.lines().find_map(|line| line.strip_prefix(before)).unwrap().trim_end_matches('"').to_string()
+    };
+    assert_eq!(env!("CARGO_PKG_VERSION"), due);
+    assert_eq!(after("tool/Cargo.toml", "version = \""), due);
+    assert_eq!(after("CHANGELOG.md", "## "), due);
+}
+
+/// The C header says the same: sizes, and the words of each number.
 #[test]
 fn header() {
-    let header = std::fs::read_to_string(concat!(env!("CARGO_MANIFEST_DIR"), "/../include/spot_table.h")).unwrap();
+    let header = read("include/spot_table.h");
     let has = |text: &str| assert!(header.contains(text), "{text}");
-    has(concat!("#define SPOT_VERSION \"", env!("CARGO_PKG_VERSION"), "\"\n"));
     for (name, value) in [
         ("BLOCK_BYTES", BLOCK),
         ("FEWEST_BLOCKS", FEWEST_BLOCKS),
@@ -169,13 +191,13 @@ fn stack() {
         table.withdraw(5, 5 * 7919 % 4001, &mut work).unwrap();
         table.rebuild(&mut work).unwrap();
         assert_eq!((table.count(), table.check()), (Ok(2999), Ok(true)));
-        let (mut output, mut map) = (vec![0; 65_520 * SPOT], ReadMap::new());
-        assert_eq!(table.report(i32::MIN, i32::MAX, i32::MIN, &mut output, &mut map).unwrap().len(), 2999);
-        assert_eq!(table.report(1, 0, i32::MIN, &mut output, &mut map).unwrap().len(), 2999);
-        assert_eq!(table.top(i32::MIN, i32::MAX, u32::MAX, &mut output, &mut map).unwrap().len(), 2999);
-        assert_eq!(table.top(1, 0, u32::MAX, &mut output, &mut map).unwrap().len(), 2999);
-        assert_eq!(table.top_within(1, 0, u32::MAX, u32::MAX, &mut output, &mut map).unwrap().spots.len(), 2999);
-        let (ranges, mut counts, mut output) = ([Range { x1: 1, x2: 0, y: i32::MIN }; 64], [0; 64], vec![0; 64 * 2999 * SPOT]);
+        let (mut output, mut map, past_the_door) = (vec![0; 65_520 * SPOT], ReadMap::new(), Range { x1: 1, x2: 0, y: i32::MIN });
+        assert_eq!(table.report(Range::ALL, &mut output, &mut map).unwrap().len(), 2999);
+        assert_eq!(table.report(past_the_door, &mut output, &mut map).unwrap().len(), 2999);
+        assert_eq!(table.top(.., u32::MAX, &mut output, &mut map).unwrap().len(), 2999);
+        assert_eq!(table.top(Places { x1: 1, x2: 0 }, u32::MAX, &mut output, &mut map).unwrap().len(), 2999);
+        assert_eq!(table.top_within(Places { x1: 1, x2: 0 }, u32::MAX, u32::MAX, &mut output, &mut map).unwrap().spots.len(), 2999);
+        let (ranges, mut counts, mut output) = ([past_the_door; 64], [0; 64], vec![0; 64 * 2999 * SPOT]);
         assert_eq!(table.report_many(&ranges, &mut counts, &mut output, &mut map).unwrap().all().len(), 64 * 2999);
         let changes: Vec<Change> = (0..4096).map(|i| Change::Add(Spot { place: 7919 * i % 4096, rank: i, track: 0 })).collect();
         let (mut lent, mut list) = (vec![0; MESSAGE], vec![0; CHANGE * MOST_CHANGES]);
@@ -186,7 +208,7 @@ fn stack() {
         let spots: Vec<Spot> = (0..512).map(|i| Spot { place: i, rank: 37 * i % 512, track: 0 }).collect();
         let mut lent = vec![0; TOUR];
         let tour = Tour::press(&spots, &mut lent).unwrap();
-        assert_eq!(tour.report(1, 0, i32::MIN, &mut output, &mut map).unwrap().len(), 512);
+        assert_eq!(tour.report(past_the_door, &mut output, &mut map).unwrap().len(), 512);
     };
     std::thread::Builder::new().stack_size(STACK + 16384).spawn(run).unwrap().join().unwrap();
 }

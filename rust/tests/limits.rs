@@ -18,8 +18,8 @@ fn spot((place, rank): Key, track: u32) -> Spot {
 
 fn call(c: Change, table: &mut [u8], work: &mut [u8]) -> Answer {
     match c {
-        Change::Add(k, t) => add(table, work, spot(k, t)),
-        Change::Withdraw(k) => withdraw(table, work, k.0, k.1),
+        Change::Add(k, t) => add(table, spot(k, t), work),
+        Change::Withdraw(k) => withdraw(table, k.0, k.1, work),
     }
 }
 
@@ -205,7 +205,7 @@ fn is_broken(made: &Made, edited: &Edited) -> [usize; 2] {
     asks(with_spots, &|t| (count(t), vec![]));
     for r in ranges() {
         let (Range { x1, x2, y }, near) = (r, Range { x1: 0, x2: 3, y: 0 });
-        asks(read_by_report(&made.table, x1, x2, y), &|t| lend(|out, map| report(t, x1, x2, y, out, map)));
+        asks(read_by_report(&made.table, x1, x2, y), &|t| lend(|out, map| report(t, Range { x1, x2, y }, out, map)));
         asks(read_by_many(&made.table, &[(near.x1, near.x2, near.y), (x1, x2, y)]), &|t| {
             let mut counts = [0xEEEE_EEEE; 2];
             let (answer, bytes) = lend(|out, map| report_many(t, &[near, r], &mut counts, out, map));
@@ -213,15 +213,15 @@ fn is_broken(made: &Made, edited: &Edited) -> [usize; 2] {
         });
         let read = |k: u32, allowance: u32| spot_reference::top_within(&made.table, x1, x2, k, allowance).read.into_iter().collect();
         for (k, allowance) in [(0, 9), (5, 0), (1, 1), (5, 2), (40, 5), (u32::MAX, u32::MAX)] {
-            asks(read(k, allowance), &|t| lend(|out, map| top_within(t, x1, x2, k, allowance, out, map).0));
+            asks(read(k, allowance), &|t| lend(|out, map| top_within(t, Places { x1, x2 }, k, allowance, out, map).0));
         }
         for k in [0, 1, 30, u32::MAX] {
-            asks(read(k, u32::MAX), &|t| lend(|out, map| top(t, x1, x2, k, out, map)));
+            asks(read(k, u32::MAX), &|t| lend(|out, map| top(t, Places { x1, x2 }, k, out, map)));
         }
     }
     for k in [LOWEST_PLACE, -600, -1, 0, 600, HIGHEST_PLACE].map(|place| (place, 3)) {
         // the nodes on the way to the identity
-        let on_path = |n: &Placed| n.from.map_or(true, |from| from <= k) && n.to.map_or(true, |to| k < to);
+        let on_path = |n: &Placed| n.from.is_none_or(|from| from <= k) && n.to.is_none_or(|to| k < to);
         let is_read = nodes(&made.table).iter().any(|n| on_path(n) && blocks.contains(&n.block));
         for c in changes(k) {
             if is_read {
@@ -303,8 +303,8 @@ fn an_entry_alone_is_3() {
         let start = 8 + 28 * j + at;
         assert_eq!((fault.rule, fault.block, fault.bytes), (7, 1, start..start + 4));
         let (mut out, mut map) = ([0xEE; 12], [0xEE; MAP]);
-        assert_eq!(top_within(&table, 0, 0, 1, 1, &mut out, &mut map), (Answer::new(3, 0), 0));
-        assert_eq!(report(&table, 0, 0, i32::MAX, &mut out, &mut map), Answer::new(3, 0));
+        assert_eq!(top_within(&table, Places { x1: 0, x2: 0 }, 1, 1, &mut out, &mut map), (Answer::new(3, 0), 0));
+        assert_eq!(report(&table, Range { x1: 0, x2: 0, y: i32::MAX }, &mut out, &mut map), Answer::new(3, 0));
         assert!(out == [0xEE; 12] && map == [0xEE; MAP]);
         changes((0, 3)).into_iter().for_each(|c| is_refused(c, &table, table.len(), 3));
     }
@@ -328,7 +328,7 @@ fn other_bytes_are_free() {
         }
         assert_eq!((check(&table), count(&table)), (Answer::new(0, 1), Answer::new(0, made.live.len() as u32)));
         let mut work = vec![4; table.len()];
-        assert_eq!(add(&mut table, &mut work, spot((7, 7), 7)), Answer::new(0, 0));
+        assert_eq!(add(&mut table, spot((7, 7), 7), &mut work), Answer::new(0, 0));
         assert_eq!(rebuild(&mut table, &mut work), Answer::new(0, 0));
         assert_eq!(check(&table), Answer::new(0, 1));
     }
@@ -357,7 +357,7 @@ fn ranges_beyond_the_limits() {
                 for x2 in &ends {
                     let due = spot_reference::top_within(&made.table, *x1, *x2, k, allowance);
                     let mut out = vec![0; SPOT * due.spots.len()];
-                    let (a, ceiling) = top_within(&made.table, *x1, *x2, k, allowance, &mut out, &mut map);
+                    let (a, ceiling) = top_within(&made.table, Places { x1: *x1, x2: *x2 }, k, allowance, &mut out, &mut map);
                     assert_eq!((a, ceiling), (Answer::new(0, due.spots.len() as u32), due.ceiling), "{x1} {x2} {k} {allowance}");
                     assert!(spots_of(&out).eq(due.spots.iter().map(|(k, t)| spot(*k, *t))));
                     let read: BTreeSet<usize> = due.read.into_iter().chain([0]).collect();
@@ -369,7 +369,7 @@ fn ranges_beyond_the_limits() {
 }
 
 fn spots_of(out: &[u8]) -> Spots<'_> {
-    spots(out, out.len() / SPOT)
+    spots(out, out.len() / SPOT).unwrap()
 }
 
 /// On any bytes every spot that is given has its place inside the limits, so that the difference of two fits 32 bits.
@@ -390,9 +390,9 @@ fn places_given_lie_inside() {
         for _ in 0..6 {
             let (x1, x2) = if random.below(2) == 0 { ALL } else { (random.below(2000) as i32 - 1000, random.draw() as i32) };
             let given = [
-                lend(|out, map| report(&made.table, x1, x2, i32::MIN, out, map)),
-                lend(|out, map| top(&made.table, x1, x2, 30, out, map)),
-                lend(|out, map| top_within(&made.table, x1, x2, 30, 4, out, map).0),
+                lend(|out, map| report(&made.table, Range { x1, x2, y: i32::MIN }, out, map)),
+                lend(|out, map| top(&made.table, Places { x1, x2 }, 30, out, map)),
+                lend(|out, map| top_within(&made.table, Places { x1, x2 }, 30, 4, out, map).0),
             ];
             for (a, out) in given {
                 if a.number != 0 {
@@ -401,7 +401,7 @@ fn places_given_lie_inside() {
                     continue;
                 }
                 answered += 1;
-                let given: Vec<Spot> = spots(&out, a.detail as usize).collect();
+                let given: Vec<Spot> = spots(&out, a.detail as usize).unwrap().collect();
                 assert!(given.iter().all(|s| in_limits(s.place) && holds(x1, x2, s.place)));
                 assert!(given.windows(2).all(|w| w[0].place.checked_sub(w[1].place).is_some()));
             }

@@ -4,7 +4,7 @@ use spot_reference::{make, read_by_many, reported_many, some_spots, Made, Random
 use spot_table::*;
 use std::collections::BTreeSet;
 
-const ALL: Range = Range { x1: i32::MIN, x2: i32::MAX, y: i32::MIN };
+const ALL: Range = Range::ALL;
 
 #[derive(Debug, PartialEq)]
 struct Left {
@@ -106,13 +106,13 @@ fn gives(made: &Made, ranges: &[Range], random: &mut Random) {
 /// As the single reports of the library give them, on any bytes: the counts, the spots, the marks with block 0; or 3, if one of them is 3.
 fn singles(table: &[u8], ranges: &[Range]) -> Option<(Vec<u32>, Vec<u8>, Vec<u8>)> {
     let mut map = [0; MAP];
-    if top(table, 0, 0, 0, &mut [], &mut map).number != 0 {
+    if top(table, Places { x1: 0, x2: 0 }, 0, &mut [], &mut map).number != 0 {
         return None;
     }
     let (mut counts, mut spots, mut all) = (vec![], vec![], map.to_vec());
     for r in ranges {
-        let mut out = vec![0; report(table, r.x1, r.x2, r.y, &mut [], &mut map).detail as usize * SPOT];
-        let n = report(table, r.x1, r.x2, r.y, &mut out, &mut map).result().ok()?;
+        let mut out = vec![0; report(table, *r, &mut [], &mut map).detail as usize * SPOT];
+        let n = report(table, *r, &mut out, &mut map).result().ok()?;
         counts.push(n);
         spots.extend(out);
         all.iter_mut().zip(map).for_each(|(a, b)| *a |= b);

@@ -2,8 +2,10 @@
 
 use spot_reference::histories::{anywhere, next, outside, Change, Live, KINDS};
 use spot_reference::message::{changes_in, changes_of, list_of, message_of, told, HEAD, ROW};
+use spot_reference::shown::{capacity, header_ok, layable, looked_up, walked};
 use spot_reference::{make, some_spots, sound, Key, Random};
 use spot_table::{add, apply, check, count, format, read_message, withdraw, write_message, Answer, Spot, BLOCK, MESSAGE};
+use std::collections::BTreeMap;
 
 const LENT: u8 = 0xEE;
 
@@ -155,7 +157,7 @@ fn what_is_no_message() {
         assert_eq!(reads(&message[..n], 100), Answer::new(8, 0), "cut after {n}");
     }
     for behind in 1..20 {
-        let more: Vec<u8> = message.iter().copied().chain(std::iter::repeat(2).take(behind)).collect();
+        let more: Vec<u8> = message.iter().copied().chain(std::iter::repeat_n(2, behind)).collect();
         assert_eq!(reads(&more, 100), Answer::new(8, 0), "{behind} bytes behind it");
     }
     // one more than a message may have, each in order
@@ -171,6 +173,15 @@ fn what_is_no_message() {
     assert_eq!(writes(&list, 0), Answer::new(8, 0));
     let outside = message_of(&[Change::Add((0, 0), 0), Change::Withdraw((1_000_001, 0)), Change::Add((-1_000_001, 0), 0)]);
     assert_eq!((reads(&outside, 39), reads(&outside, 38)), (Answer::new(9, 1), Answer::new(2, 0)));
+}
+
+/// The plain list of these spots, with a table of so many bytes.
+fn live_of(spots: &BTreeMap<Key, u32>, table: usize) -> Live {
+    let mut live = Live::new();
+    for (k, t) in spots {
+        assert_eq!(live.apply(Change::Add(*k, *t), table, table), 0);
+    }
+    live
 }
 
 /// A table, and what the plain list says of it.
@@ -189,10 +200,7 @@ impl Card {
     /// A sound table in some arrangement, with changes waiting.
     fn some(blocks: usize, n: usize, random: &mut Random) -> Card {
         let made = make(blocks, &some_spots(n, 1 + random.below(50_000), 1 + random.below(30_000), random), true, random);
-        let mut live = Live::new();
-        for (k, t) in &made.live {
-            assert_eq!(live.apply(Change::Add(*k, *t), made.table.len(), made.table.len()), 0);
-        }
+        let live = live_of(&made.live, made.table.len());
         Card { table: made.table, live }
     }
 
@@ -216,6 +224,14 @@ impl Card {
         out
     }
 
+    /// New spots, as many as there is room for.
+    fn fill(&mut self, random: &mut Random) {
+        let room = self.capacity() - self.live.spots.len();
+        let more: Vec<Change> = (0..room).map(|_| Change::Add(anywhere(random), 7)).collect();
+        let work = self.table.len();
+        assert_eq!(self.apply(&message_of(&more), work), Answer::new(0, 0));
+    }
+
     /// Applies the message: the answer is the plain list's, and every byte of table and work area is as it has to be.
     #[track_caller]
     fn apply(&mut self, message: &[u8], work: usize) -> Answer {
@@ -223,7 +239,7 @@ impl Card {
         let was = self.table.clone();
         let exact = figure(&was) == self.live.spots.len();
         let mut area = vec![LENT; work];
-        let a = apply(&mut self.table, &mut area, message);
+        let a = apply(&mut self.table, message, &mut area);
         let n = self.table.len();
         assert_eq!(a, answer(self.live.apply_message(changes.as_deref(), n, work)), "{} changes", changes.map_or(0, |c| c.len()));
         let zeros = if a.number == 0 { n } else { 0 };
@@ -368,7 +384,7 @@ fn numbers_of_applying_in_their_order() {
     let broken = vec![9; len];
     let gives = |table: &[u8], work: usize, message: &[u8], due: (u32, u32)| {
         let (mut own, mut area) = (table.to_vec(), vec![LENT; work]);
-        assert_eq!(apply(&mut own, &mut area, message), answer(due), "{} bytes of table, {work} of work area", table.len());
+        assert_eq!(apply(&mut own, message, &mut area), answer(due), "{} bytes of table, {work} of work area", table.len());
         let zeros = if due.0 == 3 { table.len() } else { 0 };
         assert!(own == table && area[..zeros].iter().all(|x| *x == 0) && area[zeros..].iter().all(|x| *x == LENT));
     };
@@ -407,8 +423,8 @@ fn one_change() {
             let c = card.changes(round / 4, 1, card.capacity(), &mut random)[0];
             let (mut other, mut work) = (card.table.clone(), vec![LENT; card.table.len()]);
             let single = match c {
-                Change::Add(k, t) => add(&mut other, &mut work, spot(k, t)),
-                Change::Withdraw(k) => withdraw(&mut other, &mut work, k.0, k.1),
+                Change::Add(k, t) => add(&mut other, spot(k, t), &mut work),
+                Change::Withdraw(k) => withdraw(&mut other, k.0, k.1, &mut work),
             };
             let len = card.table.len();
             assert_eq!(card.apply(&message_of(&[c]), len), single);
@@ -419,36 +435,96 @@ fn one_change() {
     assert!(seen[0] > 100 && seen[4] > 5, "{seen:?}");
 }
 
-/// Tables with bytes changed: never 3 on a sound one; a refusal leaves the table, and the work area is as lent after 4 and zero after 3.
-#[test]
-fn broken_tables() {
-    let mut random = Random(0x0609);
-    let mut seen = [0; 10];
-    for round in 0..4000 {
-        let card = Card::some(12, [150, 176][round % 2], &mut random);
-        let mut table = card.table.clone();
-        for _ in 0..1 + random.below(3) {
-            let at = if round % 4 < 2 { random.below(BLOCK) } else { random.below(table.len()) };
-            table[at] ^= 1 << random.below(8);
+/// A table with bytes changed: the figure or the map of blocks in use, which no node shows, so that it may be laid out anew, sound or not; block 0, or anywhere.
+fn damaged(table: &[u8], kind: usize, random: &mut Random) -> Vec<u8> {
+    let mut out = table.to_vec();
+    if kind == 0 {
+        let lower = random.below(figure(table) + 1) as u32;
+        out[8..12].copy_from_slice(&lower.to_be_bytes());
+        return out;
+    }
+    for _ in 0..1 + random.below(3) {
+        let at = [12 + random.below(2), random.below(BLOCK), random.below(table.len())][kind - 1];
+        out[at] ^= 1 << random.below(8);
+    }
+    out
+}
+
+/// Several changes on any table: laid out anew with a walk of everything, or 3; 4 on a sound table alone. Where additions find no room beside the figure, an unsound one is refused.
+fn several(table: &[u8], changes: &[Change]) -> (Answer, BTreeMap<Key, u32>) {
+    let three = (Answer::new(3, 0), BTreeMap::new());
+    let Some(mut spots) = layable(table) else { return three };
+    if sound(table).is_ok() {
+        let mut live = live_of(&spots, table.len());
+        return (answer(live.apply_message(Some(changes), table.len(), table.len())), live.spots);
+    }
+    let adds = changes.iter().filter(|c| matches!(c, Change::Add(..))).count();
+    if figure(table) + adds > capacity(table) {
+        return three;
+    }
+    for c in changes {
+        match c {
+            Change::Add(k, t) => spots.insert(*k, *t),
+            Change::Withdraw(k) => spots.remove(k),
+        };
+    }
+    if spots.len() > capacity(table) {
+        return three;
+    }
+    (Answer::new(0, 0), spots)
+}
+
+/// What is promised on every table of the right length: 3 by block 0; no changes change nothing; one goes the way of Add and Withdraw.
+#[track_caller]
+fn is_promised(was: &[u8], changes: &[Change], a: Answer, table: &[u8]) {
+    if !header_ok(was) {
+        assert_eq!(a, Answer::new(3, 0));
+        return;
+    }
+    match changes {
+        [] => assert!(a == Answer::new(0, 0) && table == was),
+        [c] => {
+            let found = looked_up(was, c.key());
+            assert!(found.is_some() || a.number == 3);
+            let is_full = || found == Some(None) && walked(was).is_some_and(|all| all.len() >= capacity(was));
+            assert!(a.number != 4 || is_full());
         }
-        let n = 1 + random.below(30);
-        let changes = card.changes(round / 2, n, 176, &mut random);
+        _ => {
+            let (due, spots) = several(was, changes);
+            assert_eq!(a, due);
+            assert!(a.number != 0 || sound(table).is_ok_and(|after| after == spots));
+        }
+    }
+}
+
+/// Tables with bytes changed: the number and the spots are those promised; a refusal leaves the table, and the work area is as lent after 4 and zero after 3.
+#[test]
+fn damaged_tables() {
+    let mut random = Random(0x0609);
+    let mut seen = [[0; 5]; 3];
+    let mut mended = 0;
+    for round in 0..8000 {
+        let mut card = Card::some(12, 150, &mut random);
+        if round % 2 == 0 {
+            card.fill(&mut random);
+        }
+        let mut table = damaged(&card.table, round / 2 % 4, &mut random);
+        let n = [0, 1, 2 + random.below(30), 2 + random.below(4)][round / 8 % 4];
+        let changes = card.changes(round / 32, n, 176, &mut random);
         let (was, wise) = (table.clone(), sound(&table));
         let mut work = vec![LENT; table.len() + 3];
-        let a = apply(&mut table, &mut work, &message_of(&changes));
-        seen[a.number as usize] += 1;
-        assert!([0, 3, 4].contains(&a.number) && (a.number == 4 || a.detail == 0) && !(wise.is_ok() && a.number == 3));
-        assert!(a.number == 0 || table == was);
+        let a = apply(&mut table, &message_of(&changes), &mut work);
+        seen[n.min(2)][a.number as usize] += 1;
+        mended += usize::from(n > 1 && wise.is_err() && a.number == 0);
+        assert!([0, 3, 4].contains(&a.number) && (a.number == 4 || a.detail == 0) && (a.number == 0 || table == was));
         let lent = if a.number == 4 { LENT } else { 0 };
         assert!(work[..was.len()].iter().all(|x| *x == lent) && work[was.len()..] == [LENT; 3]);
+        is_promised(&was, &changes, a, &table);
         if let Ok(spots) = wise {
-            let mut live = Live::new();
-            for (k, t) in spots {
-                assert_eq!(live.apply(Change::Add(k, t), was.len(), was.len()), 0);
-            }
+            let mut live = live_of(&spots, was.len());
             assert_eq!(a, answer(live.apply_message(Some(&changes), was.len(), was.len())));
             assert_eq!(sound(&table).as_ref(), Ok(&live.spots));
         }
     }
-    assert!(seen[0] > 100 && seen[3] > 100 && seen[4] > 5, "{seen:?}");
+    assert!(seen.iter().all(|s| s[0] > 100 && s[3] > 100) && seen[1][4] > 5 && seen[2][4] > 5 && mended > 100, "{seen:?}, {mended}");
 }

@@ -9,7 +9,7 @@ fn marks(map: &[u8]) -> Vec<usize> {
 
 fn ask(table: &[u8], x1: i32, x2: i32, y: i32, room: usize) -> (Answer, Vec<u8>, Vec<u8>) {
     let (mut out, mut map) = (vec![0xEE; room], vec![0xDD; 512]);
-    let a = report(table, x1, x2, y, &mut out, &mut map);
+    let a = report(table, Range { x1, x2, y }, &mut out, &mut map);
     (a, out, map)
 }
 
@@ -41,7 +41,7 @@ fn wrong_maps() {
     for n in [0, 511, 513] {
         let mut map = vec![9u8; n];
         let mut out = vec![8u8; 12];
-        assert_eq!(report(&table, 0, 1, 0, &mut out, &mut map), Answer::new(2, 0));
+        assert_eq!(report(&table, Range { x1: 0, x2: 1, y: 0 }, &mut out, &mut map), Answer::new(2, 0));
         assert!(map.iter().all(|x| *x == 9) && out.iter().all(|x| *x == 8));
     }
 }
@@ -76,7 +76,7 @@ fn reports() {
             let room = 12 * due.len() + random.below(24);
             let (a, out, map) = ask(&made.table, x1, x2, y, room);
             assert_eq!(a, Answer::new(0, due.len() as u32), "round {round}: {x1} {x2} {y}");
-            assert_eq!(spot_table::spots(&out, due.len()).collect::<Vec<_>>(), due);
+            assert_eq!(spot_table::spots(&out, due.len()).unwrap().collect::<Vec<_>>(), due);
             assert!(out[12 * due.len()..].iter().all(|x| *x == 0xEE));
             let read: Vec<usize> = read_by_report(&made.table, x1, x2, y).into_iter().collect();
             assert_eq!(marks(&map), read);
@@ -93,6 +93,28 @@ fn reports() {
                 assert!(out.iter().all(|x| *x == 0xEE) && map.iter().all(|x| *x == 0xDD));
             }
         }
+    }
+}
+
+/// "The number read is the count of ones", of the maps that reports leave and of any others.
+#[test]
+fn numbers_read() {
+    let ones = |map: &[u8]| (0..4096).filter(|b| map[b / 8] >> (b % 8) & 1 == 1).count() as u32;
+    let mut random = Random(512);
+    for round in 0..20 {
+        let spots = some_spots(1 + random.below(1500), 3000, 2000, &mut random);
+        let made = make(160, &spots, round % 2 == 0, &mut random);
+        for (x1, x2, y) in [(i32::MIN, i32::MAX, i32::MIN), (-100, 100, 0), (100, -100, 500)] {
+            let (a, _, map) = ask(&made.table, x1, x2, y, 12 * 1500);
+            assert_eq!((a.number, blocks_read(&map)), (0, Answer::new(0, ones(&map))));
+            assert_eq!(blocks_read(&map).detail as usize, read_by_report(&made.table, x1, x2, y).len());
+        }
+        let noise: Vec<u8> = (0..512).map(|_| random.draw() as u8).collect();
+        assert_eq!(blocks_read(&noise), Answer::new(0, ones(&noise)));
+    }
+    assert_eq!((blocks_read(&[0; 512]), blocks_read(&[255; 512])), (Answer::new(0, 0), Answer::new(0, 4096)));
+    for n in [0, 511, 513] {
+        assert_eq!(blocks_read(&vec![255; n]), Answer::new(2, 0));
     }
 }
 

@@ -29,7 +29,7 @@ fn gives(
     let room = SPOT * due.len() + random.below(24);
     let (a, out, map) = ask(&call, &made.table, room);
     assert_eq!(a, Answer::new(0, due.len() as u32), "{name}");
-    assert_eq!(spots(&out, due.len()).collect::<Vec<_>>(), due, "{name}");
+    assert_eq!(spots(&out, due.len()).unwrap().collect::<Vec<_>>(), due, "{name}");
     assert!(out[SPOT * due.len()..].iter().all(|x| *x == 0xEE));
     assert_eq!(marked(&map).collect::<BTreeSet<_>>(), *read, "{name}");
     let mut second = made.table.clone();
@@ -50,7 +50,7 @@ fn report_gives(made: &Made, (x1, x2): (i32, i32), y: i32, random: &mut Random) 
     let due: Vec<Spot> = reported(&made.live, x1, x2, y).into_iter().map(spot).collect();
     let read = read_by_report(&made.table, x1, x2, y);
     assert!(read.len() <= 1 + 36 * made.levels + 9 * (due.len() / 16));
-    gives(&std::format!("report {x1} {x2} {y}"), |table, out, map| report(table, x1, x2, y, out, map), made, &due, &read, random);
+    gives(&std::format!("report {x1} {x2} {y}"), |table, out, map| report(table, Range { x1, x2, y }, out, map), made, &due, &read, random);
     (due, read)
 }
 
@@ -63,7 +63,7 @@ fn top_gives(made: &Made, (x1, x2): (i32, i32), k: u32, random: &mut Random) -> 
     due.truncate(k as usize);
     let y = due.last().filter(|_| due.len() == k as usize).map_or(i32::MIN, |s| s.rank);
     let read = if k == 0 { BTreeSet::from([0]) } else { read_by_report(&made.table, x1, x2, y) };
-    gives(&std::format!("top {x1} {x2} {k}"), |table, out, map| top(table, x1, x2, k, out, map), made, &due, &read, random);
+    gives(&std::format!("top {x1} {x2} {k}"), |table, out, map| top(table, Places { x1, x2 }, k, out, map), made, &due, &read, random);
     (due, read)
 }
 
@@ -76,14 +76,14 @@ fn m5() {
     table.add(door, &mut work).unwrap();
     table.add(far, &mut work).unwrap();
     let (mut out, mut map) = ([0; 24], ReadMap::new());
-    assert_eq!(table.report(240, 0, 7, &mut out, &mut map).unwrap().collect::<Vec<_>>(), [far, door]);
+    assert_eq!(table.report(Range { x1: 240, x2: 0, y: 7 }, &mut out, &mut map).unwrap().collect::<Vec<_>>(), [far, door]);
     assert_eq!(map.blocks().collect::<Vec<_>>(), [0, 1]);
-    assert_eq!(table.report(240, -1, 7, &mut out, &mut map).unwrap().collect::<Vec<_>>(), [far]);
-    assert_eq!(table.report(241, 0, 7, &mut out, &mut map).unwrap().collect::<Vec<_>>(), [door]);
-    assert_eq!(table.report(240, 0, 8, &mut out, &mut map).unwrap().len(), 0);
-    assert_eq!(table.top(240, 0, 2, &mut out, &mut map).unwrap().collect::<Vec<_>>(), [door, far]);
-    assert_eq!(table.top(240, 0, 1, &mut out, &mut map).unwrap().collect::<Vec<_>>(), [door]);
-    assert_eq!(table.top(240, -1, 1, &mut out, &mut map).unwrap().collect::<Vec<_>>(), [far]);
+    assert_eq!(table.report(Range { x1: 240, x2: -1, y: 7 }, &mut out, &mut map).unwrap().collect::<Vec<_>>(), [far]);
+    assert_eq!(table.report(Range { x1: 241, x2: 0, y: 7 }, &mut out, &mut map).unwrap().collect::<Vec<_>>(), [door]);
+    assert_eq!(table.report(Range { x1: 240, x2: 0, y: 8 }, &mut out, &mut map).unwrap().len(), 0);
+    assert_eq!(table.top(Places { x1: 240, x2: 0 }, 2, &mut out, &mut map).unwrap().collect::<Vec<_>>(), [door, far]);
+    assert_eq!(table.top(Places { x1: 240, x2: 0 }, 1, &mut out, &mut map).unwrap().collect::<Vec<_>>(), [door]);
+    assert_eq!(table.top(Places { x1: 240, x2: -1 }, 1, &mut out, &mut map).unwrap().collect::<Vec<_>>(), [far]);
 }
 
 /// Every pair of these numbers is a range: one place, a gap of one or of none, the two outermost places alone, all between them; with ends beyond the limits of places.
@@ -199,9 +199,9 @@ fn damaged() {
             made.table[at] = random.draw() as u8;
         }
         let [x1, x2] = [0, -1500].map(|least| random.below(1500) as i32 + least);
-        let (a, out, map) = ask(|table, out, map| report(table, x1, x2, 0, out, map), &made.table, SPOT * 1600);
+        let (a, out, map) = ask(|table, out, map| report(table, Range { x1, x2, y: 0 }, out, map), &made.table, SPOT * 1600);
         if a.number == 0 {
-            let mut given = spots(&out, a.detail as usize);
+            let mut given = spots(&out, a.detail as usize).unwrap();
             assert!(given.all(|s| s.rank >= 0 && holds(x1, x2, s.place)) && map[0] & 1 == 1);
         } else {
             assert!(a == Answer::new(3, 0) && out.iter().all(|x| *x == 0xEE) && map.iter().all(|x| *x == 0xDD));

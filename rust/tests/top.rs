@@ -10,7 +10,7 @@ fn marks(map: &[u8]) -> Vec<usize> {
 
 fn ask(table: &[u8], x1: i32, x2: i32, k: u32, room: usize) -> (Answer, Vec<u8>, Vec<u8>) {
     let (mut out, mut map) = (vec![0xEE; room], vec![0xDD; 512]);
-    let a = top(table, x1, x2, k, &mut out, &mut map);
+    let a = top(table, Places { x1, x2 }, k, &mut out, &mut map);
     (a, out, map)
 }
 
@@ -40,7 +40,7 @@ fn lengths() {
     assert_eq!(format(&mut table), Answer::new(0, 0));
     for n in [0, 511, 513] {
         let (mut out, mut map) = (vec![8u8; 12], vec![9u8; n]);
-        assert_eq!(top(&table, 0, 1, 1, &mut out, &mut map), Answer::new(2, 0));
+        assert_eq!(top(&table, Places { x1: 0, x2: 1 }, 1, &mut out, &mut map), Answer::new(2, 0));
         assert!(map.iter().all(|x| *x == 9) && out.iter().all(|x| *x == 8));
     }
     let (a, out, map) = ask(&table[1..], 0, 1, 1, 12);
@@ -74,7 +74,7 @@ fn in_order() {
             let room = 12 * want.len() + random.below(24);
             let (a, out, map) = ask(&made.table, x1, x2, k, room);
             assert_eq!(a, Answer::new(0, want.len() as u32), "round {round}: {x1} {x2} {k}");
-            assert_eq!(spot_table::spots(&out, want.len()).collect::<Vec<_>>(), want, "round {round}: {x1} {x2} {k}");
+            assert_eq!(spot_table::spots(&out, want.len()).unwrap().collect::<Vec<_>>(), want, "round {round}: {x1} {x2} {k}");
             assert!(out[12 * want.len()..].iter().all(|x| *x == 0xEE));
             let y = if want.len() == k as usize { want.last().map_or(i32::MIN, |s| s.rank) } else { i32::MIN };
             let mut read: Vec<usize> = if k == 0 { vec![] } else { read_by_report(&made.table, x1, x2, y).into_iter().collect() };
@@ -98,7 +98,7 @@ fn rows_of_one_rank() {
     assert_eq!(format(&mut table), Answer::new(0, 0));
     for i in 0..320 {
         let s = Spot { place: 160 - i, rank: 7 + i % 50 / 49, track: i as u32 };
-        assert_eq!(add(&mut table, &mut work, s), Answer::new(0, 0));
+        assert_eq!(add(&mut table, s, &mut work), Answer::new(0, 0));
         live.insert((s.place, s.rank), s.track);
         if i % 16 != 15 {
             continue;
@@ -110,7 +110,7 @@ fn rows_of_one_rank() {
                 let want = due(&live, x1, x2, k);
                 let (a, out, _) = ask(&table, x1, x2, k as u32, 12 * want.len());
                 assert_eq!(a, Answer::new(0, want.len() as u32), "spot {i}: {x1} {x2} {k}");
-                assert_eq!(spot_table::spots(&out, want.len()).collect::<Vec<_>>(), want, "spot {i}: {x1} {x2} {k}");
+                assert_eq!(spot_table::spots(&out, want.len()).unwrap().collect::<Vec<_>>(), want, "spot {i}: {x1} {x2} {k}");
             }
         }
     }
@@ -174,7 +174,7 @@ fn damaged() {
             match a.number {
                 0 => {
                     assert!(a.detail <= k && map[0] & 1 == 1);
-                    for s in spot_table::spots(&out, a.detail as usize) {
+                    for s in spot_table::spots(&out, a.detail as usize).unwrap() {
                         assert!(holds(x1, x2, s.place));
                     }
                     assert!(out[12 * a.detail as usize..].iter().all(|x| *x == 0xEE));

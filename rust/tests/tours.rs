@@ -24,14 +24,14 @@ fn bytes(list: &List) -> Vec<u8> {
 fn press_gives(list: &List, random: &mut Random) -> Vec<u8> {
     let mut lent = vec![0xEE; TOUR + random.below(3) * 999];
     assert_eq!(press(&bytes(list), &mut lent), Answer::new(0, 0));
-    let (tour, behind) = lent.split_at(tour_len(&lent));
+    let (tour, behind) = lent.split_at(tour_len(&lent).unwrap());
     assert!(tour == pressed(list) && behind.iter().all(|x| *x == 0xEE), "{} spots", list.len());
     tour.to_vec()
 }
 
 fn ask(tour: &[u8], (x1, x2): (i32, i32), y: i32, room: usize) -> (Answer, Vec<u8>, Vec<u8>) {
     let (mut out, mut map) = (vec![0xEE; room], vec![0xDD; MAP]);
-    (tour_report(tour, x1, x2, y, &mut out, &mut map), out, map)
+    (tour_report(tour, Range { x1, x2, y }, &mut out, &mut map), out, map)
 }
 
 /// Every byte of the blocks that aren't read is another one.
@@ -54,7 +54,7 @@ fn report_gives(list: &List, tour: &[u8], range: (i32, i32), y: i32, random: &mu
     let room = SPOT * due.len() + random.below(24);
     let (a, out, map) = ask(tour, range, y, room);
     assert_eq!(a, Answer::new(0, due.len() as u32), "{name}");
-    assert_eq!(spots(&out, due.len()).collect::<Vec<_>>(), due, "{name}");
+    assert_eq!(spots(&out, due.len()).unwrap().collect::<Vec<_>>(), due, "{name}");
     assert!(out[SPOT * due.len()..].iter().all(|x| *x == 0xEE));
     assert_eq!(marked(&map).collect::<BTreeSet<_>>(), read, "{name}");
     assert_eq!(ask(&second(tour, &read, random), range, y, room), (a, out, map), "{name}");
@@ -172,7 +172,7 @@ fn tables_of_the_same_spots() {
             let [x1, x2] = [0; 2].map(|_| random.below(700) as i32 - 350);
             let y = random.below(44) as i32 - 22;
             let (mut out, mut map) = (vec![0xEE; ROOM], vec![0; MAP]);
-            let a = report(&made.table, x1, x2, y, &mut out, &mut map);
+            let a = report(&made.table, Range { x1, x2, y }, &mut out, &mut map);
             let (b, given, _) = ask(&tour, (x1, x2), y, ROOM);
             assert!(a.number == 0 && a == b && out == given, "{x1} {x2} {y}");
         }
@@ -230,14 +230,14 @@ fn tours_that_are_turned_down() {
         for map_len in [0, MAP - 1, MAP, MAP + 1] {
             let (before, mut out, mut map) = (tour.to_vec(), [0xEE; SPOT], vec![0xDD; map_len]);
             let due = if number > 1 && map_len != MAP { 2 } else { number };
-            let a = tour_report(tour, ENDS.0, ENDS.1, ENDS.0, &mut out, &mut map);
+            let a = tour_report(tour, Range::ALL, &mut out, &mut map);
             assert_eq!(a, Answer::new(due, if due == 5 { 512 } else { 0 }));
             assert!(tour == before && out == [0xEE; SPOT] && map.iter().all(|x| *x == 0xDD));
         }
     }
 }
 
-/// On any bytes: 3 exactly where a block read breaks its layout; else spots of the range, all in the blocks marked, which alone decide.
+/// On any bytes: 3 exactly where a block read breaks its layout; else spots of the range, no identity twice, all in the blocks marked, which alone decide.
 fn answers_any_bytes(tour: &[u8], range: (i32, i32), y: i32, random: &mut Random) -> bool {
     let (a, out, map) = ask(tour, range, y, ROOM);
     let Some(read) = read_of_bytes(tour, range.0, range.1, y) else {
@@ -247,8 +247,9 @@ fn answers_any_bytes(tour: &[u8], range: (i32, i32), y: i32, random: &mut Random
     assert_eq!((a.number, marked(&map).collect::<BTreeSet<_>>()), (0, read.clone()));
     let there: BTreeSet<&[u8]> =
         read.iter().filter(|b| **b > 0).flat_map(|b| tour[BLOCK * b..BLOCK * b + SPOT * 64].chunks(SPOT)).collect();
-    let mut given = spots(&out, a.detail as usize);
+    let mut given = spots(&out, a.detail as usize).unwrap();
     assert!(given.bytes().chunks(SPOT).all(|s| there.contains(s)));
+    assert_eq!(given.bytes().chunks(SPOT).map(|s| &s[..8]).collect::<BTreeSet<_>>().len(), a.detail as usize);
     assert!(given.all(|s| s.rank >= y && holds(range.0, range.1, s.place) && (LIMITS.0..=LIMITS.1).contains(&s.place)));
     assert_eq!(ask(&second(tour, &read, random), range, y, ROOM), (a, out, map));
     true
@@ -313,23 +314,59 @@ fn every_word_of_the_catalogue() {
     }
 }
 
-/// A catalogue that names the same spots over and over: up to 960 are given, and no more.
+/// A catalogue that names the same spots over and over, made before and ended after the rank asked for: it shows so by itself.
 #[test]
-fn the_most_spots_that_any_bytes_give() {
+fn the_same_spots_over_and_over() {
     let mut random = Random(0x0309);
     let list: List = (0..64).map(|i| ((i, i), 7)).collect();
     let own = press_gives(&list, &mut random);
     let mut tour = press_gives(&z(512), &mut random);
     for b in 1..16 {
-        // the lowest and the highest identity; made before, and ended after, the rank asked for, where they aren't none
         let [made, ended] = [if b <= 8 { 0 } else { -5 }, if b == 15 { 0 } else { 100 }].map(i32::to_be_bytes);
         let words = [&own[12..28], &[0; 4], &made, &[0; 4], &ended].concat();
         tour[8 + 36 * (b - 1) + 4..8 + 36 * b].copy_from_slice(&words);
         tour[BLOCK * b..BLOCK * (b + 1)].copy_from_slice(&own[BLOCK..]);
     }
-    assert!(answers_any_bytes(&tour, ENDS, 0, &mut random));
-    assert_eq!(ask(&tour, ENDS, 0, ROOM).0, Answer::new(0, 960));
-    assert_eq!(ask(&tour, ENDS, 0, SPOT * 512).0, Answer::new(5, 960));
+    assert!(!answers_any_bytes(&tour, ENDS, 0, &mut random));
+}
+
+/// A block copied over another, with its entry: whatever is asked, and whichever they are.
+#[test]
+fn a_block_that_stands_twice() {
+    let mut random = Random(0x030A);
+    for n in [128, 200, 512] {
+        let tour = press_gives(&z(n), &mut random);
+        let blocks = tour.len() / BLOCK;
+        for (from, to) in (1..blocks).flat_map(|from| (1..blocks).filter(move |to| *to != from).map(move |to| (from, to))) {
+            let mut other = tour.clone();
+            other.copy_within(8 + 36 * (from - 1)..8 + 36 * from, 8 + 36 * (to - 1));
+            other.copy_within(BLOCK * from..BLOCK * (from + 1), BLOCK * to);
+            for (range, y) in [(ENDS, ENDS.0), (ENDS, 100), ((1, 1), 400)] {
+                assert_eq!(ask(&other, range, y, ROOM).0, Answer::new(3, 0), "{n} spots, {from} over {to}");
+            }
+        }
+    }
+}
+
+/// What a catalogue shows of a block that isn't read, and a block of its maker where it is.
+#[test]
+fn spans_and_makers() {
+    let mut random = Random(0x030B);
+    // block 2 has one spot; what is asked for reads block 1
+    let tour = press_gives(&z(65), &mut random);
+    let (range, y) = ((0, 100), ENDS.0);
+    assert!(answers_any_bytes(&tour, range, y, &mut random));
+    for at in [8 + 36 + 4, 8 + 36 + 12] {
+        let mut other = tour.clone();
+        other[at + 7] ^= 1;
+        assert!(!answers_any_bytes(&other, range, y, &mut random));
+    }
+    // block 3 is fused: a spot of it with the lowest rank of all
+    let mut other = tour.clone();
+    other[3 * BLOCK + SPOT + 4..][..4].copy_from_slice(&ENDS.0.to_be_bytes());
+    assert!(answers_any_bytes(&other, range, y, &mut random));
+    assert!(answers_any_bytes(&tour, range, 300, &mut random));
+    assert!(!answers_any_bytes(&other, range, 300, &mut random));
 }
 
 /// The types over owned and borrowed bytes.
@@ -340,11 +377,11 @@ fn tours_in_rust() {
     let tour = Tour::press(&all, &mut lent).unwrap();
     assert_eq!(tour.bytes(), pressed(&z(300)));
     let (mut out, mut map) = ([0; SPOT * TOUR_SPOTS], ReadMap::new());
-    assert_eq!(tour.report(ENDS.0, ENDS.1, ENDS.0, &mut out, &mut map).unwrap().collect::<Vec<_>>(), all);
+    assert_eq!(tour.report(Range::ALL, &mut out, &mut map).unwrap().collect::<Vec<_>>(), all);
     let owned = Tour::new(tour.bytes().to_vec());
-    let given: Vec<i32> = owned.report(2900, 100, 256, &mut out, &mut map).unwrap().map(|s| s.place).collect();
+    let given: Vec<i32> = owned.report(Range { x1: 2900, x2: 100, y: 256 }, &mut out, &mut map).unwrap().map(|s| s.place).collect();
     assert_eq!(given, reported(&z(300), 2900, 100, 256).iter().map(|s| s.0 .0).collect::<Vec<_>>());
-    assert_eq!(owned.report(0, 9000, 1, &mut out[..SPOT], &mut map).unwrap_err(), Refusal::Output { spots: 300 });
+    assert_eq!(owned.report(Range::new(0..=9000, 1), &mut out[..SPOT], &mut map).unwrap_err(), Refusal::Output { spots: 300 });
     assert_eq!(owned.into_bytes().len(), 10 * BLOCK);
     assert!(lent[10 * BLOCK..].iter().all(|x| *x == 0xEE));
     let longer: Vec<Spot> = (0..2000).map(|place| Spot { place, rank: 1, track: 1 }).collect();
@@ -353,7 +390,7 @@ fn tours_in_rust() {
         assert_eq!(Tour::press(&longer[..n], &mut lent).unwrap_err(), Refusal::NotPressable);
         assert_eq!(Tour::press(&longer[..n], &mut lent[..TOUR - 1]).unwrap_err(), Refusal::LentLength);
     }
-    assert_eq!(Tour::new(&lent).report(0, 1, 0, &mut out, &mut map).unwrap_err(), Refusal::TableLength);
-    assert_eq!(Tour::new([0; BLOCK]).report(0, 1, 0, &mut out, &mut map).unwrap_err(), Refusal::Broken);
+    assert_eq!(Tour::new(&lent).report(Range::ALL, &mut out, &mut map).unwrap_err(), Refusal::TableLength);
+    assert_eq!(Tour::new([0; BLOCK]).report(Range::ALL, &mut out, &mut map).unwrap_err(), Refusal::Broken);
     assert_eq!(Tour::press(&[], &mut lent).unwrap().bytes(), pressed(&z(0)));
 }

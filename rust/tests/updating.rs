@@ -10,8 +10,8 @@ fn spot(k: Key, track: u32) -> Spot {
 
 fn call(c: Change, table: &mut [u8], work: &mut [u8]) -> Answer {
     match c {
-        Change::Add(k, t) => add(table, work, spot(k, t)),
-        Change::Withdraw(k) => withdraw(table, work, k.0, k.1),
+        Change::Add(k, t) => add(table, spot(k, t), work),
+        Change::Withdraw(k) => withdraw(table, k.0, k.1, work),
     }
 }
 
@@ -126,13 +126,13 @@ fn refusals() {
     let mut random = Random(6);
     let mut table = vec![3u8; BLOCK * 8];
     let mut work = vec![4u8; BLOCK * 9];
-    assert_eq!(add(&mut table, &mut work, spot((0, 0), 0)), Answer::new(1, 0));
-    assert_eq!(withdraw(&mut table, &mut work, 0, 0), Answer::new(1, 0));
+    assert_eq!(add(&mut table, spot((0, 0), 0), &mut work), Answer::new(1, 0));
+    assert_eq!(withdraw(&mut table, 0, 0, &mut work), Answer::new(1, 0));
     let mut table = vec![0u8; BLOCK * 9];
     assert_eq!(format(&mut table).number, 0);
     let was = table.clone();
-    assert_eq!(add(&mut table, &mut work[1..], spot((0, 0), 0)), Answer::new(2, 0));
-    assert_eq!(withdraw(&mut table, &mut work[1..], 0, 0), Answer::new(2, 0));
+    assert_eq!(add(&mut table, spot((0, 0), 0), &mut work[1..]), Answer::new(2, 0));
+    assert_eq!(withdraw(&mut table, 0, 0, &mut work[1..]), Answer::new(2, 0));
     assert!(table == was && work.iter().all(|x| *x == 4));
     let spots = some_spots(150, 500, 500, &mut random);
     let made = make(12, &spots, true, &mut random);
@@ -146,7 +146,7 @@ fn refusals() {
         let wise = sound(&table).is_ok();
         let mut work = vec![4u8; BLOCK * 12 + 3];
         let k = (random.below(500) as i32, random.below(500) as i32);
-        let a = if round % 3 == 0 { add(&mut table, &mut work, spot(k, 9)) } else { withdraw(&mut table, &mut work, k.0, k.1) };
+        let a = if round % 3 == 0 { add(&mut table, spot(k, 9), &mut work) } else { withdraw(&mut table, k.0, k.1, &mut work) };
         assert!(a.detail == 0 && [0, 3, 4].contains(&a.number) && !(wise && a.number == 3));
         assert!(a.number == 0 || table == was);
         let lent: u8 = if a.number == 4 { 4 } else { 0 };
@@ -156,5 +156,5 @@ fn refusals() {
         }
     }
     let mut noise: Vec<u8> = (0..BLOCK * 9).map(|_| random.draw() as u8).collect();
-    assert_eq!(add(&mut noise, &mut work, spot((1, 2), 3)), Answer::new(3, 0));
+    assert_eq!(add(&mut noise, spot((1, 2), 3), &mut work), Answer::new(3, 0));
 }

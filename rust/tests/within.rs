@@ -19,7 +19,7 @@ struct Left {
 /// The call with so many bytes of output and of the read map.
 fn lend(table: &[u8], (x1, x2): (i32, i32), k: u32, allowance: u32, room: usize, map: usize) -> Left {
     let (mut output, mut map) = (vec![0xEE; room], vec![0xDD; map]);
-    let (answer, ceiling) = top_within(table, x1, x2, k, allowance, &mut output, &mut map);
+    let (answer, ceiling) = top_within(table, Places { x1, x2 }, k, allowance, &mut output, &mut map);
     Left { answer, ceiling, output, map }
 }
 
@@ -73,7 +73,7 @@ fn gives(table: &[u8], all: &[Spot], range: (i32, i32), k: u32, allowance: u32, 
     let room = SPOT * n + random.below(24);
     let left = ask(table, range, k, allowance, room);
     assert_eq!((left.answer, left.ceiling), (Answer::new(0, n as u32), due.ceiling), "{name}");
-    let given: Vec<Spot> = spots(&left.output, n).collect();
+    let given: Vec<Spot> = spots(&left.output, n).unwrap().collect();
     assert_eq!(given, due.spots.iter().map(|(k, t)| spot(*k, *t)).collect::<Vec<_>>(), "{name}");
     assert!(left.output[SPOT * n..].iter().all(|x| *x == 0xEE), "{name}");
     let read: BTreeSet<usize> = due.read.iter().copied().chain([0]).collect();
@@ -106,7 +106,7 @@ fn grows(table: &[u8], live: &BTreeMap<Key, u32>, range: (i32, i32), k: u32, ran
         between += (0 < given && given < n) as usize;
         if enough <= allowance as usize {
             let (mut output, mut map) = (vec![0xEE; SPOT * n], vec![0xDD; MAP]);
-            let answer = top(table, range.0, range.1, k, &mut output, &mut map);
+            let answer = top(table, Places { x1: range.0, x2: range.1 }, k, &mut output, &mut map);
             let left = ask(table, range, k, allowance, SPOT * n);
             assert_eq!((left.answer, left.output, left.map), (answer, output, map), "{range:?} {k} {allowance}");
             assert!(given == n && (n == k as usize || ceiling == i32::MIN), "{range:?} {k} {allowance}");
@@ -169,8 +169,8 @@ fn histories() {
         for step in 0..3 * capacity {
             let c = next(kind, step, &live, capacity, capacity * 3 / 4, &mut random);
             let a = match c {
-                Change::Add(k, t) => add(&mut table, &mut work, spot(k, t)),
-                Change::Withdraw(k) => withdraw(&mut table, &mut work, k.0, k.1),
+                Change::Add(k, t) => add(&mut table, spot(k, t), &mut work),
+                Change::Withdraw(k) => withdraw(&mut table, k.0, k.1, &mut work),
             };
             assert_eq!(a.number, live.apply(c, table.len(), work.len()));
             if step % (capacity / 3) == 0 {
@@ -363,7 +363,7 @@ fn damaged() {
             match left.answer.number {
                 0 => {
                     assert!(n as u64 <= k as u64 && left.map[0] & 1 == 1 && marked(&left.map).count() as u64 <= 1 + allowance as u64);
-                    assert!(spots(&left.output, n).all(|s| holds(range.0, range.1, s.place)));
+                    assert!(spots(&left.output, n).unwrap().all(|s| holds(range.0, range.1, s.place)));
                     assert!(left.output[SPOT * n..].iter().all(|x| *x == 0xEE));
                     assert_eq!(ask(&noisy(&made.table, &left.map, &mut random), range, k, allowance, 100 * SPOT), left);
                     answered += 1;
@@ -375,7 +375,7 @@ fn damaged() {
                 }
             }
             let (mut output, mut map) = (vec![0xEE; 100 * SPOT], vec![0xDD; MAP]);
-            let answer = top(&made.table, range.0, range.1, k, &mut output, &mut map);
+            let answer = top(&made.table, Places { x1: range.0, x2: range.1 }, k, &mut output, &mut map);
             let left = ask(&made.table, range, k, u32::MAX, 100 * SPOT);
             assert_eq!((left.answer, left.map), (answer, map), "round {round}: {range:?} {k}");
         }

@@ -6,7 +6,8 @@ use crate::row::{self, Row};
 use crate::sqlite::Sqlite;
 use spot_reference::{holds, make, plain, Key, Random};
 use spot_table::{
-    add, check, count, format, rebuild, report, report_many, top, top_within, withdraw, Range, Spot, BLOCK, MAP, MOST_RANGES, SPOT,
+    add, blocks_read, check, count, format, rebuild, report, report_many, top, top_within, withdraw, Places, Range, Spot, BLOCK, MAP,
+    MOST_RANGES, SPOT,
 };
 use std::collections::{BTreeMap, BTreeSet};
 use std::hint::black_box;
@@ -57,7 +58,7 @@ pub fn shuffled<T>(mut list: Vec<T>, random: &mut Random) -> Vec<T> {
 }
 
 pub fn ones(map: &[u8]) -> f64 {
-    map.iter().map(|b| b.count_ones()).sum::<u32>().into()
+    blocks_read(map).detail.into()
 }
 
 /// Ranges all along the route at equal distances, each 1/n of it.
@@ -87,7 +88,7 @@ impl Setting {
         if state == "grown" {
             assert_eq!(format(&mut table).number, 0);
             for (k, t) in shuffled(spots.iter().collect(), random) {
-                assert_eq!(add(&mut table, &mut work, spot(*k, *t)).number, 0);
+                assert_eq!(add(&mut table, spot(*k, *t), &mut work).number, 0);
             }
         } else {
             let made = make(blocks, &spots, state == "waiting", random);
@@ -156,7 +157,7 @@ impl Setting {
         let room = SPOT * self.live.len();
         let (mut map, mut seen) = ([0; MAP], [0; MAP]);
         let mut outs = vec![vec![0u8; room]; 5];
-        let n = report(&self.table, x1, x2, y, &mut outs[0], &mut map).result().unwrap() as usize;
+        let n = report(&self.table, Range { x1, x2, y }, &mut outs[0], &mut map).result().unwrap() as usize;
         let mut counts = vec![flat::report(&self.file, x1, x2, y, &mut outs[1]), flat::report_halved(&self.file, x1, x2, y, &mut outs[2])];
         counts.extend(self.sqlite.iter().map(|s| s.report(x1, x2, y, &mut outs[3])));
         counts.extend(plain::report(&self.table, x1, x2, y, &mut outs[4], &mut seen));
@@ -166,7 +167,7 @@ impl Setting {
         let [a, b, c, d, e] = &mut outs[..] else { unreachable!() };
         let (marked, read) = (ones(&map), [flat::blocks(&self.file) as f64, flat::blocks_halved(&self.file, x1, x2) as f64]);
         let contenders: Contenders = vec![
-            timed(|| report(black_box(&self.table), x1, x2, y, a, &mut map)),
+            timed(|| report(black_box(&self.table), Range { x1, x2, y }, a, &mut map)),
             timed(|| flat::report(black_box(&self.file), x1, x2, y, b)),
             timed(|| flat::report_halved(black_box(&self.file), x1, x2, y, c)),
             self.sqlite.as_ref().and_then(|s| timed(move || s.report(x1, x2, y, d))),
@@ -188,8 +189,7 @@ impl Setting {
         let sqlite = |s: &Sqlite, out: &mut [u8]| one_by_one(ranges, out, |r, o| s.report(r.x1, r.x2, r.y, o));
         let mut plain =
             |out: &mut [u8]| one_by_one(ranges, out, |r, o| plain::report(black_box(&self.table), r.x1, r.x2, r.y, o, &mut seen).unwrap());
-        let mut single =
-            |out: &mut [u8]| one_by_one(ranges, out, |r, o| report(black_box(&self.table), r.x1, r.x2, r.y, o, &mut own).detail as usize);
+        let mut single = |out: &mut [u8]| one_by_one(ranges, out, |r, o| report(black_box(&self.table), *r, o, &mut own).detail as usize);
         let found = [file(b), halved(c), self.sqlite.as_ref().map_or(n, |s| sqlite(s, d)), plain(e), single(f)];
         assert!(found == [n; 5] && a == b && a == c && (self.sqlite.is_none() || a == d) && a == e && a == f);
         let read: BTreeSet<usize> = ranges.iter().flat_map(|r| flat::read_halved(&self.file, r.x1, r.x2)).collect();
@@ -209,7 +209,7 @@ impl Setting {
         let room = SPOT * self.live.len();
         let mut map = [0; MAP];
         let mut outs = vec![vec![0u8; room]; 4];
-        let n = top(&self.table, x1, x2, k, &mut outs[0], &mut map).result().unwrap() as usize;
+        let n = top(&self.table, Places { x1, x2 }, k, &mut outs[0], &mut map).result().unwrap() as usize;
         let most = k as usize;
         let mut counts = vec![flat::top(&self.file, x1, x2, most, &mut outs[1]), flat::top_halved(&self.file, x1, x2, most, &mut outs[2])];
         counts.extend(self.sqlite.iter().map(|s| s.top(x1, x2, k, &mut outs[3])));
@@ -219,7 +219,7 @@ impl Setting {
         let [a, b, c, d] = &mut outs[..] else { unreachable!() };
         let (marked, read) = (ones(&map), [flat::blocks(&self.file) as f64, flat::blocks_halved(&self.file, x1, x2) as f64]);
         let contenders: Contenders = vec![
-            timed(|| top(black_box(&self.table), x1, x2, k, a, &mut map)),
+            timed(|| top(black_box(&self.table), Places { x1, x2 }, k, a, &mut map)),
             timed(|| flat::top(black_box(&self.file), x1, x2, most, b)),
             timed(|| flat::top_halved(black_box(&self.file), x1, x2, most, c)),
             self.sqlite.as_ref().and_then(|s| timed(move || s.top(x1, x2, k, d))),
@@ -232,24 +232,24 @@ impl Setting {
     fn top_within(&self, rounds: usize, name: String, (x1, x2): (i32, i32), k: u32, allowance: u32) -> Row {
         let (mut map, mut own) = ([0; MAP], [0; MAP]);
         let [mut a, mut b] = [0; 2].map(|_| vec![0u8; SPOT * k as usize]);
-        let n = top_within(&self.table, x1, x2, k, allowance, &mut a, &mut map).0.result().unwrap() as usize;
-        let all = top(&self.table, x1, x2, k, &mut b, &mut own).result().unwrap() as usize;
+        let n = top_within(&self.table, Places { x1, x2 }, k, allowance, &mut a, &mut map).0.result().unwrap() as usize;
+        let all = top(&self.table, Places { x1, x2 }, k, &mut b, &mut own).result().unwrap() as usize;
         assert!(a[..SPOT * n] == b[..SPOT * n] && (allowance < u32::MAX || n == all && map == own));
         let marked = ones(&map);
         let contenders: Contenders = vec![
-            timed(|| top_within(black_box(&self.table), x1, x2, k, allowance, &mut a, &mut map)),
+            timed(|| top_within(black_box(&self.table), Places { x1, x2 }, k, allowance, &mut a, &mut map)),
             None,
             None,
             None,
             None,
-            timed(|| top(black_box(&self.table), x1, x2, k, &mut b, &mut own)),
+            timed(|| top(black_box(&self.table), Places { x1, x2 }, k, &mut b, &mut own)),
         ];
         self.row(name, n, race(rounds, contenders), [Some(marked), None, None])
     }
 
     fn count(&self, rounds: usize) -> Row {
         let (n, mut out, mut map) = (self.live.len(), vec![0; SPOT * self.live.len()], [0; MAP]);
-        assert_eq!(report(&self.table, i32::MIN, i32::MAX, i32::MIN, &mut out, &mut map).number, 0);
+        assert_eq!(report(&self.table, Range::ALL, &mut out, &mut map).number, 0);
         assert!(plain::count_all(&self.table) == Some(n) && self.sqlite.as_ref().map_or(n, |s| s.count()) == n);
         let contenders: Contenders = vec![
             timed(|| count(black_box(&self.table))),
@@ -310,14 +310,14 @@ impl Setting {
         let (mut table, mut file, mut cut) = (self.table.clone(), self.file.clone(), self.file.clone());
         let sqlite = self.sqlite.as_ref();
         let a = [
-            each(old, |k| assert_eq!(withdraw(&mut table, work, k.0, k.1).number, 0)),
+            each(old, |k| assert_eq!(withdraw(&mut table, k.0, k.1, work).number, 0)),
             each(old, |k| cut = flat::withdraw_anew(&cut, k)),
             each(old, |k| flat::withdraw_moved(&mut file, k)),
             each(old, |k| sqlite.into_iter().for_each(|s| s.withdraw(k))),
             each(&old[..old.len().min(64)], |_| black_box(&mut *work).fill(0)),
         ];
         let b = [
-            each(new, |k| assert_eq!(add(&mut table, work, spot(k, 7)).number, 0)),
+            each(new, |k| assert_eq!(add(&mut table, spot(k, 7), work).number, 0)),
             each(new, |k| cut = flat::add_anew(&cut, k, 7)),
             each(new, |k| flat::add_moved(&mut file, k, 7)),
             each(new, |k| sqlite.into_iter().for_each(|s| s.add(k, 7))),
@@ -338,7 +338,7 @@ impl Setting {
         let mut sums = [[0.0; 3]; 2];
         for (i, k) in old.iter().map(|k| (0, k)).chain(new.iter().map(|k| (1, k))) {
             let at = SPOT * flat::halve(&file, *k);
-            let a = if i == 0 { withdraw(&mut table, work, k.0, k.1) } else { add(&mut table, work, spot(*k, 7)) };
+            let a = if i == 0 { withdraw(&mut table, k.0, k.1, work) } else { add(&mut table, spot(*k, 7), work) };
             assert_eq!(a.number, 0);
             if i == 0 {
                 flat::withdraw_moved(&mut file, *k);

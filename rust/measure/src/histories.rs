@@ -65,7 +65,7 @@ fn run(blocks: usize, kind: Kind, full: bool) {
     let target = if kind == Kind::AtCapacity { capacity } else { fill };
     while live.spots.len() < target {
         let k = if kind == Kind::Rising { (step as i32, random.draw() as i32) } else { anywhere(&mut random) };
-        assert_eq!(add(&mut table, &mut work, spot(k, 1)).number, 0);
+        assert_eq!(add(&mut table, spot(k, 1), &mut work).number, 0);
         assert_eq!(live.apply(Change::Add(k, 1), table.len(), work.len()), 0);
         step += 1;
     }
@@ -76,8 +76,8 @@ fn run(blocks: usize, kind: Kind, full: bool) {
         step += 1;
         let start = Instant::now();
         let a = match c {
-            Change::Add(k, t) => add(black_box(&mut table), &mut work, spot(k, t)),
-            Change::Withdraw(k) => withdraw(black_box(&mut table), &mut work, k.0, k.1),
+            Change::Add(k, t) => add(black_box(&mut table), spot(k, t), &mut work),
+            Change::Withdraw(k) => withdraw(black_box(&mut table), k.0, k.1, &mut work),
         };
         let ns = start.elapsed().as_nanos() as f64;
         let accepted = live.apply(c, table.len(), work.len()) == 0;
@@ -108,8 +108,8 @@ fn run(blocks: usize, kind: Kind, full: bool) {
         let waited = waiting(&table);
         let accepted = live.apply(c, table.len(), work.len()) == 0;
         let _ = match c {
-            Change::Add(k, t) => add(&mut table, &mut work, spot(k, t)),
-            Change::Withdraw(k) => withdraw(&mut table, &mut work, k.0, k.1),
+            Change::Add(k, t) => add(&mut table, spot(k, t), &mut work),
+            Change::Withdraw(k) => withdraw(&mut table, k.0, k.1, &mut work),
         };
         let mut changed = 0;
         for b in 0..blocks {

@@ -6,7 +6,9 @@ use crate::flat;
 use crate::row::{Row, NINE_TENTHS};
 use crate::sqlite::Sqlite;
 use spot_reference::{Key, Random};
-use spot_table::{add, apply, check, format, message_len, rebuild, report, write_message, Change, BLOCK, MAP, MESSAGE, MOST_CHANGES, SPOT};
+use spot_table::{
+    add, apply, check, format, message_len, rebuild, report, write_message, Change, Range, BLOCK, MAP, MESSAGE, MOST_CHANGES, SPOT,
+};
 use std::collections::BTreeMap;
 use std::hint::black_box;
 
@@ -48,7 +50,7 @@ impl Sent {
         let list: Vec<u8> = changes.iter().flat_map(|(k, t)| change(*k, *t).to_bytes()).collect();
         let mut bytes = vec![0; MESSAGE];
         assert_eq!(write_message(&list, &mut bytes).number, 0);
-        bytes.truncate(message_len(&bytes));
+        bytes.truncate(message_len(&bytes).unwrap());
         Sent { name: name(size, order), changes, bytes }
     }
 }
@@ -83,7 +85,7 @@ pub fn rows(blocks: usize, rounds: usize, random: &mut Random) -> Vec<Row> {
     let (mut table, mut work) = (vec![0; BLOCK * blocks], vec![0; BLOCK * blocks]);
     assert_eq!(format(&mut table).number, 0);
     for (k, t) in &live {
-        assert_eq!(add(&mut table, &mut work, spot(*k, *t)).number, 0);
+        assert_eq!(add(&mut table, spot(*k, *t), &mut work).number, 0);
     }
     assert_eq!((rebuild(&mut table, &mut work).number, check(&table).detail), (0, 1));
     let file = flat::make(live.iter());
@@ -103,7 +105,7 @@ pub fn rows(blocks: usize, rounds: usize, random: &mut Random) -> Vec<Row> {
         timed(&mut renewal, || assert_eq!(rebuild(&mut own, &mut work).number, 0));
         for (m, runs) in sent.iter().zip(&mut runs) {
             own.copy_from_slice(&table);
-            timed(&mut runs[0], || assert_eq!(apply(&mut own, &mut work, &m.bytes).number, 0));
+            timed(&mut runs[0], || assert_eq!(apply(&mut own, &m.bytes, &mut work).number, 0));
             let cut = timed(&mut runs[1], || flat::apply_anew(black_box(&file), &m.changes));
             if let Some(s) = &sqlite {
                 timed(&mut runs[3], || in_sqlite(s, &m.changes));
@@ -119,7 +121,7 @@ pub fn rows(blocks: usize, rounds: usize, random: &mut Random) -> Vec<Row> {
             // beside one change an Add of the same spot, beside several a Rebuild
             if let [(k, Some(t))] = m.changes[..] {
                 own.copy_from_slice(&table);
-                timed(&mut runs[5], || assert_eq!(add(&mut own, &mut work, spot(k, t)).number, 0));
+                timed(&mut runs[5], || assert_eq!(add(&mut own, spot(k, t), &mut work).number, 0));
             } else {
                 runs[5].get_or_insert_with(Vec::new).extend(renewal.iter().flatten());
             }
@@ -135,7 +137,7 @@ pub fn rows(blocks: usize, rounds: usize, random: &mut Random) -> Vec<Row> {
 /// All hold the same spots.
 fn is_same(table: &[u8], file: &[u8], sqlite: Option<&Sqlite>) {
     let (mut out, mut map) = (vec![0; file.len()], [0; MAP]);
-    let n = report(table, i32::MIN, i32::MAX, i32::MIN, &mut out, &mut map).detail as usize;
+    let n = report(table, Range::ALL, &mut out, &mut map).detail as usize;
     assert!(SPOT * n == file.len() && out == file);
     if let Some(s) = sqlite {
         let mut own = vec![0; file.len()];

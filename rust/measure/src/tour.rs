@@ -5,7 +5,7 @@ use crate::clock::race;
 use crate::flat;
 use crate::row::{self, Row};
 use spot_reference::{Key, Random};
-use spot_table::{press, tour_len, tour_report, BLOCK, MAP, SPOT, TOUR, TOUR_SPOTS};
+use spot_table::{press, tour_len, tour_report, Range, BLOCK, MAP, SPOT, TOUR, TOUR_SPOTS};
 use std::hint::black_box;
 
 pub fn rows(rounds: usize, random: &mut Random) -> Vec<Row> {
@@ -13,7 +13,7 @@ pub fn rows(rounds: usize, random: &mut Random) -> Vec<Row> {
     let file = flat::make(spots.iter());
     let mut lent = vec![0; TOUR];
     assert_eq!(press(&file, &mut lent).number, 0);
-    lent.truncate(tour_len(&lent));
+    lent.truncate(tour_len(&lent).unwrap());
     let unsorted = shuffled(spots.iter().map(|(k, t)| (*k, *t)).collect(), random);
     let mut out = vec![pressing(rounds, &unsorted, &file)];
     let mut ranks: Vec<i32> = spots.keys().map(|k| k.1).collect();
@@ -53,12 +53,12 @@ fn report(rounds: usize, name: &str, (x1, x2): (i32, i32), y: i32, tour: &[u8], 
     let mut map = [0; MAP];
     let mut outs = vec![vec![0u8; SPOT * TOUR_SPOTS]; 3];
     let [a, b, c] = &mut outs[..] else { unreachable!() };
-    let n = tour_report(tour, x1, x2, y, a, &mut map).result().unwrap() as usize;
+    let n = tour_report(tour, Range { x1, x2, y }, a, &mut map).result().unwrap() as usize;
     assert!(flat::report(file, x1, x2, y, b) == n && flat::report_halved(file, x1, x2, y, c) == n);
     assert!(a[..SPOT * n] == b[..SPOT * n] && a[..SPOT * n] == c[..SPOT * n]);
     let touched = [ones(&map), flat::blocks(file) as f64, flat::blocks_halved(file, x1, x2) as f64];
     let contenders: Contenders = vec![
-        timed(|| tour_report(black_box(tour), x1, x2, y, a, &mut map)),
+        timed(|| tour_report(black_box(tour), Range { x1, x2, y }, a, &mut map)),
         timed(|| flat::report(black_box(file), x1, x2, y, b)),
         timed(|| flat::report_halved(black_box(file), x1, x2, y, c)),
         None,

@@ -1,5 +1,5 @@
 //! The spot table's rules read plainly, apart from the proved library and without it: tables in many arrangements, soundness with its reasons ([`sound`], [`faults`]),
-//! what a Report and a Top within an allowance read, pressed tours, messages, histories of changes, and a walk in plain Rust as a yardstick. For tests, benchmarks and explanations; nothing here is proved.
+//! what damaged tables show ([`shown`]), what a Report and a Top within an allowance read, pressed tours, messages, histories of changes, and a walk in plain Rust as a yardstick. For tests, benchmarks and explanations; nothing here is proved.
 
 mod explain;
 pub mod histories;
@@ -7,6 +7,7 @@ mod layout;
 pub mod message;
 pub mod plain;
 mod range;
+pub mod shown;
 mod tables;
 mod tour;
 mod tree;

@@ -18,7 +18,7 @@ pub fn holds(x1: i32, x2: i32, place: i32) -> bool {
 pub(crate) fn meets(x1: i32, x2: i32, from: Option<Key>, to: Option<Key>) -> bool {
     stretches(x1, x2).any(|(first, last)| {
         let begin = from.unwrap_or((i32::MIN, i32::MIN)).max((first, i32::MIN));
-        begin <= (last, i32::MAX) && to.map_or(true, |end| begin < end)
+        begin <= (last, i32::MAX) && to.is_none_or(|end| begin < end)
     })
 }
 

@@ -155,7 +155,7 @@ impl Maker<'_> {
     fn lay(&mut self, all: &[(Key, u32)], limit: Option<Key>, fans: &[usize]) -> (usize, Node, BTreeMap<Key, u32>) {
         let block = self.next;
         self.next += 1;
-        let mut own: Vec<(Key, u32)> = all.iter().copied().filter(|(k, _)| limit.map_or(true, |l| by_rank(*k) < by_rank(l))).collect();
+        let mut own: Vec<(Key, u32)> = all.iter().copied().filter(|(k, _)| limit.is_none_or(|l| by_rank(*k) < by_rank(l))).collect();
         own.sort_by_key(|(k, _)| std::cmp::Reverse(by_rank(*k)));
         let level = fans.len() as u8;
         let take = if level == 0 || own.len() <= 40 { own.len() } else { 32 + self.random.below(33).min(own.len() - 32) };
@@ -194,7 +194,7 @@ impl Maker<'_> {
                 let part: Vec<(Key, u32)> = all[from..to]
                     .iter()
                     .filter_map(|(k, t)| {
-                        let above = cut.map_or(true, |c| by_rank(*k) >= by_rank(c));
+                        let above = cut.is_none_or(|c| by_rank(*k) >= by_rank(c));
                         if above {
                             Some((*k, *t))
                         } else {

@@ -39,7 +39,7 @@ fn sweep(spots: &BTreeMap<Key, u32>, y: Option<i32>) -> (Vec<Tile>, Vec<usize>) 
     let all: Vec<(Key, u32)> = spots.iter().map(|(k, t)| (*k, *t)).collect();
     let mut tiles: Vec<Tile> = all.chunks(FULL).map(|s| Tile { spots: s.to_vec(), made: None, ended: None }).collect();
     let mut standing: Vec<usize> = (0..tiles.len()).collect();
-    let mut order: Vec<Key> = spots.keys().copied().filter(|k| y.map_or(true, |y| k.1 < y)).collect();
+    let mut order: Vec<Key> = spots.keys().copied().filter(|k| y.is_none_or(|y| k.1 < y)).collect();
     order.sort_by_key(|k| by_rank(*k));
     for p in order {
         // "once a pair has 64 spots left; of two pairs the left"
@@ -115,7 +115,8 @@ impl Entry {
     fn keeps(&self, b: usize, of: usize) -> bool {
         let is_none = [(self.made, b <= of / 2), (self.ended, b + 1 == of)];
         let sized = if b == of / 2 { (1..=FULL).contains(&self.spots) } else { self.spots == FULL };
-        let spans = self.low <= self.high && in_limits(self.low.0) && in_limits(self.high.0);
+        let ends = if self.spots == 1 { self.low == self.high } else { self.low < self.high };
+        let spans = ends && in_limits(self.low.0) && in_limits(self.high.0);
         sized && spans && is_none.iter().all(|(k, none)| if *none { *k == (0, 0) } else { in_limits(k.0) })
     }
 
@@ -127,13 +128,40 @@ impl Entry {
         stretches(x1, x2).any(|(first, last)| self.low.0 <= last && first <= self.high.0)
     }
 
-    /// "The others begin with their spots in place order", as many as the entry says and from its lowest to its highest identity; "unused bytes zero".
-    fn leads_to(&self, block: &[u8]) -> bool {
+    fn spans(&self, k: Key) -> bool {
+        (self.low..=self.high).contains(&k)
+    }
+
+    /// A fused block is made of two: of one of them its maker, which ended both, and of one of them each of its spots, left once the maker is passed.
+    fn made_of(&self, pair: [&Entry; 2]) -> bool {
+        let of_one = |k: Key| pair.iter().any(|e| e.spans(k));
+        of_one(self.made) && [self.low, self.high].into_iter().all(|k| of_one(k) && by_rank(self.made) < by_rank(k))
+    }
+
+    /// "The others begin with their spots in place order", as many as the entry says and from its lowest to its highest identity, those of a fused block left once its maker is passed;
+    /// "unused bytes zero".
+    fn leads_to(&self, b: usize, of: usize, block: &[u8]) -> bool {
         let (used, unused) = block.split_at(SPOT * self.spots);
         let keys: Vec<Key> = used.chunks(SPOT).map(key).collect();
         let ends = keys.first() == Some(&self.low) && keys.last() == Some(&self.high);
-        ends && keys.windows(2).all(|k| k[0] < k[1]) && unused.iter().all(|x| *x == 0)
+        let left = b <= of / 2 || keys.iter().all(|k| by_rank(self.made) < by_rank(*k));
+        ends && left && keys.windows(2).all(|k| k[0] < k[1]) && unused.iter().all(|x| *x == 0)
     }
+}
+
+/// What entries show of each other: place blocks one behind the other, makers one after the other, and each fused block in the place of the first two side by side that its maker ended.
+fn agree(entries: &[(usize, Entry)]) -> bool {
+    let all: Vec<&Entry> = entries.iter().map(|(_, e)| e).collect();
+    let (places, fused) = all.split_at(all.len().div_ceil(2));
+    let mut standing = places.to_vec();
+    for z in fused {
+        let ended = |pair: &[&Entry]| pair.iter().all(|e| e.ended == z.made);
+        match standing.windows(2).position(ended) {
+            Some(at) if z.made_of([standing[at], standing[at + 1]]) => drop(standing.splice(at..at + 2, [*z])),
+            _ => return false,
+        }
+    }
+    places.windows(2).all(|e| e[0].high < e[1].low) && fused.windows(2).all(|e| by_rank(e[0].made) < by_rank(e[1].made))
 }
 
 /// The blocks that a Report reads of any bytes of 1 to 16 blocks, by what their catalogue says; none where a block read breaks its layout.
@@ -146,12 +174,12 @@ pub fn read_of_bytes(tour: &[u8], x1: i32, x2: i32, y: i32) -> Option<BTreeSet<u
         return None;
     }
     let entries: Vec<(usize, Entry)> = (1..m).map(|b| (b, Entry::of(tour, b))).collect();
-    if entries.iter().any(|(b, e)| !e.keeps(*b, m)) {
+    if entries.iter().any(|(b, e)| !e.keeps(*b, m)) || !agree(&entries) {
         return None;
     }
     let mut read = BTreeSet::from([0]);
     for (b, e) in entries.into_iter().filter(|(b, e)| e.stands(*b, m, y) && e.meets(x1, x2)) {
-        if !e.leads_to(&tour[BLOCK * b..BLOCK * (b + 1)]) {
+        if !e.leads_to(b, m, &tour[BLOCK * b..BLOCK * (b + 1)]) {
             return None;
         }
         read.insert(b);

@@ -37,7 +37,7 @@ pub fn top_within(table: &[u8], x1: i32, x2: i32, k: u32, allowance: u32) -> Wit
         open(table, next, (x1, x2), &mut children, &mut found);
         // "the live spots found in range whose rank is above every such child's"
         let highest = children.iter().map(|c| c.rank).max();
-        let is_given = |spot: &(Key, u32)| highest.map_or(true, |rank| spot.0 .1 > rank);
+        let is_given = |spot: &(Key, u32)| highest.is_none_or(|rank| spot.0 .1 > rank);
         let certain = found.iter().filter(|s| is_given(s)).count();
         // "It stops when the allowance is used, k spots are given or no such child is left"
         if read.len() == allowance as usize || certain >= k as usize || children.is_empty() {

@@ -28,7 +28,7 @@ pub struct Visit {
 
 impl Visit {
     pub fn holds(&self, k: Key) -> bool {
-        self.from.map_or(true, |from| from <= k) && self.to.map_or(true, |to| k < to)
+        self.from.is_none_or(|from| from <= k) && self.to.is_none_or(|to| k < to)
     }
 
     pub fn range(&self) -> String {
