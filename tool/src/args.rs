@@ -1,5 +1,7 @@
 //! The command line.
 
+use crate::sheet::Names;
+use crate::spot::Spot;
 use crate::store::{HIGHEST_PLACE, LEAST_BLOCKS, LOWEST_PLACE, MOST_BLOCKS};
 use clap::error::ErrorKind;
 use clap::{Args, CommandFactory, Parser, Subcommand};
@@ -22,12 +24,13 @@ The spots usually stand in a spreadsheet with columns named place, rank and trac
   spotcard report show.card 0 2400 5       what is heard from 0 to 2400 cm with rank 5 or more
   spotcard picture show.card -o show.svg   a picture to look at
   spotcard check show.card                 whether the card is sound
+  spotcard undo show.card                  the card before the last change
   spotcard send old.csv new.csv -o monday  the changes from one sheet to the next, to be sent to the guides
   spotcard apply show.card monday          all of these changes, or none
   spotcard press sheet.csv -o show.tour    a small card that is never changed, of up to 512 spots
 
 A card is changed as one: whatever happens in between, the file is the old card or the new one. Beside it stand show.card.sha256, by which \
-`check` finds changes that spotcard did not make, and show.card.lock, which keeps two people from changing it at once.";
+`check` finds changes that spotcard did not make, show.card.before, which `undo` puts back, and show.card.lock, which keeps two people from changing it at once.";
 
 const EXIT_CODES: &str = "\
 Exit codes: 0 done; 1 refused, not sound, or not the same; 2 the command line is wrong; 3 a file or a lock is in the way.
@@ -36,7 +39,15 @@ Exit codes: 0 done; 1 refused, not sound, or not the same; 2 the command line is
 const IMPORT_EXAMPLES: &str = "\
 Examples:
   spotcard import sheet.csv show.card             add all rows
-  spotcard import sheet.csv show.card --replace   exactly the rows of the sheet";
+  spotcard import sheet.csv show.card --replace   exactly the rows of the sheet
+  spotcard import liste.csv show.card --columns place=Ort,rank=Rang,track=Spur
+  spotcard export old.card | spotcard import - show.card";
+
+const ADD_EXAMPLES: &str = "\
+Examples:
+  spotcard add show.card 2400 7 51         at 24 metres, rank 7, track 51
+  spotcard add show.card 2400 7 51 2600 5 52
+                                           two spots";
 
 const SEND_EXAMPLES: &str = "\
 Examples:
@@ -81,7 +92,7 @@ pub enum Command {
         /// Number of blocks, 9 to 4096
         #[arg(long, value_name = "N", default_value = "4096", value_parser = blocks)]
         blocks: usize,
-        /// Replace an existing file; all that is on it goes
+        /// Replace an existing card
         #[arg(long)]
         force: bool,
         #[command(flatten)]
@@ -89,14 +100,15 @@ pub enum Command {
     },
     /// Put the rows of a sheet on a card: all of them or none
     ///
-    /// The sheet is a CSV file. Its first line names the columns; place, rank and track are used, in any order, and all others are ignored. A place lies from
-    /// -1000000 to 1000000. Every row is judged before the card is touched: if one is wrong, all that is wrong is listed with line numbers, and the card
+    /// The sheet is a CSV file, its columns parted by commas, semicolons or tabs. Its first line names the columns; place, rank and track are used, in any order, and all others are
+    /// ignored. A place lies from -1000000 to 1000000. Every row is judged before the card is touched: if one is wrong, all that is wrong is listed with line numbers, and the card
     /// stays as it is.
     ///
-    /// Without --replace the rows join the spots on the card. A row that gives another track to a spot on the card is an error then.
+    /// Without --replace the rows join the spots on the card. A row that gives another track to a spot on the card is an error then. With --replace and an empty sheet, or one that
+    /// takes more than half of the spots off the card, those that would go are named, and --yes is asked for.
     #[command(after_help = IMPORT_EXAMPLES)]
     Import {
-        /// The sheet, a CSV file
+        /// The sheet, a CSV file; - reads it from standard input
         #[arg(value_name = "SHEET.csv")]
         sheet: PathBuf,
         /// The card
@@ -104,6 +116,14 @@ pub enum Command {
         /// Let the card hold exactly the rows of the sheet afterwards: spots that the sheet does not have go
         #[arg(long)]
         replace: bool,
+        /// With --replace: also if the sheet is empty, or more than half of the card's spots go
+        #[arg(long, requires = "replace")]
+        yes: bool,
+        /// Say what would happen, and change nothing
+        #[arg(long)]
+        dry_run: bool,
+        #[command(flatten)]
+        columns: Columns,
         #[command(flatten)]
         wait: Wait,
     },
@@ -115,23 +135,30 @@ pub enum Command {
         /// Write to this file instead of the screen
         #[arg(short, long, value_name = "F")]
         output: Option<PathBuf>,
-        /// Replace the file if it exists
+        /// Replace the sheet if it exists
         #[arg(long, requires = "output")]
         force: bool,
     },
-    /// Show the rows that only the card or only the sheet has
+    /// Show the spots that only one of two files has, each of them a card, a tour or a sheet
+    ///
+    /// With a file of changes as the second one: the spots of the first that they would take off or put on.
     ///
     /// Exit code 0 where both have the same spots, 1 where they differ.
-    #[command(after_help = "Example: spotcard diff show.card sheet.csv")]
+    #[command(
+        after_help = "Examples:\n  spotcard diff show.card sheet.csv\n  spotcard diff old.csv new.csv\n  spotcard diff show.card monday.changes"
+    )]
     Diff {
-        /// The card
-        card: PathBuf,
-        /// The sheet, a CSV file
-        #[arg(value_name = "SHEET.csv")]
-        sheet: PathBuf,
+        /// A card, a tour or a sheet
+        #[arg(value_name = "FILE")]
+        one: PathBuf,
+        /// Another one, or a file of changes
+        #[arg(value_name = "OTHER")]
+        other: PathBuf,
         /// As CSV: only_in, place, rank, track, line
         #[arg(long)]
         csv: bool,
+        #[command(flatten)]
+        columns: Columns,
     },
     /// Write the changes that turn one sheet into another, as they are sent to the guides
     ///
@@ -151,7 +178,9 @@ pub enum Command {
         /// The file of changes
         #[arg(short, long, value_name = "CHANGES")]
         output: PathBuf,
-        /// Replace the file if it exists
+        #[command(flatten)]
+        columns: Columns,
+        /// Replace the file of changes if it exists
         #[arg(long)]
         force: bool,
     },
@@ -165,11 +194,16 @@ pub enum Command {
         card: PathBuf,
         /// The file of changes, as `send` writes it
         changes: PathBuf,
+        /// Say what would happen, and change nothing
+        #[arg(long)]
+        dry_run: bool,
         #[command(flatten)]
         wait: Wait,
     },
-    /// Put one spot on a card; one of the same place and rank is replaced
-    #[command(after_help = "Example: spotcard add show.card 2400 7 51         at 24 metres, rank 7, track 51")]
+    /// Put one or more spots on a card; one of the same place and rank is replaced
+    ///
+    /// Several spots, each with its place, rank and track, go onto the card as one: all of them or none.
+    #[command(after_help = ADD_EXAMPLES)]
     Add {
         /// The card
         card: PathBuf,
@@ -178,6 +212,9 @@ pub enum Command {
         /// Track number
         #[arg(value_parser = unsigned)]
         track: u32,
+        /// More spots, each with its place, rank and track
+        #[arg(value_name = "PLACE RANK TRACK", allow_negative_numbers = true, value_parser = wide)]
+        more: Vec<i64>,
         #[command(flatten)]
         wait: Wait,
     },
@@ -213,6 +250,8 @@ pub enum Command {
         more: Vec<i32>,
         #[command(flatten)]
         shape: Shape,
+        #[command(flatten)]
+        beside: Beside,
     },
     /// Show the spots of highest rank between two places, best first
     ///
@@ -236,6 +275,8 @@ pub enum Command {
         allow: Option<u32>,
         #[command(flatten)]
         shape: Shape,
+        #[command(flatten)]
+        beside: Beside,
     },
     /// Press the rows of a sheet into a tour: a small card that is never changed
     ///
@@ -251,16 +292,18 @@ pub enum Command {
         /// The file of the tour
         #[arg(short, long, value_name = "TOUR")]
         output: PathBuf,
-        /// Replace an existing file; all that is on it goes
+        #[command(flatten)]
+        columns: Columns,
+        /// Replace an existing tour
         #[arg(long)]
         force: bool,
         #[command(flatten)]
         wait: Wait,
     },
-    /// Show how large and how full a card or a pressed tour is
+    /// Show how large and how full a card or a pressed tour is, or how many changes a file has
     #[command(after_help = "Example: spotcard info show.card")]
     Info {
-        /// The card, or a pressed tour
+        /// The card, a pressed tour or a file of changes
         card: PathBuf,
     },
     /// Say whether a card is sound, and if not, why
@@ -269,8 +312,34 @@ pub enum Command {
     /// broken, and the entry by which a reader comes to the block.
     #[command(after_help = "Example: spotcard check show.card")]
     Check {
-        /// The card
+        /// The card, a pressed tour or a file of changes
         card: PathBuf,
+    },
+    /// Put back the card before the last change
+    ///
+    /// Each change keeps the card before it beside the card, as show.card.before. `undo` puts that one in the place of the card, and keeps the card in turn: a second `undo` takes
+    /// the first one back.
+    #[command(after_help = "Example: spotcard undo show.card")]
+    Undo {
+        /// The card, or a pressed tour
+        card: PathBuf,
+        #[command(flatten)]
+        wait: Wait,
+    },
+    /// Write the spots that are left of a broken card as CSV, and say what is lost
+    ///
+    /// The spots of all blocks that are in order are written. The blocks that are not are named: what stood in them is missing, and what they had withdrawn or given another track
+    /// stands there as it was before. The card itself is left as it is, also one that was cut short.
+    #[command(after_help = "Example: spotcard salvage broken.card -o rest.csv")]
+    Salvage {
+        /// The broken card
+        card: PathBuf,
+        /// The sheet to write
+        #[arg(short, long, value_name = "REST.csv")]
+        output: PathBuf,
+        /// Replace the sheet if it exists
+        #[arg(long)]
+        force: bool,
     },
     /// Lay the spots of a card out anew: the spots stay the same, and no change waits
     #[command(after_help = "Example: spotcard rebuild show.card")]
@@ -290,16 +359,18 @@ pub enum Command {
     Picture {
         /// The card
         card: PathBuf,
-        /// Show this report: X1 X2 Y
+        /// Show this report: X1 X2 Y; can be given several times
         #[arg(long, num_args = 3, value_names = ["X1", "X2", "Y"], allow_negative_numbers = true, value_parser = signed, conflicts_with = "top")]
         report: Option<Vec<i32>>,
         /// Show this top: X1 X2 K
         #[arg(long, num_args = 3, value_names = ["X1", "X2", "K"], allow_negative_numbers = true, value_parser = wide)]
         top: Option<Vec<i64>>,
+        #[command(flatten)]
+        beside: Beside,
         /// The file to write
         #[arg(short, long, value_name = "F.svg")]
         output: PathBuf,
-        /// Replace the file even if it is no picture of spotcard's
+        /// Replace the picture even if it is not spotcard's
         #[arg(long)]
         force: bool,
     },
@@ -364,6 +435,29 @@ pub struct Shape {
 }
 
 #[derive(Args)]
+pub struct Columns {
+    /// What the columns are called in the sheet, for any of place, rank, track, title and room
+    #[arg(long, value_name = "place=Ort,rank=Rang,...")]
+    columns: Option<Names>,
+}
+
+impl Columns {
+    pub fn names(&self) -> Names {
+        self.columns.clone().unwrap_or_default()
+    }
+}
+
+/// The sheet of a card, which has what the card hasn't.
+#[derive(Args)]
+pub struct Beside {
+    /// Show the titles and rooms that this sheet has for the spots
+    #[arg(long, value_name = "SHEET.csv")]
+    pub sheet: Option<PathBuf>,
+    #[command(flatten)]
+    pub columns: Columns,
+}
+
+#[derive(Args)]
 pub struct Wait {
     /// How long to wait while another spotcard changes the card
     #[arg(long, value_name = "SECONDS", default_value = "30")]
@@ -381,7 +475,9 @@ impl Cli {
     pub fn read() -> Cli {
         let cli = Cli::parse();
         let wrong = match &cli.command {
+            Command::Picture { top: Some(top), .. } if top.len() > 3 => Some("--top can be given once".into()),
             Command::Picture { top: Some(top), .. } => top_query(top).err().map(|what| format!("--top X1 X2 K: {what}")),
+            Command::Add { more, .. } => more_spots(more).err(),
             Command::Report { more, .. } if more.len() % 3 != 0 => {
                 Some(format!("each range has three numbers, X1 X2 Y; the last one here has {}", more.len() % 3))
             }
@@ -392,6 +488,23 @@ impl Cli {
         }
         cli
     }
+}
+
+/// The further spots of an `add`.
+pub fn more_spots(numbers: &[i64]) -> Result<Vec<Spot>, String> {
+    if !numbers.len().is_multiple_of(3) {
+        return Err(format!("each spot has three numbers, PLACE RANK TRACK; the last one here has {}", numbers.len() % 3));
+    }
+    let named = |name: &'static str, n: i64| move |what: String| format!("{name} {n}: {what}");
+    let spot = |three: &[i64]| {
+        let (at, rank, track) = (three[0], three[1], three[2]);
+        Ok(Spot {
+            place: place(&at.to_string()).map_err(named("place", at))?,
+            rank: signed(&rank.to_string()).map_err(named("rank", rank))?,
+            track: unsigned(&track.to_string()).map_err(named("track", track))?,
+        })
+    };
+    numbers.chunks_exact(3).map(spot).collect()
 }
 
 /// The two places and the number of a `--top`.

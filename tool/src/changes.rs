@@ -1,16 +1,17 @@
 //! Files of changes: a message of the library, or several one behind the other. Read whole and judged before any of it is used.
 
+use crate::input;
 use crate::problem::refused;
 use crate::sheet::is_card;
 use crate::spot::{Key, Spot};
 use crate::store::{is_tour, Change, Message, Refusal, MESSAGE_HEAD, MOST_CHANGES};
 use crate::words;
-use anyhow::{Context, Result};
+use anyhow::Result;
 use std::collections::BTreeMap;
 use std::path::Path;
 
-/// Far more than `between` ever gives for two cards, and little enough to read.
-const MOST_BYTES: u64 = 64 << 20;
+/// Far more than any file of changes has.
+const MOST_BYTES: u64 = 32 << 20;
 
 pub struct Changes {
     pub name: String,
@@ -45,13 +46,8 @@ pub fn messages(changes: &[Change]) -> Result<Vec<Message>, Refusal> {
 }
 
 pub fn read(path: &Path) -> Result<Changes> {
-    let name = path.display().to_string();
-    let words = || format!("{name} can't be read");
-    let length = std::fs::metadata(path).with_context(words)?.len();
-    if length > MOST_BYTES {
-        return Err(refused(format!("{name} is no file of changes: it has {} bytes.", words::number(length))));
-    }
-    let bytes = std::fs::read(path).with_context(words)?;
+    let name = input::name(path);
+    let bytes = input::read(path)?;
     match split(&bytes) {
         Ok(messages) => Ok(Changes { name, messages }),
         Err(_) if is_card(&bytes) => {
@@ -62,8 +58,18 @@ pub fn read(path: &Path) -> Result<Changes> {
     }
 }
 
+/// The same for a command that takes other files, too: nothing where the file is none of changes.
+pub fn read_if_changes(path: &Path) -> Result<Option<Changes>> {
+    let is_short = std::fs::metadata(path).is_ok_and(|about| about.is_file() && about.len() <= MOST_BYTES);
+    if !is_short {
+        return Ok(None);
+    }
+    let (name, bytes) = (input::name(path), input::read(path)?);
+    Ok(split(&bytes).ok().map(|messages| Changes { name, messages }))
+}
+
 /// The messages that stand one behind the other, or what is wrong.
-fn split(bytes: &[u8]) -> Result<Vec<Message>, String> {
+pub fn split(bytes: &[u8]) -> Result<Vec<Message>, String> {
     let (mut out, mut at, mut before) = (vec![], 0, 0);
     while at < bytes.len() || out.is_empty() {
         let left = &bytes[at..];

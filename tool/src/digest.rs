@@ -1,8 +1,10 @@
 //! `CARD.sha256`: the digest of the card that spotcard wrote, in the form that sha256sum knows. While a card is being replaced there are two lines, the old
 //! card's and the new one's, so that a crash leaves no false alarm.
 
+use crate::words;
 use anyhow::{Context, Result};
 use sha2::{Digest as _, Sha256};
+use std::ffi::OsStr;
 use std::fs;
 use std::io;
 use std::path::Path;
@@ -18,16 +20,29 @@ pub enum Digest {
 /// The digests that stand in the file; none if there is no file.
 pub fn read(path: &Path) -> Result<Option<Vec<String>>> {
     let text = match fs::read(path) {
-        Ok(text) => String::from_utf8_lossy(&text).into_owned(),
+        Ok(text) => text,
         Err(e) if e.kind() == io::ErrorKind::NotFound => return Ok(None),
-        Err(e) => return Err(e).with_context(|| format!("{} can't be read", path.display())),
+        Err(e) => return Err(e).with_context(|| format!("{} can't be read", words::name(path))),
     };
-    Ok(Some(text.lines().filter_map(|line| line.get(..64)).map(String::from).collect()))
+    // A backslash says that the name has signs that are written with one.
+    let digest = |line: &[u8]| Some(String::from_utf8_lossy(line.strip_prefix(b"\\").unwrap_or(line).get(..64)?).into_owned());
+    Ok(Some(text.split(|b| *b == b'\n').filter_map(digest).collect()))
 }
 
-/// The text of the file.
-pub fn text(digests: &[String], name: &str) -> String {
-    digests.iter().map(|digest| format!("{digest}  {name}\n")).collect()
+/// The text of the file, with the name as sha256sum writes it.
+pub fn text(digests: &[String], name: &OsStr) -> Vec<u8> {
+    let name = name.as_encoded_bytes();
+    let escaped: Vec<u8> = name
+        .iter()
+        .flat_map(|b| match b {
+            b'\n' => b"\\n".to_vec(),
+            b'\r' => b"\\r".to_vec(),
+            b'\\' => b"\\\\".to_vec(),
+            other => vec![*other],
+        })
+        .collect();
+    let mark: &[u8] = if escaped == name { b"" } else { b"\\" };
+    digests.iter().flat_map(|digest| [mark, digest.as_bytes(), b"  ", &escaped, b"\n"].concat()).collect()
 }
 
 pub fn compare(bytes: &[u8], path: &Path) -> Result<Digest> {

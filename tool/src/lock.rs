@@ -1,6 +1,7 @@
 //! The lock that lets one writer at a time change a card.
 
 use crate::problem::{file, print};
+use crate::words;
 use anyhow::{Context, Result};
 use std::fs::{self, File, OpenOptions};
 use std::io;
@@ -13,7 +14,7 @@ pub fn wait_for(name: &str, path: &Path, wait: Duration) -> Result<File> {
     let begun = Instant::now();
     let mut is_told = false;
     loop {
-        let lock = open_lock(path).with_context(|| format!("{} can't be made", path.display()))?;
+        let lock = open_lock(path).with_context(|| format!("{} can't be made", words::name(path)))?;
         match lock.try_lock() {
             Ok(()) if is_still_there(&lock, path) => return Ok(lock),
             Ok(()) => continue,

@@ -5,6 +5,8 @@ mod card;
 mod changes;
 mod commands;
 mod digest;
+mod input;
+mod kind;
 mod lock;
 mod output;
 mod picture;
@@ -14,6 +16,7 @@ mod spot;
 mod store;
 #[cfg(test)]
 mod tests;
+mod titles;
 mod tree;
 mod words;
 

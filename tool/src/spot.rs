@@ -20,7 +20,7 @@ impl std::fmt::Display for Key {
 }
 
 /// A place in centimetres, a rank and a track number. The order is the place order, then tracks.
-#[derive(Clone, Copy, Debug, PartialEq, Eq, PartialOrd, Ord)]
+#[derive(Clone, Copy, Debug, PartialEq, Eq, PartialOrd, Ord, Hash)]
 pub struct Spot {
     pub place: i32,
     pub rank: i32,

@@ -1,7 +1,7 @@
 //! The proved calls, over a table, a message or a pressed tour in memory. No other module knows the library.
 
 use crate::spot::{Key, Spot};
-use spot_table::{Answer, Range, CHANGE, MAP, MESSAGE, MOST_RANGES, SPOT, TOUR, TOUR_BLOCKS};
+use spot_table::{Answer, Places, Range, CHANGE, MAP, MESSAGE, MOST_RANGES, SPOT, TOUR, TOUR_BLOCKS};
 pub use spot_table::{BLOCK, HIGHEST_PLACE, LOWEST_PLACE, MOST_CHANGES, TOUR_SPOTS};
 use std::collections::BTreeSet;
 
@@ -114,17 +114,17 @@ impl Table {
     pub fn add(&mut self, spot: Spot) -> Result<(), Refusal> {
         let Spot { place, rank, track } = spot;
         let spot = spot_table::Spot { place, rank, track };
-        accepted(spot_table::add(&mut self.bytes, &mut self.work, spot)).map(|_| ())
+        accepted(spot_table::add(&mut self.bytes, spot, &mut self.work)).map(|_| ())
     }
 
     pub fn withdraw(&mut self, key: Key) -> Result<(), Refusal> {
         let (bytes, work) = (&mut self.bytes, &mut self.work);
-        accepted(spot_table::withdraw(bytes, work, key.place, key.rank)).map(|_| ())
+        accepted(spot_table::withdraw(bytes, key.place, key.rank, work)).map(|_| ())
     }
 
     /// All changes of the message, or none and the position of the first that is turned down.
     pub fn apply(&mut self, message: &Message) -> Result<(), (Refusal, usize)> {
-        accepted_changes(spot_table::apply(&mut self.bytes, &mut self.work, &message.bytes))
+        accepted_changes(spot_table::apply(&mut self.bytes, &message.bytes, &mut self.work))
     }
 
     pub fn rebuild(&mut self) -> Result<(), Refusal> {
@@ -133,7 +133,7 @@ impl Table {
 
     /// The live spots from place x1 to x2 with rank y or more, rising in place order. If x1 is greater, the places from x1 up and then those up to x2.
     pub fn report(&self, x1: i32, x2: i32, y: i32) -> Result<Found, Refusal> {
-        self.ask(1, |table, out, map| spot_table::report(table, x1, x2, y, out, map))
+        self.ask(1, |table, out, map| spot_table::report(table, Range { x1, x2, y }, out, map))
     }
 
     /// The reports of several ranges, each x1, x2 and y: the spots of each, and the blocks read for any of them.
@@ -149,14 +149,14 @@ impl Table {
 
     /// The k of highest rank of the live spots from place x1 to x2, or past the door, the highest first, of equal ranks the lower place.
     pub fn top(&self, x1: i32, x2: i32, k: u32) -> Result<Found, Refusal> {
-        self.ask(1, |table, out, map| spot_table::top(table, x1, x2, k, out, map))
+        self.ask(1, |table, out, map| spot_table::top(table, Places { x1, x2 }, k, out, map))
     }
 
     /// The first of Top's spots, those that are certain once so many nodes are read, and the ceiling: no other live spot of the range has a rank above it.
     pub fn top_within(&self, x1: i32, x2: i32, k: u32, nodes: u32) -> Result<(Found, i32), Refusal> {
         let mut ceiling = 0;
         let found = self.ask(1, |table, out, map| {
-            let (answer, highest) = spot_table::top_within(table, x1, x2, k, nodes, out, map);
+            let (answer, highest) = spot_table::top_within(table, Places { x1, x2 }, k, nodes, out, map);
             ceiling = highest;
             answer
         })?;
@@ -216,7 +216,7 @@ impl Message {
         let list: Vec<u8> = changes.iter().flat_map(|c| row(c).to_bytes()).collect();
         let mut bytes = vec![0; MESSAGE];
         accepted(spot_table::write_message(&list, &mut bytes))?;
-        bytes.truncate(spot_table::message_len(&bytes));
+        bytes.truncate(spot_table::message_len(&bytes).ok_or(Refusal::NotAMessage)?);
         Ok(Message { bytes, changes: changes.to_vec() })
     }
 
@@ -225,11 +225,13 @@ impl Message {
         let mut list = vec![0; CHANGE * MOST_CHANGES];
         accepted_changes(spot_table::read_message(bytes, &mut list))?;
         let row = |c: spot_table::Change| match c {
-            spot_table::Change::Add(spot_table::Spot { place, rank, track }) => Change::Add(Spot { place, rank, track }),
-            spot_table::Change::Withdraw { place, rank } => Change::Withdraw(Key { place, rank }),
+            spot_table::Change::Add(spot_table::Spot { place, rank, track }) => Some(Change::Add(Spot { place, rank, track })),
+            spot_table::Change::Withdraw { place, rank } => Some(Change::Withdraw(Key { place, rank })),
+            _ => None, // a kind that this version doesn't know
         };
         let count = usize::from(u16::from_be_bytes([bytes[5], bytes[6]]));
-        Ok(Message { bytes: bytes.to_vec(), changes: spot_table::changes(&list, count).map(row).collect() })
+        let changes = spot_table::changes(&list, count).and_then(|all| all.map(row).collect());
+        Ok(Message { bytes: bytes.to_vec(), changes: changes.ok_or((Refusal::NotAMessage, 0))? })
     }
 
     pub fn bytes(&self) -> &[u8] {
@@ -263,7 +265,7 @@ impl Tour {
         let given: Vec<u8> = sorted.iter().flat_map(write).collect();
         let mut bytes = vec![0; TOUR];
         accepted(spot_table::press(&given, &mut bytes))?;
-        bytes.truncate(spot_table::tour_len(&bytes));
+        bytes.truncate(spot_table::tour_len(&bytes).ok_or(Refusal::NotPressable)?);
         Ok(Tour { bytes })
     }
 
@@ -288,7 +290,7 @@ impl Tour {
 
     /// As of a table.
     pub fn report(&self, x1: i32, x2: i32, y: i32) -> Result<Found, Refusal> {
-        ask(&self.bytes, TOUR_SPOTS, |tour, out, map| spot_table::tour_report(tour, x1, x2, y, out, map))
+        ask(&self.bytes, TOUR_SPOTS, |tour, out, map| spot_table::tour_report(tour, Range { x1, x2, y }, out, map))
     }
 
     /// As of a table: here one report after the other.
@@ -316,15 +318,14 @@ fn ask(bytes: &[u8], most: usize, call: impl FnOnce(&[u8], &mut [u8], &mut [u8])
     let mut out = vec![0; SPOT * most];
     let mut map = vec![0; MAP];
     let n = accepted(call(bytes, &mut out, &mut map))?;
-    let spots = out.chunks_exact(SPOT).take(n).map(read_spot).collect();
+    let spots = out.chunks_exact(SPOT).take(n).filter_map(read_spot).collect();
     let is_marked = |b: &usize| map[b / 8] >> (b % 8) & 1 == 1;
     let blocks = (0..bytes.len() / BLOCK).filter(is_marked).collect();
     Ok(Found { spots, blocks })
 }
 
-fn read_spot(bytes: &[u8]) -> Spot {
-    let spot_table::Spot { place, rank, track } = spot_table::Spot::read(bytes);
-    Spot { place, rank, track }
+fn read_spot(bytes: &[u8]) -> Option<Spot> {
+    spot_table::Spot::read(bytes).map(|spot_table::Spot { place, rank, track }| Spot { place, rank, track })
 }
 
 /// Runs the work on a thread whose stack is enough for every call.

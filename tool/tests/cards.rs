@@ -391,7 +391,10 @@ fn wrong_command_lines_end_with_2() {
     f.run(&["add", "a.card", "1", "x", "3"]).exit(2).complains("not a whole number from -2147483648 to 2147483647");
     assert_eq!(fs::read_dir(f.dir.path()).unwrap().count(), 0);
     f.run(&["--help"]).exit(0).says("spotcard new show.card");
-    for command in ["new", "import", "export", "diff", "add", "withdraw", "report", "top", "info", "check", "rebuild", "press", "picture"] {
+    for command in [
+        "new", "import", "export", "diff", "add", "withdraw", "report", "top", "info", "check", "rebuild", "press", "picture", "undo",
+        "salvage", "send", "apply",
+    ] {
         f.run(&[command, "--help"]).exit(0).says("Usage: spotcard");
     }
 }
@@ -515,7 +518,6 @@ fn card_and_sheet_in_the_wrong_order_are_noticed() {
     let f = Folder::new();
     f.card("a.card", 9, &[(0, 5, 1)]);
     f.write("sheet.csv", sheet(&[(0, 5, 1)]));
-    for args in [["import", "a.card", "sheet.csv"], ["diff", "sheet.csv", "a.card"]] {
-        f.run(&args).exit(1).complains("a.card is a card, not a sheet");
-    }
+    f.run(&["import", "a.card", "sheet.csv"]).exit(1).complains("a.card is a card, not a sheet. The order is: import SHEET.csv CARD.");
+    f.run(&["diff", "sheet.csv", "a.card"]).exit(0);
 }

@@ -187,7 +187,10 @@ fn sheets_that_are_refused_leave_nothing() {
     f.write("mine", "notes");
     f.run(&["send", "good.csv", "good.csv", "-o", "mine"]).exit(1).complains("mine exists already").complains("--force");
     assert_eq!(f.text("mine"), "notes");
-    f.run(&["send", "good.csv", "good.csv", "-o", "mine", "--force"]).exit(0);
+    f.run(&["send", "good.csv", "good.csv", "-o", "mine", "--force"])
+        .exit(1)
+        .complains("--force replaces nothing but a file of changes here");
+    assert_eq!(f.text("mine"), "notes");
     assert_eq!(f.text("good.csv"), sheet(&[(0, 5, 1)]));
 }
 

@@ -67,7 +67,7 @@ fn killed_at_any_moment_the_card_is_the_old_or_the_new_one() {
     let f = Folder::new();
     f.card("a.card", 256, &spots(2000, 5));
     f.write("new.csv", sheet(&spots(1000, 6)));
-    let (olds, news, midst) = kill_at_random(&f, &["import", "new.csv", "a.card", "--replace"], 100, 11);
+    let (olds, news, midst) = kill_at_random(&f, &["import", "new.csv", "a.card", "--replace", "--yes"], 100, 11);
     f.run(&["add", "a.card", "5", "-1", "5"]).exit(0);
     let (olds2, news2, midst2) = kill_at_random(&f, &["rebuild", "a.card"], 100, 12);
     f.write("other.csv", sheet(&spots(1500, 7)));

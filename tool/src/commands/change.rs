@@ -3,21 +3,21 @@
 use super::say;
 use crate::args::PlaceAndRank;
 use crate::card::{self, Card, Writer};
+use crate::kind::Kind;
 use crate::problem::refused;
-use crate::sheet::{self, Sheet, Wrong};
 use crate::spot::{Key, Spot};
 use crate::store::{Change, Message, Refusal, Table, MOST_BLOCKS, MOST_CHANGES, SPOTS_A_BLOCK};
 use crate::{tree, words};
 use anyhow::Result;
-use std::collections::HashMap;
+use std::collections::{HashMap, HashSet};
 use std::path::Path;
 use std::time::Duration;
 
 pub fn new(path: &Path, blocks: usize, force: bool, wait: Duration) -> Result<()> {
-    let writer = card::lock_new(path, force, "make it an empty card", wait)?;
+    let writer = card::lock_new(path, force, Kind::Card, wait)?;
     let table = Table::empty(blocks)?;
     save(&writer, &table)?;
-    let name = path.display();
+    let name = words::name(path);
     let (blocks, room) = (words::number(blocks as i128), words::count(table.capacity(), "spot"));
     say(format!("{name}: an empty card of {blocks} blocks, with room for {room}."))
 }
@@ -33,19 +33,51 @@ pub fn save(writer: &Writer, table: &Table) -> Result<()> {
     writer.save(table.bytes())
 }
 
-pub fn add(path: &Path, spot: &PlaceAndRank, track: u32, wait: Duration) -> Result<()> {
-    let spot = Spot { place: spot.place, rank: spot.rank, track };
+/// One spot, or several as one change.
+pub fn add(path: &Path, spots: &[Spot], wait: Duration) -> Result<()> {
+    judge_once(spots)?;
     let writer = card::lock(path, wait)?;
     let Card { name, mut table, .. } = writer.read()?;
-    let old = table.spot(spot.key())?;
+    if let [spot] = spots {
+        return add_one(&writer, &name, table, *spot);
+    }
+    let old: HashMap<Key, u32> = table.all()?.iter().map(|s| (s.key(), s.track)).collect();
+    let there = spots.iter().filter(|s| old.get(&s.key()) == Some(&s.track)).count();
+    let news: Vec<&Spot> = spots.iter().filter(|s| !old.contains_key(&s.key())).collect();
+    let room = table.capacity() - old.len();
+    if let Some(spot) = news.get(room) {
+        let full = full(&name, &table, news.len() - room);
+        return Err(refused(format!("no room for {}. {full} Nothing was changed.", spot.key())));
+    }
+    if there < spots.len() {
+        for part in spots.chunks(MOST_CHANGES) {
+            let changes: Vec<Change> = part.iter().map(|spot| Change::Add(*spot)).collect();
+            table.apply(&Message::write(&changes)?).map_err(|(refusal, _)| refusal)?;
+        }
+        save(&writer, &table)?;
+    }
+    let [all, new, other, there] = [spots.len(), news.len(), spots.len() - news.len() - there, there].map(|n| words::number(n as i128));
+    say(format!("{name}: {all} spots: {new} new, {other} with another track, {there} on the card already; {}.", filling(&table)?))
+}
+
+fn judge_once(spots: &[Spot]) -> Result<()> {
+    let mut seen = HashSet::new();
+    match spots.iter().find(|spot| !seen.insert(spot.key())) {
+        Some(spot) => Err(refused(format!("{} is given twice. Nothing was changed.", spot.key()))),
+        None => Ok(()),
+    }
+}
+
+fn add_one(writer: &Writer, name: &str, mut table: Table, spot: Spot) -> Result<()> {
+    let (old, track) = (table.spot(spot.key())?, spot.track);
     if old == Some(spot) {
         return say(format!("{name} has {} with track {track} already; nothing changes.", spot.key()));
     }
     match table.add(spot) {
-        Err(Refusal::Full) => return Err(refused(format!("{} Nothing was changed.", full(&name, &table, 1)))),
+        Err(Refusal::Full) => return Err(refused(format!("{} Nothing was changed.", full(name, &table, 1)))),
         other => other?,
     }
-    save(&writer, &table)?;
+    save(writer, &table)?;
     let what = match old {
         Some(old) => format!("replaced {}: track {} is now {track}", spot.key(), old.track),
         None => format!("added {} track {track}", spot.key()),
@@ -87,69 +119,17 @@ pub fn rebuild(path: &Path, wait: Duration) -> Result<()> {
     ))
 }
 
-pub fn import(sheet: &Path, path: &Path, replace: bool, wait: Duration) -> Result<()> {
-    let sheet = sheet::read(sheet)?;
+/// The card before the last change and the card change places.
+pub fn undo(path: &Path, wait: Duration) -> Result<()> {
     let writer = card::lock(path, wait)?;
-    let Card { name, mut table, .. } = writer.read()?;
-    let on_card: HashMap<Key, u32> = table.all()?.iter().map(|s| (s.key(), s.track)).collect();
-    if replace {
-        judge_room(&sheet, &name, &table, &HashMap::new())?;
-    } else {
-        judge_against(&sheet, &name, &on_card)?;
-        judge_room(&sheet, &name, &table, &on_card)?;
+    let before = writer.before()?;
+    let name = words::name(path);
+    if writer.holds(before.bytes()) {
+        return say(format!("{name} is as it was before the last change already; nothing changes."));
     }
-    let is_there = |s: &Spot| on_card.get(&s.key()) == Some(&s.track);
-    let there = sheet.rows.iter().filter(|r| is_there(&r.spot)).count();
-    let news = sheet.rows.len() - there;
-    let gone = if replace { on_card.len() - there } else { 0 };
-    if news + gone > 0 {
-        if replace {
-            table = Table::empty(table.blocks())?;
-        }
-        add_all(&sheet, &mut table)?;
-        save(&writer, &table)?;
-    }
-    let [news, there, gone] = [news, there, gone].map(|n| words::number(n as i128));
-    let gone = if replace { format!(", {gone} withdrawn") } else { String::new() };
-    let (rows, now) = (words::count(sheet.rows.len(), "row"), filling(&table)?);
-    say(format!("{name}: {rows} of {}: {news} new, {there} on the card already{gone}; {now}.", sheet.name))
-}
-
-/// Rows that would give another track to a spot on the card.
-fn judge_against(sheet: &Sheet, name: &str, on_card: &HashMap<Key, u32>) -> Result<()> {
-    let other = |row: &sheet::Row| {
-        let (key, here) = (row.spot.key(), row.spot.track);
-        let track = on_card.get(&key).filter(|track| **track != here)?;
-        let what = format!("{key} is on {name} already (track {track}, here {here})");
-        Some(Wrong::new(row.line, what))
-    };
-    let wrong: Vec<Wrong> = sheet.rows.iter().filter_map(other).collect();
-    if wrong.is_empty() {
-        return Ok(());
-    }
-    let hint = "With --replace the card would hold exactly the rows of the sheet.";
-    Err(sheet::list_with_hint(&sheet.name, &wrong, hint))
-}
-
-/// By messages, which takes far less time than row by row.
-fn add_all(sheet: &Sheet, table: &mut Table) -> Result<()> {
-    for rows in sheet.rows.chunks(MOST_CHANGES) {
-        let changes: Vec<Change> = rows.iter().map(|row| Change::Add(row.spot)).collect();
-        let applied = table.apply(&Message::write(&changes)?);
-        applied.map_err(|(refusal, at)| anyhow::Error::new(refusal).context(format!("{} line {}", sheet.name, rows[at].line)))?;
-    }
-    Ok(())
-}
-
-/// The first row that finds no room beside the spots that stay, and how many do not.
-fn judge_room(sheet: &Sheet, name: &str, table: &Table, stay: &HashMap<Key, u32>) -> Result<()> {
-    let room = table.capacity() - stay.len();
-    let news: Vec<&sheet::Row> = sheet.rows.iter().filter(|r| !stay.contains_key(&r.spot.key())).collect();
-    let Some(row) = news.get(room) else {
-        return Ok(());
-    };
-    let (line, key, full) = (row.line, row.spot.key(), full(name, table, news.len() - room));
-    Err(refused(format!("{} line {line}: no room for {key}. {full} Nothing was changed.", sheet.name)))
+    writer.save(before.bytes())?;
+    let spots = words::count(before.all()?.len(), "spot");
+    say(format!("{name}: as it was before the last change, with {spots}; `spotcard undo {name}` takes this back."))
 }
 
 /// What to do about a full card on which `more` spots find no room.

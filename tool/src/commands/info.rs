@@ -2,17 +2,21 @@
 
 use super::{read_any_for_question, say};
 use crate::card::{Card, Held, Pressed};
+use crate::changes::{self, Changes};
 use crate::digest::Digest;
-use crate::store::TOUR_SPOTS;
+use crate::store::{Change, TOUR_SPOTS};
 use crate::tree::{self, Node};
 use crate::words;
 use anyhow::Result;
 use std::path::Path;
 
 pub fn info(path: &Path) -> Result<()> {
-    let rows = match read_any_for_question(path)? {
-        Held::Card(card) => of_card(&card)?,
-        Held::Tour(pressed) => of_tour(&pressed)?,
+    let rows = match changes::read_if_changes(path)? {
+        Some(changes) => of_changes(&changes),
+        None => match read_any_for_question(path)? {
+            Held::Card(card) => of_card(&card)?,
+            Held::Tour(pressed) => of_tour(&pressed)?,
+        },
     };
     let lines: Vec<String> = rows.iter().map(|(a, b)| format!("{a:<16} {b}")).collect();
     say(lines.join("\n"))
@@ -26,13 +30,27 @@ fn of_card(card: &Card) -> Result<Vec<(String, String)>> {
     Ok(rows)
 }
 
+fn of_changes(changes: &Changes) -> Vec<(String, String)> {
+    let adds = changes.all().filter(|c| matches!(c, Change::Add(_))).count();
+    let bytes = changes.messages.iter().map(|m| m.bytes().len()).sum();
+    let messages = format!("{} of {}", words::count(changes.messages.len(), "message"), words::count(bytes, "byte"));
+    let rows = [
+        ("file of changes", changes.name.clone()),
+        ("messages", messages),
+        ("additions", n(adds)),
+        ("withdrawals", n(changes.count() - adds)),
+        ("digest", "none: a message has no seal".into()),
+    ];
+    rows.map(|(name, what)| (name.to_string(), what)).to_vec()
+}
+
 fn of_tour(pressed: &Pressed) -> Result<Vec<(String, String)>> {
-    let Pressed { name, tour, digest } = pressed;
+    let Pressed { name, tour, digest, digest_name } = pressed;
     let spots = tour.all()?.len();
     let digest = match digest {
-        Digest::Same => format!("the tour is as {name}.sha256 has it"),
-        Digest::Differs => format!("NOT as {name}.sha256 has it"),
-        Digest::None => format!("none: there is no {name}.sha256"),
+        Digest::Same => format!("the tour is as {digest_name} has it"),
+        Digest::Differs => format!("NOT as {digest_name} has it"),
+        Digest::None => format!("none: there is no {digest_name}"),
     };
     let rows = [
         ("pressed tour", name.clone()),
@@ -76,10 +94,10 @@ fn waiting(nodes: &[Node]) -> String {
 }
 
 fn digest(card: &Card) -> String {
-    let name = &card.name;
+    let name = &card.digest_name;
     match card.digest {
-        Digest::Same => format!("the card is as {name}.sha256 has it"),
-        Digest::Differs => format!("NOT as {name}.sha256 has it"),
+        Digest::Same => format!("the card is as {name} has it"),
+        Digest::Differs => format!("NOT as {name} has it"),
         Digest::None => "none yet; the first change makes one".into(),
     }
 }

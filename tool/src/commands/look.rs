@@ -1,12 +1,15 @@
 //! Commands that look at the card itself.
 
 use super::{ask, read_for_question, say};
-use crate::args::top_query;
-use crate::card::{self, Card};
+use crate::args::{top_query, Beside};
+use crate::card::{self, Card, Held, Pressed};
+use crate::changes;
 use crate::digest::Digest;
+use crate::kind::Kind;
 use crate::picture::{self, Query};
 use crate::problem::{self, Problem};
-use crate::store::BLOCK;
+use crate::store::{Found, Table, BLOCK};
+use crate::titles::Titles;
 use crate::{output, words};
 use anyhow::Result;
 use spot_reference::{Fault, MOST_FAULTS, RULES};
@@ -14,25 +17,49 @@ use std::collections::BTreeSet;
 use std::path::Path;
 
 pub fn check(path: &Path) -> Result<()> {
-    let Card { name, table, digest } = card::read(path)?;
-    let is_sound = table.is_sound()?;
-    let faults = spot_reference::faults(table.bytes());
-    say(verdict(&name, is_sound, &faults))?;
-    match digest {
-        Digest::Same => say(format!("Its bytes are those that spotcard wrote ({name}.sha256)."))?,
-        Digest::None => say(format!(
-            "There is no {name}.sha256, so that a changed track number could not be seen. The first change \
-        makes one."
-        ))?,
-        Digest::Differs => say(format!(
-            "Its bytes are NOT those that spotcard wrote: the digest is not the one in {name}.sha256. A track number may have \
-            changed. Go back to a copy of the card. If another card was put there on purpose, delete {name}.sha256."
-        ))?,
+    if let Some(changes) = changes::read_if_changes(path)? {
+        let size = format!("{} in {}", words::count(changes.count(), "change"), words::count(changes.messages.len(), "message"));
+        return say(format!(
+            "{} is a file of changes, and is sound: {size}.\nA message has no seal, so that a changed track number could not be seen.",
+            changes.name
+        ));
     }
-    if is_sound && digest != Digest::Differs {
+    let held = card::read_any(path)?;
+    let is_sound = match &held {
+        Held::Card(Card { name, table, .. }) => {
+            let is_sound = table.is_sound()?;
+            say(verdict(name, is_sound, &spot_reference::faults(table.bytes())))?;
+            is_sound
+        }
+        Held::Tour(Pressed { name, tour, .. }) => {
+            let is_sound = tour.is_sound();
+            let no =
+                "NOT sound: pressing its spots would give other bytes. Go back to a copy of the tour, or press it again from the sheet";
+            say(format!("{name} is a pressed tour, and is {}.", if is_sound { "sound" } else { no }))?;
+            is_sound
+        }
+    };
+    say(of_digest(&held))?;
+    if is_sound && held.digest() != Digest::Differs {
         Ok(())
     } else {
         Err(Problem::No.into())
+    }
+}
+
+fn of_digest(held: &Held) -> String {
+    let name = held.digest_name();
+    let (what, next) = match held {
+        Held::Card(_) => ("card", " The first change makes one."),
+        Held::Tour(_) => ("tour", ""),
+    };
+    match held.digest() {
+        Digest::Same => format!("Its bytes are those that spotcard wrote ({name})."),
+        Digest::None => format!("There is no {name}, so that a changed track number could not be seen.{next}"),
+        Digest::Differs => format!(
+            "Its bytes are NOT those that spotcard wrote: the digest is not the one in {name}. A track number may have changed. Go back to a copy of the {what}. If another {what} \
+            was put there on purpose, delete {name}."
+        ),
     }
 }
 
@@ -68,25 +95,31 @@ fn reasons(faults: &[Fault]) -> String {
     out.join("\n")
 }
 
-pub fn picture(path: &Path, report: Option<&[i32]>, top: Option<&[i64]>, output: &Path, force: bool) -> Result<()> {
+pub fn picture(path: &Path, report: Option<&[i32]>, top: Option<&[i64]>, beside: &Beside, output: &Path, force: bool) -> Result<()> {
     let Card { name, table, .. } = read_for_question(path)?;
+    let titles = Titles::read(beside)?;
     if ask::is_same_file(path, output) {
         return Err(problem::refused(format!("{name} is the card itself. Choose another name for the picture.")));
     }
-    let query = match (report, top) {
-        (Some(r), _) => {
-            let found = table.report(r[0], r[1], r[2])?;
-            Some(Query { x1: r[0], x2: r[1], least: Some(r[2]), best: None, found })
-        }
+    let queries = match (report, top) {
+        (Some(r), _) => reports(&table, r)?,
         (None, Some(t)) => {
             let (x1, x2, k) = top_query(t).map_err(problem::refused)?;
-            Some(Query { x1, x2, least: None, best: Some(k), found: table.top(x1, x2, k)? })
+            vec![Query { x1, x2, least: None, best: Some(k), found: table.top(x1, x2, k)? }]
         }
-        (None, None) => None,
+        (None, None) => vec![],
     };
-    let svg = picture::draw(&name, &table, query.as_ref())?;
-    output::write(output, svg.as_bytes(), |old| force || picture::is_ours(old))?;
-    say(format!("{}: a picture of {name}.", output.display()))
+    let svg = picture::draw(&name, &table, &queries, titles.as_ref())?;
+    output::write(output, svg.as_bytes(), Kind::Picture, force)?;
+    say(format!("{}: a picture of {name}.", words::name(output)))
+}
+
+/// A query for each three numbers. The blocks are those of all of them.
+fn reports(table: &Table, numbers: &[i32]) -> Result<Vec<Query>> {
+    let ranges: Vec<(i32, i32, i32)> = numbers.chunks_exact(3).map(|r| (r[0], r[1], r[2])).collect();
+    let (each, blocks) = table.report_many(&ranges)?;
+    let query = |((x1, x2, y), spots)| Query { x1, x2, least: Some(y), best: None, found: Found { spots, blocks: blocks.clone() } };
+    Ok(ranges.into_iter().zip(each).map(query).collect())
 }
 
 #[cfg(test)]

@@ -2,8 +2,9 @@
 
 use super::{ask, say};
 use crate::card;
+use crate::kind::Kind;
 use crate::problem::refused;
-use crate::sheet::{self, Sheet};
+use crate::sheet::{self, Names, Sheet};
 use crate::spot::Spot;
 use crate::store::{Tour, TOUR_SPOTS};
 use crate::words;
@@ -11,9 +12,9 @@ use anyhow::Result;
 use std::path::Path;
 use std::time::Duration;
 
-pub fn press(path: &Path, output: &Path, force: bool, wait: Duration) -> Result<()> {
-    let name = output.display();
-    let sheet = sheet::read(path)?;
+pub fn press(path: &Path, names: &Names, output: &Path, force: bool, wait: Duration) -> Result<()> {
+    let name = words::name(output);
+    let sheet = sheet::read(path, names)?;
     judge_number(&sheet)?;
     if ask::is_same_file(path, output) {
         return Err(refused(format!("{name} is the sheet itself. Choose another name for the tour.")));
@@ -25,7 +26,7 @@ pub fn press(path: &Path, output: &Path, force: bool, wait: Duration) -> Result<
             "the tour would not be as it should, so it was not saved. This must not happen: please report it, with the sheet and the command.",
         ));
     }
-    card::lock_new(output, force, "put the tour in its place", wait)?.save(tour.bytes())?;
+    card::lock_new(output, force, Kind::Tour, wait)?.save(tour.bytes())?;
     let (spots, blocks) = (words::count(spots.len(), "spot"), words::count(tour.blocks(), "block"));
     say(format!("{name}: a tour of the {spots} of {}, in {blocks} of 2,048 bytes.", sheet.name))
 }

@@ -16,11 +16,12 @@ pub struct Axis {
 }
 
 impl Axis {
-    /// An axis for these numbers. A few that lie far away from all others would squeeze the rest into a line: they are left out and counted.
-    pub fn of(numbers: impl Iterator<Item = i32>, from: f64, to: f64) -> Axis {
+    /// An axis for these numbers. A few that lie far away from all others would squeeze the rest into a line: where there are many, they are left out and counted, but for those
+    /// that have to be there.
+    pub fn of(numbers: impl Iterator<Item = i32>, needed: impl Iterator<Item = i32>, from: f64, to: f64) -> Axis {
         let mut all: Vec<i64> = numbers.map(i64::from).collect();
         all.sort_unstable();
-        let (first, last) = shown(&all);
+        let (first, last) = shown(&all, needed.map(i64::from));
         let before = all.partition_point(|n| *n < first);
         let behind = all.len() - all.partition_point(|n| *n <= last);
         Axis { first, last, from, to, before, behind }
@@ -74,8 +75,11 @@ impl Axis {
     }
 }
 
+/// Of so many numbers none is left out.
+const FEW: usize = 1000;
+
 /// The first and the last number to show.
-fn shown(sorted: &[i64]) -> (i64, i64) {
+fn shown(sorted: &[i64], needed: impl Iterator<Item = i64>) -> (i64, i64) {
     let (Some(&least), Some(&most)) = (sorted.first(), sorted.last()) else {
         return (0, 100);
     };
@@ -83,9 +87,12 @@ fn shown(sorted: &[i64]) -> (i64, i64) {
     let (low, high) = (at(2), at(98));
     let core = (high - low).max(10);
     let (mut first, mut last) = (least, most);
-    if most - least > 6 * core {
+    if sorted.len() > FEW && most - least > 6 * core {
         first = sorted[sorted.partition_point(|n| *n < low - core)];
         last = sorted[sorted.partition_point(|n| *n <= high + core) - 1];
+    }
+    for n in needed {
+        (first, last) = (first.min(n), last.max(n));
     }
     let margin = ((last - first) / 40).max(1);
     (first - margin, last + margin)
@@ -105,7 +112,7 @@ pub fn draw(svg: &mut Svg, scene: &Scene) {
     }
     svg.path(&format!("M{LEFT:.1} {TOP:.1}V{floor:.1}h{WIDTH:.1}"), "class=\"axis\"");
     svg.text(LEFT + WIDTH / 2.0, floor + 38.0, "mid", "place along the route (cm)");
-    svg.upright(24.0, TOP + HEIGHT / 2.0, "mid", "rank");
+    svg.upright(18.0, TOP + HEIGHT / 2.0, "mid", "rank");
 }
 
 #[cfg(test)]
@@ -126,10 +133,15 @@ mod tests {
     fn numbers_far_away_are_left_out_and_counted() {
         let mut numbers: Vec<i32> = (0..1000).collect();
         numbers.extend([i32::MIN, i32::MAX, i32::MAX]);
-        let axis = Axis::of(numbers.into_iter(), 0.0, 100.0);
-        assert_eq!((axis.before, axis.behind), (1, 2));
-        assert!(axis.holds(0) && axis.holds(999) && axis.last < 1100);
-        let even = Axis::of([i32::MIN, 0, i32::MAX].into_iter(), 0.0, 100.0);
+        let axis = |needed: &[i32], few: usize| Axis::of(numbers.iter().copied().rev().take(few), needed.iter().copied(), 0.0, 100.0);
+        let many = axis(&[], 9999);
+        assert_eq!((many.before, many.behind), (1, 2));
+        assert!(many.holds(0) && many.holds(999) && many.last < 1100);
+        let found = axis(&[i32::MAX], 9999);
+        assert!((found.before, found.behind) == (1, 0) && found.holds(i32::MAX));
+        let few = axis(&[], 1000);
+        assert!((few.before, few.behind) == (0, 0) && few.holds(i32::MAX) && few.holds(i32::MIN));
+        let even = Axis::of([i32::MIN, 0, i32::MAX].into_iter(), [].into_iter(), 0.0, 100.0);
         assert_eq!((even.before, even.behind), (0, 0));
     }
 }

@@ -2,7 +2,8 @@
 
 use super::svg::Svg;
 use super::{areas, colour, Dot, Scene, HEIGHT, LEFT, TOP, WIDTH};
-use std::collections::BTreeMap;
+use crate::spot::Spot;
+use std::collections::{BTreeMap, BTreeSet};
 
 /// Shades of a square, from one that has few spots to the one that has most.
 pub const SHADES: [f64; 5] = [0.25, 0.42, 0.6, 0.8, 1.0];
@@ -120,7 +121,8 @@ pub fn look(level: usize, is_waiting: bool, radius: f64) -> String {
 fn draw_dot(svg: &mut Svg, scene: &Scene, dot: &Dot, radius: f64, is_titled: bool) {
     let (spot, home) = (dot.spot, dot.home);
     let state = if home.is_waiting { "waiting" } else { "settled" };
-    let title = format!("{} track {}, {state} in block {}", spot.key(), spot.track, home.block);
+    let called = scene.titles.map(|t| t.words(spot)).filter(|words| !words.is_empty()).map(|words| format!("{words}: "));
+    let title = format!("{}{} track {}, {state} in block {}", called.unwrap_or_default(), spot.key(), spot.track, home.block);
     let look = look(home.level, home.is_waiting, radius);
     let radius = if home.is_waiting { radius * 0.78 } else { radius };
     svg.circle(scene.x.place(spot.place), scene.y.place(spot.rank), radius, &look, is_titled.then_some(&title));
@@ -128,17 +130,15 @@ fn draw_dot(svg: &mut Svg, scene: &Scene, dot: &Dot, radius: f64, is_titled: boo
 
 /// The spots of the answer, where there is room to see them one by one.
 fn rings(svg: &mut Svg, scene: &Scene, radius: f64) {
-    let Some(query) = scene.query else {
-        return;
-    };
+    let found: BTreeSet<Spot> = scene.queries.iter().flat_map(|q| q.found.spots.iter().copied()).collect();
     let room: f64 = areas(scene).iter().map(|a| (a.right - a.left) * (a.floor - TOP + 8.0)).sum();
-    let n = query.found.spots.len();
+    let n = found.len();
     if n > MOST_RINGS || room < ROOM_A_RING * n as f64 {
         return;
     }
     let line = if n <= 60 { 1.2 } else { 0.7 };
     let look = format!("fill=\"none\" stroke=\"#000\" stroke-width=\"{line}\"");
-    for spot in &query.found.spots {
+    for spot in &found {
         if scene.x.holds(spot.place) && scene.y.holds(spot.rank) {
             let (x, y) = (scene.x.place(spot.place), scene.y.place(spot.rank));
             svg.circle(x, y, radius + 1.6, &look, None);

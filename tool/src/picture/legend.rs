@@ -54,30 +54,54 @@ fn rows(scene: &Scene) -> Vec<Row> {
     if scene.nodes.iter().any(|n| is_narrow(scene, n)) {
         out.push(Row::Text("narrow ones run together".into()));
     }
-    if let Some(query) = scene.query {
+    if !scene.queries.is_empty() {
         out.push(Row::Bar { level, is_read: true, words: "a node that the query read".into() });
         out.push(Row::Gap);
-        out.extend(of_query(scene, query));
+        out.extend(of_queries(scene));
     }
     out
 }
 
-fn of_query(scene: &Scene, query: &Query) -> Vec<Row> {
-    let found = words::count(query.found.spots.len(), "spot");
-    let read = words::number(query.found.blocks.len() as i128);
+fn of_queries(scene: &Scene) -> Vec<Row> {
+    let mut out = match scene.queries {
+        [query] => of_query(query),
+        queries => of_many(queries),
+    };
+    let read = words::number(scene.read.len() as i128);
     let used = words::number(scene.nodes.len() as i128 + 1);
-    let [what, places, limit] = query.words();
-    let mut out = vec![
-        Row::Head("The query".into()),
-        Row::Outline(what),
-        Row::Text(places),
-        Row::Text(limit),
-        Row::Text(format!("{found} found")),
-        Row::Text(format!("{read} of {used} blocks in use read")),
-        Row::Text("(block 0 is always read)".into()),
-    ];
+    out.push(Row::Text(format!("{read} of {used} blocks in use read")));
+    out.push(Row::Text("(block 0 is always read)".into()));
     if areas(scene).is_empty() {
         out.push(Row::Text("it lies outside this picture".into()));
+    }
+    out
+}
+
+fn of_query(query: &Query) -> Vec<Row> {
+    let found = words::count(query.found.spots.len(), "spot");
+    let [what, places, limit] = query.words();
+    vec![Row::Head("The query".into()), Row::Outline(what), Row::Text(places), Row::Text(limit), Row::Text(format!("{found} found"))]
+}
+
+/// So many signs fit in a line of the legend.
+const MOST_SIGNS: usize = 36;
+/// So many queries are described.
+const MOST_DESCRIBED: usize = 12;
+
+fn of_many(queries: &[Query]) -> Vec<Row> {
+    let mut out = vec![Row::Head("The queries".into()), Row::Outline(words::count(queries.len(), "report"))];
+    for query in queries.iter().take(MOST_DESCRIBED) {
+        let [_, places, _] = query.words();
+        let (y, found) = (query.least.unwrap_or_default(), words::count(query.found.spots.len(), "spot"));
+        let (places, limit) = (places.replace("places ", ""), format!("rank {y}: {found}"));
+        if places.len() + limit.len() < MOST_SIGNS {
+            out.push(Row::Text(format!("{places}, {limit}")));
+        } else {
+            out.extend([Row::Text(places), Row::Text(limit)]);
+        }
+    }
+    if queries.len() > MOST_DESCRIBED {
+        out.push(Row::Text(format!("... and {} more", queries.len() - MOST_DESCRIBED)));
     }
     out
 }

@@ -8,6 +8,7 @@ mod svg;
 
 use crate::spot::Spot;
 use crate::store::{Found, Table};
+use crate::titles::Titles;
 use crate::tree::{self, Home, Node};
 use crate::words;
 use anyhow::Result;
@@ -17,7 +18,8 @@ use std::collections::BTreeSet;
 use std::path::Path;
 use svg::Svg;
 
-const LEFT: f64 = 96.0;
+/// Room for the longest number on the axis of ranks.
+const LEFT: f64 = 116.0;
 const TOP: f64 = 84.0;
 const WIDTH: f64 = 860.0;
 const HEIGHT: f64 = 460.0;
@@ -77,7 +79,8 @@ struct Scene<'a> {
     dots: Vec<Dot>,
     nodes: Vec<Node>,
     levels: usize,
-    query: Option<&'a Query>,
+    queries: &'a [Query],
+    titles: Option<&'a Titles>,
     read: BTreeSet<usize>,
     x: Axis,
     y: Axis,
@@ -100,16 +103,17 @@ pub fn is_ours(file: &[u8]) -> bool {
     String::from_utf8_lossy(first).contains(MARK)
 }
 
-pub fn draw(name: &str, table: &Table, query: Option<&Query>) -> Result<String> {
+pub fn draw(name: &str, table: &Table, queries: &[Query], titles: Option<&Titles>) -> Result<String> {
     let nodes = tree::nodes(table.bytes());
     let homes = tree::homes(&nodes);
     let with_home = |spot: Spot| Some(Dot { spot, home: *homes.get(&spot.key())? });
     let dots: Vec<Dot> = table.all()?.into_iter().filter_map(with_home).collect();
-    let x = Axis::of(dots.iter().map(|d| d.spot.place), LEFT, LEFT + WIDTH);
-    let y = Axis::of(dots.iter().map(|d| d.spot.rank), TOP + HEIGHT, TOP);
+    let found = || queries.iter().flat_map(|q| &q.found.spots);
+    let x = Axis::of(dots.iter().map(|d| d.spot.place), found().map(|s| s.place), LEFT, LEFT + WIDTH);
+    let y = Axis::of(dots.iter().map(|d| d.spot.rank), found().map(|s| s.rank), TOP + HEIGHT, TOP);
     let levels = tree::levels(table.bytes());
-    let read = query.map(|q| q.found.blocks.iter().copied().collect()).unwrap_or_default();
-    let scene = Scene { dots, nodes, levels, query, read, x, y };
+    let read = queries.iter().flat_map(|q| q.found.blocks.iter().copied()).collect();
+    let scene = Scene { dots, nodes, levels, queries, titles, read, x, y };
     let height = (scene.bottom() + 30.0).max(TOP + legend::height(&scene) + 30.0);
     let mut svg = Svg::new(ALL, height, MARK);
     title(&mut svg, name, table, &scene);
@@ -146,11 +150,12 @@ struct Area {
     ends: bool,
 }
 
-/// The query on the paper: as much of its places as is shown, one stretch or two.
+/// The queries on the paper: as much of their places as is shown, one stretch or two of each.
 fn areas(scene: &Scene) -> Vec<Area> {
-    let Some(query) = scene.query else {
-        return vec![];
-    };
+    scene.queries.iter().flat_map(|query| areas_of(scene, query)).collect()
+}
+
+fn areas_of(scene: &Scene, query: &Query) -> Vec<Area> {
     let floor = query.bottom().map_or(scene.floor(), |y| scene.y.edge(y, -0.5));
     let mut out = vec![];
     for (first, last) in stretches(query.x1, query.x2) {

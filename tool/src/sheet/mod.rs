@@ -1,28 +1,53 @@
 //! A sheet in CSV: columns place, rank and track by name. Every row is judged before any is used.
 
+mod columns;
+mod number;
+mod text;
+
+use crate::input;
 use crate::problem::{refused, Problem};
 use crate::spot::{Key, Spot};
-use crate::store::{is_length, is_tour, HIGHEST_PLACE, LOWEST_PLACE};
+use crate::store::{MOST_BLOCKS, SPOTS_A_BLOCK};
 use crate::words;
-use anyhow::{Context, Result};
-use csv::{ByteRecord, ReaderBuilder, Terminator};
+use anyhow::Result;
+use columns::Columns;
+pub use columns::Names;
+use csv::{ReaderBuilder, StringRecord, Terminator};
+use number::Marks;
 use std::collections::HashMap;
 use std::path::Path;
+pub use text::is_card;
+use text::text_of;
 
 /// So many wrong rows are named; of the others only the number.
 pub const MOST_NAMED: usize = 20;
-const NAMES: [&str; 3] = ["place", "rank", "track"];
+/// The room of the largest card.
+const MOST_SPOTS: usize = SPOTS_A_BLOCK * (MOST_BLOCKS - 1);
+/// The header is looked for in so many lines.
+const MOST_ABOVE: usize = 20;
+/// The signs that are looked for between columns.
+const SEPARATORS: [u8; 3] = [b',', b';', b'\t'];
+
+/// What a spot is called, and where it hangs.
+#[derive(Clone, Debug, Default, PartialEq, Eq)]
+pub struct Texts {
+    pub title: String,
+    pub room: String,
+}
 
 #[derive(Debug)]
 pub struct Row {
     pub line: usize,
     pub spot: Spot,
+    pub texts: Texts,
 }
 
 #[derive(Debug)]
 pub struct Sheet {
     pub name: String,
     pub rows: Vec<Row>,
+    /// Whether it has columns of titles and of rooms.
+    pub has_texts: [bool; 2],
 }
 
 /// What is wrong with a line.
@@ -40,18 +65,17 @@ impl Wrong {
 }
 
 /// Reads and judges the whole sheet.
-pub fn read(path: &Path) -> Result<Sheet> {
-    let name = path.display().to_string();
-    let bytes = std::fs::read(path).with_context(|| format!("{name} can't be read"))?;
-    let text = text_of(&bytes).map_err(|what| refused(format!("{name} {what}")))?;
-    match judge(text) {
-        Ok(rows) => Ok(Sheet { name, rows }),
-        Err(wrong) => Err(list(&name, &wrong)),
-    }
+pub fn read(path: &Path, names: &Names) -> Result<Sheet> {
+    of(input::name(path), &input::read(path)?, names)
 }
 
-fn list(name: &str, wrong: &[Wrong]) -> anyhow::Error {
-    list_with_hint(name, wrong, "Correct the sheet and try again.")
+/// The sheet in these bytes.
+pub fn of(name: String, bytes: &[u8], names: &Names) -> Result<Sheet> {
+    let text = text_of(bytes).map_err(|what| refused(format!("{name} {what}")))?;
+    match judge(&text, names) {
+        Ok((rows, has_texts)) => Ok(Sheet { name, rows, has_texts }),
+        Err(wrong) => Err(list_with_hint(&name, &wrong, "Correct the sheet and try again.")),
+    }
 }
 
 /// The wrong lines by name and number, how many more there are, and what to do.
@@ -67,71 +91,107 @@ pub fn list_with_hint(name: &str, wrong: &[Wrong], hint: &str) -> anyhow::Error 
     Problem::List { lines, summary }.into()
 }
 
-/// The text of a file that looks like CSV, or what it is instead.
-fn text_of(bytes: &[u8]) -> Result<&[u8], String> {
-    const SAVE: &str = "In the spreadsheet, save it as CSV (UTF-8, comma between columns).";
-    let text = bytes.strip_prefix(b"\xEF\xBB\xBF").unwrap_or(bytes);
-    let is_only_cr = !text.contains(&b'\n') && text.contains(&b'\r');
-    if is_tour(bytes) {
-        return Err("is a pressed tour, not a sheet. `spotcard report` and `spotcard info` read it.".into());
-    }
-    if is_card(bytes) {
-        return Err("is a card, not a sheet. The order is: import SHEET.csv CARD, but diff CARD SHEET.csv. `spotcard export CARD` makes a sheet of a card.".into());
-    }
-    let what = if bytes.starts_with(b"PK\x03\x04") || bytes.starts_with(b"\xD0\xCF\x11\xE0") {
-        "is a spreadsheet file, not CSV."
-    } else if bytes.starts_with(b"\xFF\xFE") || bytes.starts_with(b"\xFE\xFF") {
-        "is written in UTF-16."
-    } else if text.contains(&0) {
-        "is not a text file."
-    } else if is_only_cr {
-        "ends its lines in the old Macintosh way."
-    } else if text.iter().all(u8::is_ascii_whitespace) {
-        "is empty."
-    } else {
-        return Ok(text);
-    };
-    Err(format!("{what} {SAVE}"))
+/// Whether a line near the top names the columns.
+pub fn is_sheet(bytes: &[u8]) -> bool {
+    let names = Names::default();
+    text_of(bytes).is_ok_and(|text| {
+        let separator = told_separator(&text).ok().flatten().unwrap_or_else(|| found_separator(&text, &names));
+        let is_header = Records::of(&text, separator).take(MOST_ABOVE).any(|(_, record)| Columns::of(&record, &names, separator).is_ok());
+        is_header
+    })
 }
 
-/// Whether someone named the card where another file belongs: a card begins with its own length.
-pub fn is_card(bytes: &[u8]) -> bool {
-    let length = bytes.len() as u64;
-    is_length(length) && bytes.starts_with(&(length as u32).to_be_bytes())
-}
-
-/// The rows, or everything that is wrong.
-fn judge(text: &[u8]) -> Result<Vec<Row>, Vec<Wrong>> {
-    if let Some(wrong) = open_quote(text) {
+/// The rows and which texts they have, or everything that is wrong.
+fn judge(text: &str, names: &Names) -> Result<(Vec<Row>, [bool; 2]), Vec<Wrong>> {
+    let told = told_separator(text).map_err(|what| vec![Wrong::new(1, what)])?;
+    let separator = told.unwrap_or_else(|| found_separator(text, names));
+    if let Some(wrong) = open_quote(text.as_bytes(), separator) {
         return Err(vec![wrong]);
     }
-    let mut records = Records::of(text);
-    let Some((line, header)) = records.next() else {
-        return Err(vec![Wrong::new(1, "there is no line with the names of the columns")]);
-    };
-    let columns = Columns::of(&header).map_err(|what| vec![Wrong::new(line, what)])?;
+    let mut records = Records::of(text, separator).skip(told.is_some() as usize).filter(|(_, record)| !is_blank(record));
+    let columns = header(&mut records, names, separator)?;
+    let records: Vec<(usize, StringRecord)> = records.collect();
+    let mut marks = Marks::of(separator);
+    records.iter().flat_map(|(_, record)| columns.numbers(record)).for_each(|field| marks.learn(field));
+    let too_many = records.get(MOST_SPOTS).map(|(line, _)| {
+        let [all, most] = [records.len(), MOST_SPOTS].map(|n| words::number(n as i128));
+        Wrong::new(*line, format!("the sheet has {all} rows, and no card holds more than {most} spots"))
+    });
     let (mut rows, mut wrong) = (vec![], vec![]);
     let mut seen: HashMap<Key, (usize, u32)> = HashMap::new();
     for (line, record) in records {
-        if record.iter().all(|field| field.trim_ascii().is_empty()) {
-            continue;
-        }
-        match columns.spot(&record) {
+        match columns.spot(&record, &marks) {
             Err(all) => wrong.extend(all.into_iter().map(|what| Wrong::new(line, what))),
             Ok(spot) => match seen.get(&spot.key()) {
                 Some(&first) => wrong.push(Wrong::new(line, twice(spot, first))),
                 None => {
                     seen.insert(spot.key(), (line, spot.track));
-                    rows.push(Row { line, spot });
+                    rows.push(Row { line, spot, texts: columns.texts(&record) });
                 }
             },
         }
     }
     if wrong.is_empty() {
-        Ok(rows)
+        // Whether there is room is the card's to say.
+        Ok((rows, columns.texts.map(|at| at.is_some())))
     } else {
-        Err(wrong)
+        Err(too_many.into_iter().chain(wrong).collect())
     }
+}
+
+fn is_blank(record: &StringRecord) -> bool {
+    record.iter().all(|field| blank_trimmed(field).is_empty())
+}
+
+/// Without spaces of any kind around it, those too that keep a line from being broken.
+pub fn blank_trimmed(field: &str) -> &str {
+    field.trim_matches(|c: char| c.is_whitespace() || matches!(c, '\u{FEFF}' | '\u{200B}'))
+}
+
+/// The sign that a first line such as `sep=;` says to stand between columns.
+fn told_separator(text: &str) -> Result<Option<u8>, String> {
+    let first = text.lines().next().unwrap_or_default().trim_matches('"');
+    let Some(sign) = first.get(..4).filter(|start| start.eq_ignore_ascii_case("sep=")).map(|_| &first[4..]) else {
+        return Ok(None);
+    };
+    match sign.as_bytes() {
+        [sign] if *sign == b'\t' || sign.is_ascii_punctuation() => Ok(Some(*sign)),
+        _ => Err("behind sep= stands the one sign that parts the columns, as in sep=;".into()),
+    }
+}
+
+/// The sign by which a line near the top names the columns; else the commonest one of the first line.
+fn found_separator(text: &str, names: &Names) -> u8 {
+    let is_header = |separator: u8| Records::of(text, separator).take(MOST_ABOVE).any(|(_, r)| Columns::of(&r, names, separator).is_ok());
+    let first = text.lines().find(|line| !line.trim().is_empty()).unwrap_or_default();
+    let often = |separator: &u8| first.bytes().filter(|b| b == separator).count();
+    let named = SEPARATORS.into_iter().find(|separator| is_header(*separator));
+    // Of equals the last would be taken, and the comma is the likeliest.
+    named.or_else(|| SEPARATORS.into_iter().rev().max_by_key(often)).unwrap_or(b',')
+}
+
+/// The columns that the first line names. Title rows above it are named as such.
+fn header(records: &mut impl Iterator<Item = (usize, StringRecord)>, names: &Names, separator: u8) -> Result<Columns, Vec<Wrong>> {
+    let Some((line, first)) = records.next() else {
+        return Err(vec![Wrong::new(1, "there is no line with the names of the columns")]);
+    };
+    let what = match Columns::of(&first, names, separator) {
+        Ok(columns) => return Ok(columns),
+        Err(what) => what,
+    };
+    let mut above = vec![(line, first)];
+    for (line, record) in records.take(MOST_ABOVE) {
+        if Columns::of(&record, names, separator).is_ok() {
+            return Err(above.iter().map(|(own, row)| title_row(*own, row, line)).collect());
+        }
+        above.push((line, record));
+    }
+    Err(vec![Wrong::new(line, what)])
+}
+
+fn title_row(line: usize, row: &StringRecord, header: usize) -> Wrong {
+    let text = row.iter().map(shown).find(|field| !field.is_empty()).unwrap_or_default();
+    Wrong::new(line, format!("\"{text}\" is a title row; the names of the columns stand in line {header}. Delete what stands above them"))
 }
 
 fn twice(spot: Spot, (line, track): (usize, u32)) -> String {
@@ -141,7 +201,7 @@ fn twice(spot: Spot, (line, track): (usize, u32)) -> String {
 
 /// The first quotation mark that is opened and not closed at the end of its field. The reader of records would take all lines up to the next
 /// one, or up to the end of the file, for one field, and rows would be lost without a word.
-fn open_quote(text: &[u8]) -> Option<Wrong> {
+fn open_quote(text: &[u8], separator: u8) -> Option<Wrong> {
     let (mut line, mut opened) = (1, 0);
     let (mut is_start, mut is_inside) = (true, false);
     let mut at = 0;
@@ -153,13 +213,14 @@ fn open_quote(text: &[u8]) -> Option<Wrong> {
         if is_inside && byte == b'"' {
             match next {
                 Some(b'"') => at += 1,
-                None | Some(b',' | b'\r' | b'\n' | b' ') => is_inside = false,
+                None | Some(b'\r' | b'\n' | b' ') => is_inside = false,
+                Some(sign) if sign == separator => is_inside = false,
                 _ => return Some(Wrong::new(opened, badly_closed(opened, line))),
             }
         } else if !is_inside {
             is_inside = is_start && byte == b'"';
             opened = line;
-            is_start = matches!(byte, b',' | b'\n');
+            is_start = byte == separator || byte == b'\n';
         }
         at += 1;
     }
@@ -181,8 +242,14 @@ struct Records<'a> {
 }
 
 impl<'a> Records<'a> {
-    fn of(text: &'a [u8]) -> Records<'a> {
-        let reader = ReaderBuilder::new().has_headers(false).flexible(true).terminator(Terminator::Any(b'\n')).from_reader(text);
+    fn of(text: &'a str, separator: u8) -> Records<'a> {
+        let text = text.as_bytes();
+        let reader = ReaderBuilder::new()
+            .delimiter(separator)
+            .has_headers(false)
+            .flexible(true)
+            .terminator(Terminator::Any(b'\n'))
+            .from_reader(text);
         Records { text, reader, line: 1, counted: 0 }
     }
 
@@ -198,100 +265,20 @@ impl<'a> Records<'a> {
 }
 
 impl Iterator for Records<'_> {
-    type Item = (usize, ByteRecord);
+    type Item = (usize, StringRecord);
 
-    fn next(&mut self) -> Option<(usize, ByteRecord)> {
+    fn next(&mut self) -> Option<(usize, StringRecord)> {
         let byte = self.reader.position().byte() as usize;
-        let mut record = ByteRecord::new();
-        // Reading from memory, with rows of any length allowed, has no way to fail.
-        let is_read = self.reader.read_byte_record(&mut record).unwrap_or(false);
+        let mut record = StringRecord::new();
+        // Reading text from memory, with rows of any length allowed, has no way to fail.
+        let is_read = self.reader.read_record(&mut record).unwrap_or(false);
         is_read.then(|| (self.line_at(byte), record))
     }
 }
 
-/// Where the three columns are.
-struct Columns {
-    width: usize,
-    at: [usize; 3],
-}
-
-impl Columns {
-    fn of(header: &ByteRecord) -> Result<Columns, String> {
-        let names: Vec<String> = header.iter().map(|f| shown(f).to_lowercase()).collect();
-        let mut at = [0; 3];
-        for (wanted, at) in NAMES.iter().zip(&mut at) {
-            let here: Vec<usize> = (0..names.len()).filter(|i| names[*i] == *wanted).collect();
-            *at = match here[..] {
-                [one] => one,
-                [] => return Err(missing(wanted, header)),
-                _ => return Err(format!("two columns are named {wanted}")),
-            };
-        }
-        Ok(Columns { width: header.len(), at })
-    }
-
-    /// The spot of a row, or all that is wrong with it.
-    fn spot(&self, record: &ByteRecord) -> Result<Spot, Vec<String>> {
-        if record.len() != self.width {
-            return Err(vec![wrong_width(self.width, record)]);
-        }
-        let [place, rank, track] = self.at.map(|i| record[i].trim_ascii());
-        let place = whole(place, "place", LOWEST_PLACE, HIGHEST_PLACE);
-        let rank = whole(rank, "rank", i32::MIN, i32::MAX);
-        let track = whole(track, "track", u32::MIN, u32::MAX);
-        match (place, rank, track) {
-            (Ok(place), Ok(rank), Ok(track)) => Ok(Spot { place, rank, track }),
-            (a, b, c) => Err([a.err(), b.err(), c.err()].into_iter().flatten().collect()),
-        }
-    }
-}
-
-fn missing(wanted: &str, header: &ByteRecord) -> String {
-    let one = header.iter().next().unwrap_or_default();
-    for (sign, name) in [(b';', "semicolons"), (b'\t', "tabs")] {
-        if header.len() < 3 && one.iter().filter(|b| **b == sign).count() >= 2 {
-            return format!("the columns are parted by {name}. Save the sheet again as CSV with a comma between columns");
-        }
-    }
-    let has: Vec<String> = header.iter().map(shown).collect();
-    format!("no column is named {wanted}. The first line has to name the columns place, rank and track; it has: {}", has.join(", "))
-}
-
-fn wrong_width(width: usize, record: &ByteRecord) -> String {
-    let has = words::count(record.len(), "column");
-    let hint = if record.len() > width {
-        ". A field with a comma in it has to stand in quotation marks"
-    } else if record.iter().any(|f| f.contains(&b';')) {
-        ". There are semicolons between columns; they have to be commas"
-    } else {
-        ""
-    };
-    format!("there are {has} where the first line has {}{hint}", words::number(width as i128))
-        .replace("there are 1 column ", "there is 1 column ")
-}
-
-/// A whole number in its limits, or the words that say why not.
-pub fn whole<T>(field: &[u8], name: &str, least: T, most: T) -> Result<T, String>
-where
-    T: std::str::FromStr + PartialOrd + std::fmt::Display,
-{
-    let number = std::str::from_utf8(field).ok().and_then(|text| text.parse().ok());
-    if let Some(number) = number.filter(|n| least <= *n && *n <= most) {
-        return Ok(number);
-    }
-    if field.is_empty() {
-        return Err(format!("{name} is empty"));
-    }
-    let is_other_minus = ["\u{2212}", "\u{2013}"].iter().any(|m| field.starts_with(m.as_bytes()));
-    let hint = if is_other_minus { ": its minus sign has to be the plain -" } else { "" };
-    let text = shown(field);
-    Err(format!("{name} \"{text}\" is not a whole number from {least} to {most}{hint}"))
-}
-
 /// A field as it can be printed in one short line.
-fn shown(field: &[u8]) -> String {
-    let text = String::from_utf8_lossy(field.trim_ascii());
-    let clean = text.chars().map(|c| if c.is_control() { ' ' } else { c });
+fn shown(field: &str) -> String {
+    let clean = blank_trimmed(field).chars().map(|c| if c.is_control() { ' ' } else { c });
     let mut out: String = clean.clone().take(40).collect();
     if clean.count() > 40 {
         out.push_str("...");
@@ -304,12 +291,12 @@ mod tests {
     use super::*;
 
     fn lines(text: &str) -> Vec<(usize, i32)> {
-        let rows = judge(text.as_bytes()).unwrap();
+        let rows = judge(text, &Names::default()).unwrap().0;
         rows.iter().map(|r| (r.line, r.spot.place)).collect()
     }
 
     fn wrong(text: &str) -> Vec<(usize, String)> {
-        let wrong = judge(text.as_bytes()).unwrap_err();
+        let wrong = judge(text, &Names::default()).unwrap_err();
         wrong.into_iter().map(|w| (w.line, w.what)).collect()
     }
 
@@ -337,7 +324,7 @@ mod tests {
     #[test]
     fn names_of_columns_in_any_case_and_order() {
         let text = "Case; old,TRACK, Rank ,place\na;b,3,2,1\n";
-        let rows = judge(text.as_bytes()).unwrap();
+        let rows = judge(text, &Names::default()).unwrap().0;
         assert_eq!(rows[0].spot, Spot { place: 1, rank: 2, track: 3 });
     }
 
@@ -372,8 +359,8 @@ mod tests {
     #[test]
     fn the_first_line_has_to_name_the_columns() {
         let first = |text: &str| wrong(text)[0].1.clone();
-        assert!(first("place;rank;track\n1;2;3\n").contains("parted by semicolons"));
-        assert!(first("place\trank\ttrack\n1\t2\t3\n").contains("parted by tabs"));
+        assert!(first("place;rank\n1;2\n")
+            .contains("no column is named track. The first line has to name the columns place, rank and track; it has: place, rank"));
         assert!(first("place,track\n1,2\n").contains("no column is named rank"));
         assert!(first("1,2,3\n4,5,6\n").contains("it has: 1, 2, 3"));
         assert!(first("place,rank,track,rank\n").contains("two columns are named rank"));
@@ -391,21 +378,5 @@ mod tests {
         }
         let fine = "1,2,3,\"a\"\"b\"\n4,5,6,5\" pipe\n7,8,9,\"\"\n1,1,1,\"a\" \n";
         assert_eq!(lines(&format!("{head}{fine}")).len(), 4);
-    }
-
-    #[test]
-    fn files_that_are_no_csv_are_named() {
-        let rows: [(&[u8], &str); 6] = [
-            (b"PK\x03\x04abc", "spreadsheet file"),
-            (b"\xFF\xFEp\0l\0", "UTF-16"),
-            (b"place\0", "not a text"),
-            (b"place,rank,track\r1,2,3\r", "Macintosh"),
-            (b"", "empty"),
-            (b" \r\n", "empty"),
-        ];
-        for (bytes, words) in rows {
-            assert!(text_of(bytes).unwrap_err().contains(words));
-        }
-        assert_eq!(text_of(b"\xEF\xBB\xBFplace\n"), Ok(&b"place\n"[..]));
     }
 }
