@@ -29,7 +29,7 @@ struct Part {
 
 impl Part {
     fn holds(&self, k: Key) -> bool {
-        self.from <= k && self.to.map_or(true, |to| k < to)
+        self.from <= k && self.to.is_none_or(|to| k < to)
     }
 }
 
@@ -133,7 +133,7 @@ impl Node {
             && rises(&self.deletes)
             && names.iter().collect::<BTreeSet<_>>().len() == names.len()
             && rises(&lows)
-            && lowest.map_or(true, |low| below.all(|k| by_rank(k) < low))
+            && lowest.is_none_or(|low| below.all(|k| by_rank(k) < low))
             && names.iter().chain(&lows).all(|k| from <= *k)
             && names.iter().chain(&lows).copied().chain(self.ends()).all(|k| in_limits(k.0))
     }
@@ -143,7 +143,7 @@ impl Node {
         let named: BTreeSet<usize> = self.entries.iter().map(|e| e.block).chain([part.block]).collect();
         let credible = |j: usize, e: &Entry| {
             let next = self.entries.get(j + 1).map(|f| f.low);
-            let inside = |k: Key| part.low().max(e.low) <= k && next.map_or(true, |n| k < n);
+            let inside = |k: Key| part.low().max(e.low) <= k && next.is_none_or(|n| k < n);
             let ends = if e.size == 1 { e.top == e.bottom } else { by_rank(e.bottom) < by_rank(e.top) };
             e.size == 0 || e.size <= 64 && ends && inside(e.top) && inside(e.bottom)
         };
@@ -185,7 +185,7 @@ impl Part {
             && node.sizes_ok(self, level)
             && node.keys_ok(self.low())
             && node.entries_ok(self, table.len() / BLOCK)
-            && self.entry.map_or(true, |e| node.agrees(&e));
+            && self.entry.is_none_or(|e| node.agrees(&e));
         ok.then_some(node)
     }
 }
@@ -205,7 +205,7 @@ impl Walk<'_> {
         self.found.extend(node.points.iter().chain(&node.inserts).filter(|s| !above.contains(&s.0)));
         let named: BTreeSet<Key> = above.iter().copied().chain(node.names()).collect();
         for child in node.children(&part) {
-            let has_spots = child.entry.is_some_and(|e| e.size > 0) && child.to.map_or(true, |to| child.from < to);
+            let has_spots = child.entry.is_some_and(|e| e.size > 0) && child.to.is_none_or(|to| child.from < to);
             if has_spots {
                 self.enter(child, level - 1, &named)?;
             }
