@@ -25,8 +25,9 @@ static uint32_t draw(void) {
     return (uint32_t)(state >> 32);
 }
 
+/* The processor time of this program; in node and on bare metal the time of day, which other programs disturb. */
 static double seconds(void) {
-#if defined(__linux__) || defined(__wasi__)
+#if defined(__wasi__)
     struct timespec t;
     clock_gettime(CLOCK_MONOTONIC, &t);
     return (double)t.tv_sec + (double)t.tv_nsec * 1e-9;
