@@ -51,7 +51,7 @@
  *                   long, which is most of their time on a large table. A withdrawal that finds nothing writes nothing to the table.
  *   spot_rebuild    reads every node block that has spots and writes as many as the spots need.
  *   spot_apply      with one change what spot_add or spot_withdraw costs. With more, all is laid out anew, as by spot_rebuild: on the largest table 256 changes take its time, 4,096 up
- *                   to 1.6 times that, and 2.3 times where the table is so full that each change is looked up first. Up to about 18 changes, single calls take less time, but are not
+ *                   to 1.6 times that; 2.3 times, and spot_check's time, where the table is so full that it is checked and each change looked up first. Up to about 18 changes, single calls take less time, but are not
  *                   all or nothing. It zeroes as much of the work area as the table is long. A message refused with 8 or 9 costs no more than reading it.
  *   spot_write_message, spot_read_message
  *                   read their input three to four times and write their output once.
