@@ -1,4 +1,6 @@
 // Applies a message to a table: all of its changes, or none.
+#![tactic(auto)]
+
 ghost use Rattle.std.specs.Prelude.{◌≡◌};
 ghost use Rattle.block.specs.Answers.{answer};
 ghost use Rattle.table.specs.Updates.{ApplyPost};

@@ -1,4 +1,6 @@
 // A batch of changes at one node in memory: taken in, handed down to a child, and the node cut in two.
+#![tactic(auto)]
+
 ghost use Rattle.std.specs.Prelude.{◌≡◌, true, cond, ◌⊎◌, [], ◌∷◌, ◌+◌, ◌/◌, ◌≤◌, ◌<◌, drop, leb};
 ghost use Rattle.octets.specs.Lists.{rest, rising};
 ghost use Rattle.octets.specs.Sets.{Apart};
@@ -11,7 +13,7 @@ ghost use Rattle.edit.specs.Edits.{Tidy, Half};
 ghost use Rattle.batch.specs.Batches.{Receives, SpilledInner, TakenIn, Picking, Bound, EntriesBack, PutBack, CutKey, HalfOf};
 
 // What is handed down to a child, and the node without it.
-#[derive(Drop)]
+#[derive(Clone, Copy)]
 pub struct Picked {
     pub child: usize,
     pub node: node::NodeValue,

@@ -1,8 +1,10 @@
 // The bench program: a table of 32 blocks, a command a line on standard input, and its answer on standard output.
+#![tactic(auto)]
+
 ghost use Rattle.std.specs.Prelude.{◌≡◌, ◌≤◌, ◌<◌, length};
 
 // What is kept of the input: the length of the line begun, and whether there is more to read.
-#[derive(Drop)]
+#[derive(Clone, Copy)]
 struct Fed {
     used: usize,
     more: bool,

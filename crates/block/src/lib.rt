@@ -1,4 +1,6 @@
 // The one place that knows the layout of a card's blocks.
+#![tactic(auto)]
+
 ghost use Rattle.std.specs.Prelude.{◌≡◌, true, false, cond, not, ◌+◌, ◌-◌, ◌*◌, ◌≤◌, ◌<◌, min, max, length, drop};
 ghost use Rattle.octets.specs.Lists.{every, rising_from, rising, up_to};
 ghost use Rattle.octets.specs.Bitmap.{bit};
@@ -48,14 +50,14 @@ pub const INSERTS_MOST: usize = 64;
 pub const DELETES_MOST: usize = 16;
 
 // What a call answers: one of the paper's numbers, and its detail.
-#[derive(Drop)]
+#[derive(Clone, Copy)]
 pub struct Answer {
     pub number: u32,
     pub detail: u32,
 }
 
 // A child entry: the child's block, the size of its points, the lowest key of its range, and the highest and the lowest key of its points in rank order.
-#[derive(Drop)]
+#[derive(Clone, Copy)]
 pub struct Entry {
     pub block: usize,
     pub size: usize,
@@ -65,14 +67,14 @@ pub struct Entry {
 }
 
 // What leads to a node: block 0 to the root, which stands in the block that it names, and an entry of its parent to any other.
-#[derive(Drop)]
+#[derive(Clone, Copy)]
 pub enum Asked {
     Root(usize),
     Child(Entry),
 }
 
 // The numbers at the front of a node: p, i and d are the sizes of its points, inserts and deletes, c that of its entries.
-#[derive(Drop)]
+#[derive(Clone, Copy)]
 pub struct Front {
     pub used: usize,
     pub version: usize,
@@ -84,7 +86,7 @@ pub struct Front {
 }
 
 // What a pass over the points finds: whether they rise, and the lowest and the highest rank key.
-#[derive(Drop)]
+#[derive(Clone, Copy)]
 pub struct Points {
     pub ok: bool,
     pub low: u64,

@@ -1,4 +1,6 @@
 // Lays a sorted list of spots out as a sound table: the path that always succeeds.
+#![tactic(auto)]
+
 ghost use Rattle.std.specs.Prelude.{◌≡◌, true, ◌∷◌, [], ◌++◌, ◌+◌, ◌*◌, ◌^◌, ◌≤◌, ◌<◌, length};
 ghost use Rattle.spot.specs.Keys.{rank_key, within};
 ghost use Rattle.spot.specs.Spots.{spots_from};
@@ -11,14 +13,14 @@ ghost use Rattle.rebuild_theory.specs.Build.{nodes, shape_of, band, first_spot_k
 ghost use Rattle.build.specs.Building.{limit_of, Segment, Cut, Buildable, HeaderFits, HeaderWritten, ShapeIs, NumbersAre, HeadSays, FirstMarked, EntryOfPoints, Own, OwnPut};
 
 // A limit of rank keys: all up to `last`, or none.
-#[derive(Drop)]
+#[derive(Clone, Copy)]
 pub struct Limit {
     pub some: bool,
     pub last: u64,
 }
 
 // The fan-outs of a tree: the root has `fan` children, each of those `next`, every other inner node 6; `height` levels lie below the root.
-#[derive(Drop)]
+#[derive(Clone, Copy)]
 pub struct Fans {
     pub fan: usize,
     pub next: usize,

@@ -1,4 +1,6 @@
 // Carries out a message that is in order on a table of the right length: all of its changes, or none.
+#![tactic(auto)]
+
 ghost use Rattle.std.specs.Prelude.{◌≡◌, true, ◌≤◌, length, take};
 ghost use Rattle.block.specs.Answers.{answer};
 ghost use Rattle.rows.specs.Lining.{Rows};

@@ -1,4 +1,6 @@
 // The catalogue of a pressed tour and its blocks: what they hold, whether they keep their layout, and which of them a Report reads.
+#![tactic(auto)]
+
 ghost use Rattle.std.specs.Prelude.{◌≡◌, true, ◌∷◌, ◌++◌, suc, ◌+◌, ◌*◌, ◌-◌, ◌≤◌, ◌<◌, length, take, drop, eqb};
 ghost use Rattle.octets.specs.Lists.{every, up_to};
 ghost use Rattle.spot.specs.Keys.{limited};
@@ -12,7 +14,7 @@ ghost use Rattle.catalogue.specs.Reading.{Listed, LimitedEntry};
 const NO_KEY: u64 = 9223372039002259456;
 
 // What the catalogue says of a block: its number of spots, the lowest and the highest key, and the keys whose passing made and ended it.
-#[derive(Drop)]
+#[derive(Clone, Copy)]
 pub struct Entry {
     pub size: usize,
     pub low: u64,
@@ -22,7 +24,7 @@ pub struct Entry {
 }
 
 // The blocks that stand, from left to right.
-#[derive(Drop)]
+#[derive(Clone, Copy)]
 struct Row {
     n: usize,
     blocks: [usize; 8],

@@ -1,4 +1,6 @@
 // One change to the tree of a table, from the root down.
+#![tactic(auto)]
+
 ghost use Rattle.std.specs.Prelude.{◌≡◌, true, false, ◌≤◌};
 ghost use Rattle.octets.specs.Lists.{every};
 ghost use Rattle.spot.specs.Keys.{limited};
@@ -13,7 +15,7 @@ ghost use Rattle.change.specs.Changing.{Changeable, refusal, ChangedBy};
 ghost use Rattle.change.specs.Growing.{Over, Crownable, CrownPost, GrowPost, Finishable, HasRoom, LightAt, LightPost, HeavyAt};
 
 // What became of a change: carried out, or the table is as it was, since there is no room, or since a block that was read breaks a rule.
-#[derive(Drop)]
+#[derive(Clone, Copy)]
 pub enum Outcome {
     Done,
     NoRoom,
@@ -22,7 +24,7 @@ pub enum Outcome {
 
 // The tree after a change at its root: its levels, its root, and how many spare blocks are left. Where it is not ok, `broken` says that a block that was read
 // breaks a rule; else there was no room.
-#[derive(Drop)]
+#[derive(Clone, Copy)]
 pub struct Grown {
     pub ok: bool,
     pub broken: bool,

@@ -1,4 +1,6 @@
 // Which child of a node.
+#![tactic(auto)]
+
 ghost use Rattle.std.specs.Prelude.{◌≡◌, ◌-◌, ◌≤◌, ◌<◌, drop};
 ghost use Rattle.spot.specs.Spots.{keys};
 ghost use Rattle.tree.specs.Part.{next_low};

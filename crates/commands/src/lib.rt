@@ -1,4 +1,6 @@
 // A line of the bench program: the command that it is, carried out on a table, and the text to be printed, left in lent bytes.
+#![tactic(auto)]
+
 ghost use Rattle.std.specs.Prelude.{◌≡◌, ◌+◌, ◌*◌, ◌≤◌, ◌<◌, min, length, true};
 ghost use Rattle.spot.specs.Spots.{limited_from};
 ghost use Rattle.table.specs.Queries.{GivenInside};

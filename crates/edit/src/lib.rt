@@ -1,4 +1,6 @@
 // Changes to a node in memory: batches, spilling, halves, and the rounds of fill.
+#![tactic(auto)]
+
 ghost use Rattle.std.specs.Prelude.{◌≡◌, false, ◌+◌, ◌≤◌, ◌<◌, take, drop, ltb, leb};
 ghost use Rattle.block.specs.Node.{first_open};
 ghost use Rattle.octets.specs.Lists.{has, keep};

@@ -1,4 +1,6 @@
 // fill and take_top (source section 4, step v): P is filled up from I and from the children's highest points, a level lower each time.
+#![tactic(auto)]
+
 ghost use Rattle.std.specs.Prelude.{◌≡◌, true, false, [], ◌≤◌, ◌<◌, length};
 ghost use Rattle.spot.specs.Sorted.{only, but};
 ghost use Rattle.block.specs.Table.{blocks_of};
@@ -9,7 +11,7 @@ ghost use Rattle.fill.specs.Filling.{Workable, FillPost, TakePost, Replaced, Ins
 
 // The highest point of a child, taken out: the child's entry then, and the spot. Where it is not ok, `broken` says that a block that was read breaks a rule;
 // else there was no room. So it is in the two below.
-#[derive(Drop)]
+#[derive(Clone, Copy)]
 pub struct Took {
     pub ok: bool,
     pub broken: bool,
@@ -17,7 +19,7 @@ pub struct Took {
     pub spot: spot::Spot,
 }
 
-#[derive(Drop)]
+#[derive(Clone, Copy)]
 pub struct Filled {
     pub ok: bool,
     pub broken: bool,
@@ -25,7 +27,7 @@ pub struct Filled {
 }
 
 // What a round takes: the highest of the child at `child`, where `below`, and of I, where it `waits`; both where they have one key. With neither nothing is left.
-#[derive(Drop)]
+#[derive(Clone, Copy)]
 pub struct Turn {
     pub below: bool,
     pub waits: bool,
@@ -35,7 +37,7 @@ pub struct Turn {
 }
 
 // One round of fill: whether it went well, whether nothing is left, and the node then.
-#[derive(Drop)]
+#[derive(Clone, Copy)]
 pub struct Turned {
     pub ok: bool,
     pub broken: bool,

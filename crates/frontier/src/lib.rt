@@ -1,4 +1,6 @@
 // The frontier of a Top: a row for each node read, the best spot that is left of a node, and its best child that is still to be read.
+#![tactic(auto)]
+
 ghost use Rattle.std.specs.Prelude.{◌≡◌, true, cond, eqb, ◌+◌, ◌*◌, ◌≤◌, ◌<◌, length};
 ghost use Rattle.octets.specs.Lists.{has};
 ghost use Rattle.spot.specs.Keys.{all_keys};
@@ -13,7 +15,7 @@ ghost use Rattle.frontier.specs.Frontier.{kid_count, kid_key, kid_place, KidIs, 
 ghost use Rattle.frontier.specs.Picks.{spots_at, spot_count, spot_by, wanted_in, found_in, Laddered, PickedUnder, Wished, Unwaited, KeysApart, OneOf, Few, Inserted, few_floor, taken_key, Packable, FirstOf, KidBest};
 
 // A node that was read: its block and level, and its range.
-#[derive(Drop)]
+#[derive(Clone, Copy)]
 pub struct Place {
     pub block: usize,
     pub level: usize,
@@ -21,7 +23,7 @@ pub struct Place {
 }
 
 // A child: its entry and its range.
-#[derive(Drop)]
+#[derive(Clone, Copy)]
 pub struct Kid {
     pub entry: block::Entry,
     pub span: visit::Span,
@@ -29,7 +31,7 @@ pub struct Kid {
 
 // The best spot of a node, if there is one: its top key, its index among the node's points and inserts, and the indices of the next
 // ones that the query wants.
-#[derive(Drop)]
+#[derive(Clone, Copy)]
 pub struct Pick {
     pub there: bool,
     pub key: u64,
@@ -38,7 +40,7 @@ pub struct Pick {
 }
 
 // The best child of a node: its key, 0 where there is none, and its index.
-#[derive(Drop)]
+#[derive(Clone, Copy)]
 pub struct KidPick {
     pub key: u64,
     pub at: usize,

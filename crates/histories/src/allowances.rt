@@ -10,7 +10,7 @@ use crate::list::SLOTS;
 use crate::{Run, asks, compared, drawn, found, list, next, seeded, told};
 
 // What a call is asked.
-#[derive(Drop)]
+#[derive(Clone, Copy)]
 struct Question {
     x1: i32,
     x2: i32,

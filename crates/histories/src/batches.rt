@@ -11,14 +11,14 @@ use crate::{Run, compared, drawn, found, list, next, seeded, told};
 const LENT: u32 = 2779096485;
 
 // Ranges, and the random number after them.
-#[derive(Drop)]
+#[derive(Clone, Copy)]
 struct Drawn {
     seed: u64,
     batch: ranges::Batch,
 }
 
 // What a call gets beside the table: the ranges, and how many counts and bytes of the output and of the map. The list has so many spots for them.
-#[derive(Drop)]
+#[derive(Clone, Copy)]
 struct Handed {
     batch: ranges::Batch,
     counts: usize,
@@ -28,7 +28,7 @@ struct Handed {
 }
 
 // A single report: the history after it, how many spots it gave, and where they end among those of all.
-#[derive(Drop)]
+#[derive(Clone, Copy)]
 struct Single {
     run: Run,
     count: u32,

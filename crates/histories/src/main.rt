@@ -1,4 +1,6 @@
 // Long histories on tables of 9, 10, 32 and 300 blocks, compared call by call with a plain list.
+#![tactic(auto)]
+
 ghost use Rattle.std.specs.Prelude.{◌<◌, ◌≤◌, length};
 
 mod allowances;
@@ -9,7 +11,7 @@ mod list;
 mod messages;
 
 // What a history has come to: its random number, how many calls were made, refused and answered wrongly, and a digest of all answers.
-#[derive(Drop)]
+#[derive(Clone, Copy)]
 struct Run {
     seed: u64,
     calls: u64,
@@ -19,7 +21,7 @@ struct Run {
 }
 
 // The same of the calls of many ranges, of those with an allowance and of messages, which are told apart.
-#[derive(Drop)]
+#[derive(Clone, Copy)]
 struct Played {
     run: Run,
     many: Run,
@@ -28,7 +30,7 @@ struct Played {
 }
 
 // A change to be made, and the random number after it.
-#[derive(Drop)]
+#[derive(Clone, Copy)]
 struct Change {
     adds: bool,
     id: u64,

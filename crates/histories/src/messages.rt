@@ -9,7 +9,7 @@ use crate::{Change, Run, change_list, compared, drawn, kinds, list, next, seeded
 const LENT: u8 = 165;
 
 // A message of n changes: the harm that is done to it, how many bytes of it are handed in, and how many the work area has.
-#[derive(Drop)]
+#[derive(Clone, Copy)]
 struct Letter {
     n: usize,
     harm: u64,

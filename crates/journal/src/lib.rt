@@ -1,4 +1,6 @@
 // Undo by block.
+#![tactic(auto)]
+
 ghost use Rattle.std.specs.Prelude.{◌≡◌, true, ◌+◌, ◌*◌, ◌≤◌, ◌<◌, length};
 ghost use Rattle.octets.specs.Bitmap.{bit};
 ghost use Rattle.block.specs.Table.{block, blocks_of, put_block};

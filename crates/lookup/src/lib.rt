@@ -1,4 +1,6 @@
 // The lookup of one key: down the one path whose ranges hold it, to the first node that names it.
+#![tactic(auto)]
+
 ghost use Rattle.std.specs.Prelude.{◌≡◌, true, suc, length};
 ghost use Rattle.octets.specs.Lists.{records};
 ghost use Rattle.spot.specs.Keys.{within};
@@ -10,7 +12,7 @@ ghost use Rattle.visit.specs.Visit.{Ready, end_of, part_of};
 ghost use Rattle.lookup.specs.Answers.{LookupPost};
 ghost use Rattle.lookup.specs.Words.{track_found, Speaks, Lookable, looked_in};
 
-#[derive(Drop)]
+#[derive(Clone, Copy)]
 pub enum Looked {
     Live(u32),
     Nothing,
@@ -18,14 +20,14 @@ pub enum Looked {
 }
 
 // A spot's track, if it is there.
-#[derive(Drop)]
+#[derive(Clone, Copy)]
 pub struct Found {
     pub there: bool,
     pub track: u32,
 }
 
 // What one node says of a key: live with this track, gone, or nothing.
-#[derive(Drop)]
+#[derive(Clone, Copy)]
 pub struct Word {
     pub live: bool,
     pub gone: bool,

@@ -1,4 +1,6 @@
 // Request 2026-01, many ranges in one call: all are counted, and if there is room, all are written. No public function has a `requires`.
+#![tactic(auto)]
+
 ghost use Rattle.std.specs.Prelude.{◌≡◌, true, ◌≤◌, length};
 ghost use Rattle.block.specs.Answers.{answer};
 ghost use Rattle.block.specs.Table.{table_sized};
@@ -43,7 +45,7 @@ fn count_one(
 }
 
 // Whether the walks of all are whole, and how many spots they find together.
-#[derive(Drop)]
+#[derive(Clone, Copy)]
 struct Total {
     ok: bool,
     spots: usize,

@@ -1,4 +1,6 @@
 // What several walks of one table validated, remembered in lent slots: a block that they come to the same way is validated once.
+#![tactic(auto)]
+
 ghost use Rattle.std.specs.Prelude.{◌≡◌, ◌+◌, ◌*◌, ◌≤◌, length};
 ghost use Rattle.block.specs.Node.{store_of};
 ghost use Rattle.block.specs.NodeRules.{node_ok, stands_in};

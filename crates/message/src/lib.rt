@@ -1,4 +1,6 @@
 // Messages: lists of changes, as they go over the air. A message carries no sender, no seal and no order among messages.
+#![tactic(auto)]
+
 ghost use Rattle.std.specs.Prelude.{◌≡◌, true, ◌∷◌, ◌++◌, ◌+◌, ◌*◌, ◌≤◌, ◌<◌, leb, eqb, length};
 ghost use Rattle.octets.specs.Bytes.{be, bytes_of, put_bytes};
 ghost use Rattle.block.specs.Answers.{answer};
@@ -22,7 +24,7 @@ const ROW_FILL: usize = 4;
 const WITHDRAWAL_BYTES: usize = 9;
 
 // A spot that is added, or the key of one that is withdrawn.
-#[derive(Drop)]
+#[derive(Clone, Copy)]
 pub enum Change {
     Add(spot::Spot),
     Withdraw(u64),

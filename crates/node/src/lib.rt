@@ -1,4 +1,6 @@
 // The node in memory: loaded from a block that keeps the rules, stored to exactly its 2,048 bytes.
+#![tactic(auto)]
+
 ghost use Rattle.std.specs.Prelude.{◌≡◌, true, ◌∷◌, ◌++◌, suc, ◌+◌, ◌-◌, ◌*◌, ◌≤◌, ◌<◌, length, take, drop, replicate};
 ghost use Rattle.octets.specs.Lists.{records};
 ghost use Rattle.spot.specs.Spots.{key_at, spot_at, limited_from};
@@ -11,13 +13,13 @@ ghost use Rattle.node.specs.Bytes.{front_bytes, bytes_unless, entry_bytes, key_f
 ghost use Rattle.node.specs.Blocks.{EntriesLoaded, LoadedIn};
 
 // The child entries of a node, held together as one value; the first n are in use.
-#[derive(Drop)]
+#[derive(Clone, Copy)]
 pub struct Entries {
     pub n: usize,
     pub list: [block::Entry; 8],
 }
 
-#[derive(Drop)]
+#[derive(Clone, Copy)]
 pub struct NodeValue {
     pub level: usize,
     pub entries: Entries,

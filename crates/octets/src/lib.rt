@@ -1,4 +1,6 @@
 // Big-endian numbers, maps of blocks, and filling and copying, in slices of bytes.
+#![tactic(auto)]
+
 ghost use Rattle.std.specs.Prelude.{◌≡◌, ◌++◌, ◌+◌, ◌*◌, ◌/◌, ◌≤◌, ◌<◌, length, get_or, take, drop, replicate};
 ghost use Rattle.octets.specs.Bytes.{be, put_be};
 ghost use Rattle.octets.specs.Bitmap.{bit, set_bit, ones_below, FirstClear};

@@ -1,4 +1,6 @@
 // The leaves and the validation of a block, exported for the benchmarks under measure/.
+#![tactic(auto)]
+
 ghost use Rattle.std.specs.Prelude.{◌≡◌, ◌*◌, ◌/◌, true, length};
 ghost use Rattle.spot.specs.Spots.{limited_from};
 

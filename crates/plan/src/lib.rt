@@ -1,5 +1,7 @@
 // The sweep that presses a tour, in rank order over spots in place order: which blocks are made, of which spots, and whose passing made and ended them. Nothing is
 // written.
+#![tactic(auto)]
+
 ghost use Rattle.std.specs.Prelude.{◌≡◌, ◌+◌, ◌-◌, ◌≤◌, ◌<◌, min, length, take, get_or};
 ghost use Rattle.spot.specs.Spots.{spots_in};
 ghost use Rattle.plan.specs.Plans.{Spots, SpotsReadable, Nearer, NextRank, SweepPlanned, Started, PlanShaped, RipeAt, Fused, PassedRank, piece_left, piece_at, closed_up, ended_at};
@@ -8,7 +10,7 @@ ghost use Rattle.plan.specs.Plans.{Spots, SpotsReadable, Nearer, NextRank, Sweep
 pub const NO_KEY: u64 = 9223372039002259456;
 
 // A block: of the spots from `from` on, before `to`, those with a rank key of at least `floor`; and the key whose passing ended it.
-#[derive(Drop)]
+#[derive(Clone, Copy)]
 pub struct Piece {
     pub from: usize,
     pub to: usize,
@@ -17,7 +19,7 @@ pub struct Piece {
 }
 
 // The blocks made so far, by their numbers, and the places in `pieces` of those that stand, from left to right.
-#[derive(Drop)]
+#[derive(Clone, Copy)]
 pub struct Plan {
     pub count: usize,
     pub stands: usize,

@@ -1,4 +1,6 @@
 // Presses a tour: spots in place order become a read-only table of at most 16 blocks.
+#![tactic(auto)]
+
 ghost use Rattle.std.specs.Prelude.{◌≡◌, true, ◌+◌, ◌*◌, ◌≤◌, ◌<◌, length, replicate};
 ghost use Rattle.octets.specs.Lists.{rising};
 ghost use Rattle.octets.specs.Bytes.{put_bytes};
@@ -20,7 +22,7 @@ const ENTRY_BYTES: usize = 36;
 pub const TOUR_BYTES: usize = 32768;
 
 // The number of spots of a piece, and the lowest and the highest key.
-#[derive(Drop)]
+#[derive(Clone, Copy)]
 struct Extent {
     n: usize,
     low: u64,

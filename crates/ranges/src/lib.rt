@@ -1,10 +1,12 @@
 // A lent slice of range structs, taken apart by one thin function per range, and held by value from then on.
+#![tactic(auto)]
+
 ghost use Rattle.std.specs.Prelude.{◌≡◌, ◌+◌, ◌*◌, ◌≤◌, ◌<◌, length, set, replicate};
 ghost use Rattle.ranges.specs.Ranges.{range_at, no_range, few_of, batch_of, range_in, ranges_in};
 
 // Two places and a lowest rank.
 #[repr(C)]
-#[derive(Drop)]
+#[derive(Clone, Copy)]
 pub struct Range {
     pub x1: i32,
     pub x2: i32,
@@ -12,7 +14,7 @@ pub struct Range {
 }
 
 // How many ranges were handed in, and the first 64 of them.
-#[derive(Drop)]
+#[derive(Clone, Copy)]
 pub struct Batch {
     pub n: usize,
     pub all: [Range; 64],

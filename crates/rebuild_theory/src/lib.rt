@@ -1,1 +1,2 @@
 // The rebuilt tree.
+#![tactic(auto)]

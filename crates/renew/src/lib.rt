@@ -1,4 +1,6 @@
 // The table laid out anew, as it is and with one change to its live spots.
+#![tactic(auto)]
+
 ghost use Rattle.std.specs.Prelude.{◌≡◌, true, ◌≤◌, leb, length};
 ghost use Rattle.spot.specs.Keys.{limited};
 ghost use Rattle.spot.specs.Spots.{put, without};

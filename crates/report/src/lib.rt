@@ -1,5 +1,7 @@
 // A Report in its two halves, for one range and for many: it is counted, and then written. Nothing may be written before the answer is known; so few spots are
 // gathered in a buffer while they are counted, and more are found again.
+#![tactic(auto)]
+
 ghost use Rattle.std.specs.Prelude.{◌≡◌, true, length, replicate};
 ghost use Rattle.spot.specs.Spots.{spots_in, from_on};
 ghost use Rattle.spot.specs.Query.{query, from_of};

@@ -1,4 +1,6 @@
 // One spot put in or taken out: first in the tree, and where that has no room, by laying the live spots out anew.
+#![tactic(auto)]
+
 ghost use Rattle.std.specs.Prelude.{◌≡◌, true, [], ◌∷◌, ◌≤◌, length};
 ghost use Rattle.std.proofs.Math.Option.{none, some};
 ghost use Rattle.spot.specs.Keys.{limited};
@@ -15,7 +17,7 @@ ghost use Rattle.revise.specs.Revising.{Lent, WithinPost, Revised};
 ghost use Rattle.revise.specs.Steps.{step_after};
 
 // What follows a change to the tree: the call answers with this number, or the live spots are laid out anew.
-#[derive(Drop)]
+#[derive(Clone, Copy)]
 pub enum Step {
     Answer(u32),
     Anew,

@@ -1,4 +1,6 @@
 // A script of calls, run over a table that is formatted first; what the calls answer and hand out goes into a log. What calls hand in, ranges and messages, stands beside it.
+#![tactic(auto)]
+
 ghost use Rattle.std.specs.Prelude.{◌≡◌, ◌+◌, ◌*◌, ◌≤◌, min, length, take, drop};
 ghost use Rattle.octets.specs.Bytes.{be};
 ghost use Rattle.ranges.specs.Ranges.{batch_of};

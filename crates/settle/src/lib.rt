@@ -1,4 +1,6 @@
 // Pushing a batch down and settling the child that overflows call for each other, a level lower each time (source section 4, steps i to v).
+#![tactic(auto)]
+
 ghost use Rattle.std.specs.Prelude.{◌≡◌, true, false, ◌<◌, length};
 ghost use Rattle.block.specs.Table.{blocks_of};
 ghost use Rattle.tree.specs.Part.{low_of};
@@ -8,7 +10,7 @@ ghost use Rattle.settle.specs.Settling.{Settleable, SettlePost, Pushable, WorkPo
 
 // A part after settling: one entry, or two, and how many spare blocks are left. Where it is not ok, `broken` says that a block that was read breaks a rule;
 // else there was no room. So it is below.
-#[derive(Drop)]
+#[derive(Clone, Copy)]
 pub struct Settled {
     pub ok: bool,
     pub broken: bool,
@@ -19,7 +21,7 @@ pub struct Settled {
 }
 
 // A node in memory that was worked on, and how many spare blocks are left.
-#[derive(Drop)]
+#[derive(Clone, Copy)]
 pub struct Worked {
     pub ok: bool,
     pub broken: bool,
@@ -28,7 +30,7 @@ pub struct Worked {
 }
 
 // A node that was worked on and stored: its entry, and how many spare blocks are left.
-#[derive(Drop)]
+#[derive(Clone, Copy)]
 pub struct Finished {
     pub ok: bool,
     pub broken: bool,

@@ -1,4 +1,6 @@
 // Check: whether a table is sound.
+#![tactic(auto)]
+
 ghost use Rattle.std.specs.Prelude.{◌≡◌, true, suc, ◌+◌, ◌*◌, ◌≤◌, ◌<◌, length};
 ghost use Rattle.octets.specs.Lists.{every, rising, same_list};
 ghost use Rattle.spot.specs.Keys.{within};

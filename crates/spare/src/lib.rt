@@ -1,11 +1,13 @@
 // Spare blocks for an update, and block 0 after it.
+#![tactic(auto)]
+
 ghost use Rattle.std.specs.Prelude.{◌≡◌, true, [], ◌∷◌, ◌++◌, ◌+◌, ◌-◌, ◌≤◌, ◌<◌, length};
 ghost use Rattle.block.specs.Header.{head_of, header_of};
 ghost use Rattle.block.specs.HeaderRules.{header_ok};
 ghost use Rattle.spare.specs.Spares.{spare_of, taken_of, SpareIn, HeadFits, Reheaded, Clear, TakenFits, Marked, HeadTurned};
 
 // Up to eight blocks that the table does not use.
-#[derive(Drop)]
+#[derive(Clone, Copy)]
 pub struct Spare {
     pub n: usize,
     pub blocks: [usize; 8],

@@ -1,4 +1,6 @@
 // Spots, their keys, and queries over them. The only crate that meets signed numbers.
+#![tactic(auto)]
+
 ghost use Rattle.std.specs.Prelude.{◌≡◌, ◌+◌, ◌<◌, ◌≤◌, true, length, ◌-ℤ◌};
 ghost use Rattle.std.specs.Int.{w32};
 ghost use Rattle.std.proofs.Common.{to_z};
@@ -18,7 +20,7 @@ pub const START_KEY: u64 = 9219077069558775808;
 pub const END_KEY: u64 = 9227667008445743104;
 
 // A spot: its key, which stands for place and rank together, and its track number.
-#[derive(Drop)]
+#[derive(Clone, Copy)]
 pub struct Spot {
     pub key: u64,
     pub track: u32,
@@ -26,7 +28,7 @@ pub struct Spot {
 
 // The spots asked for: those with a place from x1 to x2 and a rank of at least y. If x1 is greater than x2, the places run on past the door: from x1 up, and then
 // up to x2.
-#[derive(Drop)]
+#[derive(Clone, Copy)]
 pub struct Query {
     pub x1: i32,
     pub x2: i32,

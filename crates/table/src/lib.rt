@@ -1,4 +1,6 @@
 // The public calls. None has a `requires`: every call ends on any bytes and arguments, and a refused one changes nothing but scratch.
+#![tactic(auto)]
+
 ghost use Rattle.std.specs.Prelude.{◌≡◌, true, length, replicate};
 ghost use Rattle.block.specs.Answers.{answer};
 ghost use Rattle.block.specs.Table.{table_sized};
@@ -111,7 +113,7 @@ fn top_none(table: &[u8], read_map: &mut [u8]) -> block::Answer
 }
 
 // Whether the walk of Top is whole, how many spots it gives, and whether they are in the small buffer or are all that is in range, with the map made.
-#[derive(Drop)]
+#[derive(Clone, Copy)]
 struct Size {
     ok: bool,
     held: bool,

@@ -1,7 +1,9 @@
 // How far a walk of the tree has come: the blocks that it has read, and the spots that it has found in them.
+#![tactic(auto)]
+
 ghost use Rattle.std.specs.Prelude.{◌≡◌, ◌+◌, ◌<◌, ◌≤◌, ◌^◌};
 
-#[derive(Drop)]
+#[derive(Clone, Copy)]
 pub struct Tally {
     pub blocks: usize,
     pub spots: usize,

@@ -1,4 +1,6 @@
 // The lines of the bench program: commands read from them, spots and numbers printed.
+#![tactic(auto)]
+
 ghost use Rattle.std.specs.Prelude.{◌≡◌, [], ◌∷◌, ◌+◌, ◌-◌, ◌≤◌, ◌<◌, length, get_or, drop};
 ghost use Rattle.octets.specs.Lists.{same_list};
 ghost use Rattle.text.specs.Text.{decimal, signed, joined, spot_line, count_line, refusal_line};
@@ -7,7 +9,7 @@ ghost use Rattle.text.specs.Written.{Wrote};
 ghost use Rattle.text.specs.Reading.{front, behind, value, integer, command_of, guess};
 
 // A line as a command. A line of no such form is bad.
-#[derive(Drop)]
+#[derive(Clone, Copy)]
 pub enum Command {
     Add(i32, i32, u32),
     Withdraw(i32, i32),

@@ -1,4 +1,6 @@
 // Top: reads best first, and gives the highest spots, the highest first.
+#![tactic(auto)]
+
 ghost use Rattle.std.specs.Prelude.{◌≡◌, false, cond, [], ◌-◌, ◌*◌, ◌/◌, ◌≤◌, ◌<◌, max, eqb, ltb, length};
 ghost use Rattle.spot.specs.Spots.{put_spot};
 ghost use Rattle.heap.specs.Heaps.{Heap};
@@ -8,7 +10,7 @@ ghost use Rattle.top.specs.Rows.{pick_row, first_key, lead_at, lead_slot, Seated
 ghost use Rattle.top.specs.Runs.{Joinable, Added, Readable, NodeRead, Takable, KidTaken, leads_with, NextKid, KidRead, LeadRow, Movable, MovedOn, Givable, Gave, Sweepable, Searchable, Searched, Runnable, WideRun, WithinFront, TopFront};
 
 // How many slots there are, and how many rows in the heaps of children and of spots.
-#[derive(Drop)]
+#[derive(Clone, Copy)]
 pub struct Sizes {
     pub slots: usize,
     pub kids: usize,
@@ -16,14 +18,14 @@ pub struct Sizes {
 }
 
 // A node that was to be read: whether it was, and the sizes then.
-#[derive(Drop)]
+#[derive(Clone, Copy)]
 pub struct Joined {
     pub ok: bool,
     pub sizes: Sizes,
 }
 
 // A child on its way to a slot: its place and the entry that leads to it, where it hangs, and the rows left in the heap of children.
-#[derive(Drop)]
+#[derive(Clone, Copy)]
 pub struct Fresh {
     pub place: frontier::Place,
     pub entry: block::Entry,
@@ -32,7 +34,7 @@ pub struct Fresh {
 }
 
 // How many spots are given, and the rows left in the heap of spots.
-#[derive(Drop)]
+#[derive(Clone, Copy)]
 pub struct Given {
     pub spots: usize,
     pub heads: usize,
@@ -40,7 +42,7 @@ pub struct Given {
 
 // A search: whether it ended, or would have needed more slots, how many spots it gave, and the highest rank that is left: of an unread
 // child or of a spot found and not given.
-#[derive(Drop)]
+#[derive(Clone, Copy)]
 pub struct Search {
     pub ok: bool,
     pub short: bool,
@@ -49,7 +51,7 @@ pub struct Search {
 }
 
 // A whole Top: false where a rule is broken.
-#[derive(Drop)]
+#[derive(Clone, Copy)]
 pub struct TopTally {
     pub ok: bool,
     pub spots: usize,

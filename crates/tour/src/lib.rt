@@ -1,4 +1,6 @@
 // Report of a pressed tour: the catalogue says which blocks to read.
+#![tactic(auto)]
+
 ghost use Rattle.std.specs.Prelude.{◌≡◌, ◌+◌, ◌≤◌};
 ghost use Rattle.octets.specs.Lists.{keep};
 ghost use Rattle.spot.specs.Spots.{put_all, spots_in};
@@ -9,7 +11,7 @@ ghost use Rattle.tour.specs.Tour.{TourPost};
 ghost use Rattle.tour.specs.Gathering.{Gatherable, TourReadable, TourRead};
 
 // Whether all that was read keeps its layout, and the number of spots found.
-#[derive(Drop)]
+#[derive(Clone, Copy)]
 struct Found {
     ok: bool,
     spots: usize,

@@ -1,4 +1,6 @@
 // Tours pressed of random sets, and their reports compared with a plain scan of the spots.
+#![tactic(auto)]
+
 ghost use Rattle.std.specs.Prelude.{◌<◌, ◌≤◌};
 
 mod asks;
@@ -10,7 +12,7 @@ const SETS: u64 = 16;
 const REPORTS: u64 = 20;
 
 // What a kind has come to: its random number, how many reports were made, calls refused and answered wrongly, and a digest of all answers.
-#[derive(Drop)]
+#[derive(Clone, Copy)]
 struct Run {
     seed: u64,
     reports: u64,

@@ -1,1 +1,2 @@
 // The tree as a whole: definitions in specs/, their theory in proofs/.
+#![tactic(auto)]

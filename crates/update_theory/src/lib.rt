@@ -1,1 +1,2 @@
 // Updates.
+#![tactic(auto)]

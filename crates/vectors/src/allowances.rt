@@ -6,7 +6,7 @@ use crate::shown::{say, say_number, say_signed, show, show_spots};
 use crate::{Row, plain};
 
 // What a call is lent, in bytes of the output and of the map, and the node blocks that it may read.
-#[derive(Drop)]
+#[derive(Clone, Copy)]
 pub struct Allowed {
     pub room: usize,
     pub map: usize,

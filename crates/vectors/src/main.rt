@@ -1,6 +1,8 @@
 // Runs the rows of the file `stdin`: the scope paper's cases, and damaged tables. A row is a letter or a sign, its numbers as a line of the bench program has them, a bar
 // and a label, as in `A+ 0 5 1|  add`. Behind the label an answer is printed as its number and its detail, and below it its spots; a row with no label prints nothing. A
 // line with no bar is a remark. Each function says the letters and signs that it knows.
+#![tactic(auto)]
+
 ghost use Rattle.std.specs.Prelude.{◌+◌, ◌<◌, ◌≤◌, length};
 ghost use Rattle.table.specs.Queries.{GivenInside};
 
@@ -14,7 +16,7 @@ mod tours;
 use shown::{say, show, show_number};
 
 // The letter or sign of a row, whether it has no label, and its numbers: x, y and z, or n where the third is unsigned.
-#[derive(Drop)]
+#[derive(Clone, Copy)]
 struct Row {
     op: u8,
     quiet: bool,
@@ -246,7 +248,7 @@ fn print(table: &[u8], r: Row) {
 }
 
 // What is kept from row to row: the table's length, the ranges that are handed in, what is allowed, and the length of the list or message in the scratch bytes.
-#[derive(Drop)]
+#[derive(Clone, Copy)]
 struct State {
     bytes: usize,
     batch: ranges::Batch,

@@ -1,4 +1,6 @@
 // Whether a change of a message is turned down: decided before anything is written, the work area included.
+#![tactic(auto)]
+
 ghost use Rattle.std.specs.Prelude.{◌≡◌, true, ◌≤◌, length, take};
 ghost use Rattle.block.specs.Table.{table_sized};
 ghost use Rattle.tree.specs.Sound.{sound};
@@ -9,7 +11,7 @@ ghost use Rattle.rows.specs.Lining.{Rows};
 ghost use Rattle.verdict.specs.Verdicts.{there_by, there_as, there_after, one_more, one_less, next_live, reckoned_for, refused_at, Triable, Tried};
 
 // Whether a spot is there. Unknown only where a rule is broken, and so on no sound table.
-#[derive(Drop)]
+#[derive(Clone, Copy)]
 pub enum There {
     Yes,
     No,
@@ -17,14 +19,14 @@ pub enum There {
 }
 
 // How many spots are live after a change, or the number that refuses it.
-#[derive(Drop)]
+#[derive(Clone, Copy)]
 pub struct Reckoned {
     pub number: u32,
     pub live: usize,
 }
 
 // What a message comes to on a table, and how many rows it has if it is accepted.
-#[derive(Drop)]
+#[derive(Clone, Copy)]
 pub struct Ruling {
     pub answer: block::Answer,
     pub rows: usize,

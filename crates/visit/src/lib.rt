@@ -1,4 +1,6 @@
 // Reading one node during a walk: which of its spots a query takes, given what waits in the nodes above, and which children it reads.
+#![tactic(auto)]
+
 ghost use Rattle.std.specs.Prelude.{◌≡◌, true, false, ◌⊎◌, ◌∷◌, [], ◌++◌, ◌+◌, ◌*◌, ◌≤◌, ◌<◌, length, take};
 ghost use Rattle.octets.specs.Lists.{has};
 ghost use Rattle.octets.specs.Bytes.{be};
@@ -10,7 +12,7 @@ ghost use Rattle.tree.specs.Walk.{admits};
 ghost use Rattle.visit.specs.Visit.{end_of, part_of, above, waiting, waiting_above, ValidPath, WaitsGathered, KeysKept, keys_from, Ready, AllWanted, RangeMarks, Unmarked, Through, Wanted, Blank, Struck, Marks, marks_in, below_in, taken, child_span, entries_in};
 
 // A range of keys, from lo up to, and without, hi, or to the end.
-#[derive(Drop)]
+#[derive(Clone, Copy)]
 pub struct Span {
     pub lo: u64,
     pub hi: u64,
@@ -19,7 +21,7 @@ pub struct Span {
 
 // The blocks of the nodes above a node, from the root on. Of the changes that wait in them the `waits` with a key from lo to last are gathered in a list that
 // goes with the path: those near the node are few, and they are looked for once.
-#[derive(Drop)]
+#[derive(Clone, Copy)]
 pub struct Path {
     pub n: usize,
     pub blocks: [usize; 8],

@@ -1,10 +1,12 @@
 // Request 2026-10: a Top that is allowed so many node blocks, and the ceiling of what it leaves open. No public function has a `requires`.
+#![tactic(auto)]
+
 ghost use Rattle.std.specs.Prelude.{◌≡◌};
 ghost use Rattle.table.specs.Queries.{TopWithinPost};
 ghost use Rattle.within.specs.Within.{said_of, NoneSaid, Askable, Saying, HeldFew, Delivered};
 
 // An answer, and the ceiling after it.
-#[derive(Drop)]
+#[derive(Clone, Copy)]
 pub struct Said {
     pub answer: block::Answer,
     pub ceiling: i32,

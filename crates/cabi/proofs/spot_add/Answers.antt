@@ -1,0 +1,14 @@
+-- `cabi::spot_add` meets its contract, by that of `table::add`.
+use mir.ValLaws.{to_z-of_z}
+use mir.Syntax.{w32}
+use borrow.Author.Rules.{rules}
+use Rattle.cabi.proofs.spot_add.Goals as goal
+
+pub returns : goal.returns
+returns c =
+    record {
+      answer = c.add.result;
+      number = search rules;
+      detail = search rules;
+      keeps = rw (to_z-of_z w32 c.args.place c.ranges.place, to_z-of_z w32 c.args.rank c.ranges.rank) at c.add.ensures;
+    }

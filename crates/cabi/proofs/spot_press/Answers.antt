@@ -1,0 +1,7 @@
+-- `cabi::spot_press` meets its contract, by that of `press::press`.
+use borrow.Author.Rules.{rules}
+use Rattle.cabi.proofs.spot_press.Goals as goal
+
+pub returns : goal.returns
+returns c =
+    record { answer = c.press.result; number = search rules; detail = search rules; keeps = c.press.ensures }

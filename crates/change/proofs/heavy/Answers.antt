@@ -1,0 +1,54 @@
+-- `change::heavy` meets its contract.
+use mathlib.Core.Bool.{true}
+use mathlib.Core.Path.{◌≡◌}
+use native.Mathlib.Omega.{arith}
+use borrow.Author.Tests.{not-false}
+use borrow.Author.Rules.{rules}
+use mathlib.Core.List.{Memᴰ}
+use Prim.Native.Nat.{ℕ}
+use Rattle.spot.specs.Keys.{start_key, end_key, within}
+use Rattle.spot.specs.Spots.{keys}
+use Rattle.buffer.specs.Buffer.{held, named}
+use Rattle.journal.proofs.Kept.{kept_trans, undoable-kept}
+use Rattle.change.proofs.Deep.{nine-blocks, heavy-starts, heavy-settles, heavy-undone, heavy-finishes, heavy-done}
+use Rattle.change.proofs.Roomy.{limited-in}
+use Rattle.change.proofs.heavy.Goals as goal
+use Rattle.change.proofs.heavy.Goals.{Start}
+
+-- the batch lies in the root's range
+all-spots : (c : Start) (k : ℕ) → Memᴰ k (keys (held c.args.inserts)) → within start_key end_key k ≡ true
+all-spots c = limited-in (keys (held c.args.inserts)) c.requires.1
+
+all-keys : (c : Start) (k : ℕ) → Memᴰ k (named c.args.deletes) → within start_key end_key k ≡ true
+all-keys c = limited-in (named c.args.deletes) c.requires.2
+
+pub save-requires : goal.save-requires
+save-requires c =
+    (heavy-starts c.requires.0, let z = nine-blocks c.args.t.now c.requires.0.start.header in omega (arith, z))
+
+pub grow-g-requires : goal.grow-g-requires
+grow-g-requires c =
+    let s = c.save.ensures in
+    heavy-settles c.requires.0 s.0 s.1 c.spare_blocks-spare.ensures
+
+pub undo-requires : goal.undo-requires
+undo-requires c =
+    undoable-kept (kept_trans c.save.ensures.0 c.grow-g.ensures.kept) (heavy-starts c.requires.0)
+
+pub returns-then-not-g : goal.returns-then-not-g
+returns-then-not-g c =
+    let s = c.save.ensures in
+    let g = c.grow-g.ensures in
+    heavy-undone c.requires.0 s.0 s.1 c.spare_blocks-spare.ensures g.0 g.1 c.refused.ensures c.undo.ensures (all-spots ?LOST) (all-keys ?LOST)
+
+pub finish-requires : goal.finish-requires
+finish-requires c =
+    let s = c.save.ensures in
+    let g = c.grow-g.ensures in
+    heavy-finishes c.requires.0 s.0 s.1 c.spare_blocks-spare.ensures g.0 g.1 c.if-not-g.false
+
+pub returns : goal.returns
+returns c =
+    let s = c.save.ensures in
+    let g = c.grow-g.ensures in
+    heavy-done c.requires.0 s.0 s.1 c.spare_blocks-spare.ensures g.0 g.1 c.if-not-g.false c.finish.ensures (all-spots ?LOST) (all-keys ?LOST)

@@ -1,0 +1,54 @@
+-- `choose::fullest_keys` meets its contract. The loop's invariant: the fullest of the first i.
+use mathlib.Core.Path.{◌≡◌, ◌∙◌}
+use mathlib.Core.Logic.{⊎_elim}
+use Prim.Native.Nat.{◌≤◌, ◌<◌, ◌-◌, ◌+◌}
+use native.Mathlib.Omega.{arith}
+use borrow.Author.Rules.{rules}
+use lib.ListN.{length}
+use lib.Seq.{length-take-le}
+use Rattle.buffer.specs.Buffer.{named}
+use Rattle.buffer.proofs.Lists.{length-image}
+use Rattle.node.specs.Memory.{entries_of}
+use Rattle.choose.specs.Choices.{end_at}
+use Rattle.choose.proofs.Chosen.{Seen, seen_none, seen-new, seen-stays, seen_all}
+use Rattle.choose.proofs.fullest_keys.Goals as goal
+use Rattle.choose.proofs.fullest_keys.Goals.{Start}
+
+long : (c : Start) → length c.args.es.list ≡ 8
+long c = search (rules, length-image)
+
+counted : (c : Start) → length (entries_of c.args.es) ≡ c.args.es.n
+counted c = length-take-le c.args.es.n c.args.es.list (omega (arith, long c, c.requires.1))
+
+pub loop-i-init : goal.loop-i-init
+loop-i-init c =
+    let b = c.args.b in
+    (omega arith, seen_none (entries_of c.args.es) (named b) b.n (omega (arith, counted (goal.at.loop-i-init c).Start, c.requires.0)))
+
+pub loop-i-preserved : goal.loop-i-preserved
+loop-i-preserved c =
+    let l = c.loop-i in
+    let es = entries_of c.args.es in
+    let b = c.args.b in
+    let end = c.keys_end_of-end.result in
+    let e : end ≡ end_at es (named b) b.n (l.i + 1) = c.keys_end_of-end.ensures in
+    let r : c.share_of-here.result ≡ end - l.start = c.share_of-here.ensures in
+    let inside : l.i < length es = omega (arith, counted (goal.at.loop-i-preserved c).Start) in
+    ⊎_elim
+    (λ w.
+    let f : c.if-most-here.best ≡ l.i = w.1 in
+    let g : c.if-most-here.most ≡ end - l.start = w.2 ∙ r in
+    let t : l.most < c.share_of-here.result = w.0.taken in
+    (omega arith, rw (f, g) (seen-new es (named b) b.n l.best l.most l.start l.i end inside e l.invariant.1 (omega arith))))
+    (λ w.
+    let f : c.if-most-here.best ≡ l.best = w.1 in
+    let g : c.if-most-here.most ≡ l.most = w.2 in
+    let t : c.share_of-here.result ≤ l.most = w.0.left in
+    (omega arith, rw (f, g) (seen-stays es (named b) b.n l.best l.most l.start l.i end inside e l.invariant.1 (omega arith))))
+    c.if-most-here.branch
+
+pub returns : goal.returns
+returns c =
+    let l = c.loop-i in
+    let b = c.args.b in
+    seen_all (entries_of c.args.es) (named b) b.n l.best l.most l.start l.i (omega (arith, counted (goal.at.returns c).Start)) l.invariant.1

@@ -1,0 +1,15 @@
+-- `edit::spill` meets its contract. The loop's invariant: `Lowering`, what P has become and what has gathered.
+use mathlib.Core.Path.{◌≡◌}
+use native.Mathlib.Omega.{arith}
+use borrow.Author.Rules.{rules}
+use lib.ListN.{length}
+use Rattle.buffer.specs.Buffer.{held}
+use Rattle.buffer.proofs.Lists.{length-image}
+use Rattle.edit.proofs.Lowered.{Lowering, lowering-none, lowest-new, one_fewer, lowering-more, lowering-all, spilled-none}
+use Rattle.edit.proofs.spill.Given as goal
+
+abbrev pub invariant-loop-points : goal.invariant-loop-points
+invariant-loop-points l = Lowering l.n.points l.n.inserts l.n.deletes l.points l.gathered
+
+abbrev pub decreases-loop-points : goal.decreases-loop-points
+decreases-loop-points l = l.points.n

@@ -1,0 +1,57 @@
+-- `frontier::run_few` meets its contract: the best of those seen so far.
+use mathlib.Core.Logic.{⊎_elim}
+use mathlib.Core.Path.{◌≡◌, refl, sym, subst, ◌∙◌}
+use Prim.Native.Nat.{ℕ, ◌-◌, ◌≤◌, ◌<◌}
+use lib.ListN.{length}
+use Rattle.spot.proofs.Limits.{limited-each}
+use Rattle.frontier.specs.Picks.{Few}
+use Rattle.frontier.proofs.Fews.{Passed, passed-skip, passed-taken}
+use Rattle.octets.proofs.Order.{less-or-not}
+use borrow.Author.Rules.{rules}
+use native.Mathlib.Omega.{arith}
+use Rattle.frontier.proofs.run_few.Goals as goal
+
+pub floor_few-floor-requires : goal.floor_few-floor-requires
+floor_few-floor-requires c = let p = c.requires in (p.0, p.6.room)
+
+pub loop-i-init : goal.loop-i-init
+loop-i-init c = let p = c.requires in (p.1, record { long = refl; floor-is = c.floor_few-floor.ensures; best = p.6 })
+
+pub read_key-k-requires : goal.read_key-k-requires
+read_key-k-requires c =
+    (omega arith, limited-each c.args.t.now 12 c.args.to c.args.at c.requires.4 c.loop-i.i (omega arith))
+
+pub insert_few-n-requires : goal.insert_few-n-requires
+insert_few-n-requires c =
+    let l = c.loop-i in
+    let p = c.requires in
+    (omega (arith, p.0, l.invariant.1.long), l.invariant.1.best.room)
+
+pub floor_few-floor-requires-then-is_taken : goal.floor_few-floor-requires-then-is_taken
+floor_few-floor-requires-then-is_taken c =
+    let l = c.loop-i in
+    let p = c.requires in
+    let v = c.insert_few-n.ensures in
+    let b = l.invariant.1.best.room in
+    (omega (arith, p.0, l.invariant.1.long, v.long), ⊎_elim (λ (y : length l.few ≤ l.n). let z = v.full y in omega (arith, v.long)) (λ (y : l.n < length l.few). let z = v.grows y in omega (arith, v.long)) (less-or-not (length l.few) l.n))
+
+pub loop-i-preserved : goal.loop-i-preserved
+loop-i-preserved c =
+    let l = c.loop-i in
+    let on : l.i < c.args.to = c.loop-i-test.true in (
+      omega arith,
+      ⊎_elim
+          (λ w. passed-taken l.invariant.1 c.read_key-k.ensures.0 c.requires.0 c.args.to c.requires.5 on (sym c.is_taken.ensures ∙ w.0.taken) w.2.ensures w.3.ensures w.6.ensures w.7 w.8 w.9)
+          (λ w. passed-skip l.invariant.1 c.read_key-k.ensures.0 (sym c.is_taken.ensures ∙ w.0.left) w.1 w.2 w.3)
+          c.if-is_taken.branch,
+    )
+
+pub shape_of-few : goal.shape_of-few
+shape_of-few c = c.loop-i.invariant.1.long
+
+pub returns : goal.returns
+returns c =
+    let a = c.args in
+    let l = c.loop-i in
+    let e : l.i ≡ a.to = omega (arith, c.loop-i-test.false, l.invariant.0) in
+    subst (λ (i : ℕ). Few a.t.now a.at i a.q a.most l.few l.n) e l.invariant.1.best

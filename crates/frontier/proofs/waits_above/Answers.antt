@@ -1,0 +1,67 @@
+-- `frontier::waits_above` meets its contract: from parent to parent.
+use Rattle.frontier.proofs.Chains.{hangs-inside, hangs-block, hangs-lower, hangs-up, hangs-valid}
+use Rattle.frontier.proofs.Waits.{over_root, over_yes, over_no}
+use Rattle.frontier.specs.Frontier.{parent_by, slot_by, Hangs}
+use Rattle.visit.specs.Visit.{waiting_above}
+use Rattle.block.specs.NodeRules.{ValidBlock}
+use Rattle.octets.specs.Lists.{has}
+use Prim.Native.Nat.{ℕ}
+use mathlib.Core.Path.{◌≡◌, refl, ap, sym, subst, ◌∙◌}
+use borrow.Author.Rules.{rules}
+use native.Mathlib.Omega.{arith}
+use Rattle.frontier.proofs.waits_above.Goals as goal
+use Rattle.frontier.proofs.waits_above.Goals.{After-row-1}
+
+-- the parent is a slot
+up : (c : After-row-1) → let a = c.args in Hangs a.t.now a.rows.now (parent_by a.rows.now c.loop-j.j)
+up c = hangs-up c.loop-j.invariant.0 c.loop-j-test.true
+
+pub loop-j-init : goal.loop-j-init
+loop-j-init c = (c.requires, refl)
+
+pub offset_bounds-rows-j : goal.offset_bounds-rows-j
+offset_bounds-rows-j c = omega (arith, hangs-inside c.loop-j.invariant.0)
+
+pub bounds-rows-j : goal.bounds-rows-j
+bounds-rows-j c = hangs-inside c.loop-j.invariant.0
+
+pub overflow_cast-j : goal.overflow_cast-j
+overflow_cast-j c = let h = c.loop-j.invariant.0 in omega (arith, hangs-inside h, hangs-lower h c.loop-j-test.true)
+
+pub offset_bounds-rows-j-in-loop-j : goal.offset_bounds-rows-j-in-loop-j
+offset_bounds-rows-j-in-loop-j c = omega (arith, hangs-inside (up (goal.at.offset_bounds-rows-j-in-loop-j c).After-row-1))
+
+pub bounds-rows-j-in-loop-j : goal.bounds-rows-j-in-loop-j
+bounds-rows-j-in-loop-j c = hangs-inside (up (goal.at.bounds-rows-j-in-loop-j c).After-row-1)
+
+pub overflow_cast-above : goal.overflow_cast-above
+overflow_cast-above c = let h = up (goal.at.overflow_cast-above c).After-row-1 in omega (arith, hangs-block h, (hangs-valid h).inside)
+
+pub waits_in-requires : goal.waits_in-requires
+waits_in-requires c =
+    let a = c.args in
+    let h = up (goal.at.waits_in-requires c).After-row-1 in
+    subst (λ (b : ℕ). ValidBlock a.t.now b) (sym (hangs-block h)) (hangs-valid h)
+
+pub returns-then-waits_in : goal.returns-then-waits_in
+returns-then-waits_in c =
+    let a = c.args in
+    let v = c.loop-j.invariant in
+    sym (v.1 ∙ over_yes a.t.now a.rows.now a.k v.0 c.loop-j-test.true c.Waits-in.ensures c.if-waits_in.true)
+
+pub loop-j-smaller : goal.loop-j-smaller
+loop-j-smaller c =
+    hangs-lower c.loop-j.invariant.0 c.loop-j-test.true
+
+pub loop-j-preserved : goal.loop-j-preserved
+loop-j-preserved c =
+    let a = c.args in
+    let v = c.loop-j.invariant in
+    (up (goal.at.loop-j-preserved c).After-row-1, v.1 ∙ over_no a.t.now a.rows.now a.k v.0 c.loop-j-test.true c.Waits-in.ensures c.if-waits_in.false)
+
+pub returns : goal.returns
+returns c =
+    let l = c.loop-j in
+    let a = c.args in
+    let e : l.j ≡ 0 = omega (arith, c.loop-j-test.false) in
+    sym (l.invariant.1 ∙ ap (λ (j : ℕ). has a.k (waiting_above a.t.now (slot_by a.t.now a.rows.now j).path)) e ∙ over_root a.t.now a.rows.now a.k)

@@ -1,0 +1,10 @@
+-- `histories::asks::spots_in_list` is safe and ends.
+use Rattle.std.proofs.Common.{◌-◌, arith, rules}
+use Rattle.sort.proofs.Limits.{limits-at}
+use Rattle.histories.proofs.asks.spots_in_list.Given as goal
+
+abbrev pub invariant-loop-i : goal.invariant-loop-i
+invariant-loop-i l = Unit {0}
+
+abbrev pub decreases-loop-i : goal.decreases-loop-i
+decreases-loop-i l = l.n - l.i

@@ -1,0 +1,15 @@
+-- `journal::undo` meets its contract. The loop's invariant: the blocks below b are as they were before, those from b on as at entry.
+use mathlib.Core.Path.{◌≡◌, sym, subst, ◌∙◌}
+use mathlib.Core.Logic.{⊎_elim}
+use mathlib.Core.List.{List}
+use Prim.Native.Nat.{ℕ, ◌+◌, ◌*◌, ◌/◌, ◌-◌, ◌≤◌}
+use native.Mathlib.Omega.{arith}
+use lib.ListN.{length}
+use Rattle.journal.proofs.Kept.{Undoing, undoing-none, undoing-clear, undoing-kept, undoing-all}
+use Rattle.journal.proofs.undo.Given as goal
+
+abbrev pub invariant-loop-b : goal.invariant-loop-b
+invariant-loop-b l = (l.b ≤ l.n) × Undoing l.initial.t l.s l.map l.b l.t
+
+abbrev pub decreases-loop-b : goal.decreases-loop-b
+decreases-loop-b l = l.n - l.b

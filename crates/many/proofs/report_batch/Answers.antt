@@ -1,0 +1,98 @@
+-- `many::report_batch` meets its contract: refused by lengths and arguments, by block 0, or answered.
+use mathlib.Core.Path.{◌≡◌, sym, ◌∙◌}
+use mathlib.Core.Bool.{true}
+use mathlib.Core.List.{List}
+use Prim.Native.Nat.{ℕ, ◌*◌, ◌≤◌}
+use lib.ListN.{length, length-replicate}
+use borrow.Author.Tests.{not-true, not-false}
+use borrow.Author.Rules.{rules}
+use native.Mathlib.Omega.{arith}
+use Rattle.block.specs.Table.{table_sized}
+use Rattle.visit.proofs.Roots.{sized-long}
+use Rattle.memo.proofs.Remembering.{known-blank}
+use Rattle.many.specs.Many.{Answerable}
+use Rattle.many.proofs.Answering.{lengths-right, many-short, many-lent, many-over, many-header, many-answered}
+use Rattle.many.proofs.report_batch.Goals as goal
+use Rattle.many.proofs.report_batch.Goals.{Else-not-header_ok, Else-read_map-counts}
+
+pub returns-then-not-sized : goal.returns-then-not-sized
+returns-then-not-sized c = many-short _ _ _ _ _ _ (sym c.sized.ensures ∙ c.if-not-sized.true) c.refused.ensures
+
+pub returns-then-read_map-counts : goal.returns-then-read_map-counts
+returns-then-read_map-counts c =
+    many-lent _ _ _ _ _ _ (sym c.sized.ensures ∙ c.if-not-sized.false) c.if-read_map-counts.true c.refused-then-read_map-counts.ensures
+
+-- from the second test back to the start
+abbrev start : tie.Else2 → tie.Start
+start c = c.before.before.before.before.before.before.before.before
+
+-- what is known once the lengths are right
+record Fitting (c : tie.Else2) : Type 0 where
+  sized : table_sized (length (start c).args.table.now) ≡ true
+  mapped : length (start c).args.read-map.now ≡ 512
+  matched : length (start c).args.counts.now ≡ (start c).args.b.n
+
+fitting : (c : Else-read_map-counts) → Fitting c
+fitting c =
+    let args = (start c).args in
+    let lengths = lengths-right args.read-map.now args.counts.now args.b.n c.if-read_map-counts.false in
+    record { sized = sym c.sized.ensures ∙ c.if-not-sized.false; mapped = lengths.0; matched = lengths.1 }
+
+pub returns-then-b-gt64 : goal.returns-then-b-gt64
+returns-then-b-gt64 c =
+    let k = fitting (goal.at.returns-then-b-gt64 c).Else-read_map-counts in
+    many-over _ _ _ _ _ _ k.sized k.mapped k.matched (omega (arith, c.if-b-gt64.true)) c.refused-then-b-gt64.ensures
+
+pub header_ok-requires : goal.header_ok-requires
+header_ok-requires c =
+    sized-long (start (goal.at.header_ok-requires c).Else-read_map-counts).args.table.now (fitting (goal.at.header_ok-requires c).Else-read_map-counts).sized
+
+pub returns-then-not-header_ok : goal.returns-then-not-header_ok
+returns-then-not-header_ok c =
+    let k = fitting (goal.at.returns-then-not-header_ok c).Else-read_map-counts in
+    many-header _ _ _ _ _ _ k.sized k.mapped k.matched (omega (arith, c.if-b-gt64.false)) (sym c.header_ok.ensures ∙ c.if-not-header_ok.true) c.refused-then-not-header_ok.ensures
+
+-- from the test of block 0 back to the start
+abbrev begun : tie.Else4 → tie.Start
+begun c = start c.before.before.before.before
+
+-- all can be answered, with a buffer that has room for each
+answerable : (c : Else-not-header_ok) (few : List ℕ) → 1536 * (begun c).args.b.n ≤ length few
+    → Answerable (begun c).args.b (begun c).args.table.now few (begun c).args.counts.now (begun c).args.read-map.now
+answerable c few room =
+    let k = fitting c.before.before.before.before.before in
+    record {
+      sized = k.sized;
+      mapped = k.mapped;
+      matched = k.matched;
+      many = omega (arith, c.if-b-gt64.false);
+      header = sym c.header_ok.ensures ∙ c.if-not-header_ok.false;
+      buffer = room;
+    }
+
+pub answer_all-requires : goal.answer_all-requires
+answer_all-requires c =
+    (answerable (goal.at.answer_all-requires c).Else-not-header_ok _ (omega (arith, c.if-b-le4.true, length-replicate {A = ℕ} 6144 0)), known-blank _ 32)
+
+pub returns-then-b-le4 : goal.returns-then-b-le4
+returns-then-b-le4 c =
+    let k = fitting (goal.at.returns-then-b-le4 c).Else-read_map-counts in
+    many-answered _ _ _ _ _ _ k.sized k.mapped k.matched (omega (arith, c.if-b-gt64.false)) c.answer_all.ensures
+
+pub answer_all-requires-then-b-le16 : goal.answer_all-requires-then-b-le16
+answer_all-requires-then-b-le16 c =
+    (answerable (goal.at.answer_all-requires-then-b-le16 c).Else-not-header_ok _ (omega (arith, c.if-b-le16.true, length-replicate {A = ℕ} 24576 0)), known-blank _ 128)
+
+pub returns-then-b-le16 : goal.returns-then-b-le16
+returns-then-b-le16 c =
+    let k = fitting (goal.at.returns-then-b-le16 c).Else-read_map-counts in
+    many-answered _ _ _ _ _ _ k.sized k.mapped k.matched (omega (arith, c.if-b-gt64.false)) c.answer_all-then-b-le16.ensures
+
+pub answer_all-requires-2 : goal.answer_all-requires-2
+answer_all-requires-2 c =
+    (answerable (goal.at.answer_all-requires-2 c).Else-not-header_ok _ (omega (arith, c.if-b-gt64.false, length-replicate {A = ℕ} 98304 0)), known-blank _ 512)
+
+pub returns : goal.returns
+returns c =
+    let k = fitting (goal.at.returns c).Else-read_map-counts in
+    many-answered _ _ _ _ _ _ k.sized k.mapped k.matched (omega (arith, c.if-b-gt64.false)) c.answer_all-2.ensures

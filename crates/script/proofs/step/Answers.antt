@@ -1,0 +1,49 @@
+-- `script::step` meets its contract: the call, lent the first bytes of scratch, read map and output, and the first counts.
+use mathlib.Core.Path.{ap, ◌∙◌}
+use Prim.Native.Nat.{ℕ, min}
+use lib.ListN.{length}
+use borrow.Author.Rules.{rules}
+use Rattle.script.proofs.Fronts.{front_long}
+use Rattle.script.proofs.Turns.{lent}
+use Rattle.script.proofs.step.Goals as goal
+
+pub slice_bounds-call-end-2 : goal.slice_bounds-call-end-2
+slice_bounds-call-end-2 c =
+    front_long _ c.smaller-c.result c.args.scratch.now c.smaller-c.ensures
+
+pub slice_bounds-call-end-4 : goal.slice_bounds-call-end-4
+slice_bounds-call-end-4 c =
+    front_long _ c.smaller-b.result c.args.read-map.now c.smaller-b.ensures
+
+pub slice_bounds-call-end-6 : goal.slice_bounds-call-end-6
+slice_bounds-call-end-6 c =
+    front_long _ c.smaller-d.result c.args.counts.now c.smaller-d.ensures
+
+pub slice_bounds-call-end-8 : goal.slice_bounds-call-end-8
+slice_bounds-call-end-8 c =
+    front_long _ c.smaller-a.result c.args.output.now c.smaller-a.ensures
+
+pub returns : goal.returns
+returns c =
+    let call = c.call in
+    let a = c.args in
+    let w = a.scratch.now in
+    let m = a.read-map.now in
+    let v = a.counts.now in
+    let o = a.output.now in
+    let i = c.smaller-c in
+    let j = c.smaller-b in
+    let k = c.smaller-a in
+    let last = call.new.? in
+    let kept = call.auto.? in
+    lent _ a.script.now a.at _ w m v o call.result _ last.0 last.1.0 last.1.1.0 last.1.1.1.0 i.result j.result c.smaller-d.result
+    k.result
+    (i.ensures ∙ ap (λ (n : ℕ). min n (length w)) c.read32-3.ensures.0)
+    (j.ensures ∙ ap (λ (n : ℕ). min n (length m)) c.read32-2.ensures.0)
+    (c.smaller-d.ensures ∙ ap (λ (n : ℕ). min n (length v)) c.read32-4.ensures.0)
+    (k.ensures ∙ ap (λ (n : ℕ). min n (length o)) c.read32.ensures.0)
+    kept.0
+    kept.1.0
+    kept.1.1.0
+    kept.1.1.1.0
+    call.ensures

@@ -1,0 +1,12 @@
+-- `vectors::marks::keep` is safe and ends.
+use Rattle.std.proofs.Common.{◌-◌, arith}
+use Rattle.vectors.proofs.marks.keep.Goals as goal
+
+pub loop-i-init : goal.loop-i-init
+loop-i-init c = tt
+
+pub loop-i-preserved : goal.loop-i-preserved
+loop-i-preserved c = tt
+
+pub returns : goal.returns
+returns c = tt

@@ -1,0 +1,18 @@
+-- `visit::keep_key` meets its contract: the key is written, and counted if it lies in the range.
+use mathlib.Core.Bool.{◌&&◌}
+use native.Mathlib.Omega.{arith}
+use lib.Dec.{leb}
+use borrow.Author.Rules.{rules}
+use Rattle.visit.proofs.Gathering.{kept-key}
+use Rattle.visit.proofs.Search.{byte-most}
+use Rattle.visit.proofs.keep_key.Goals as goal
+
+pub overflow_add-result : goal.overflow_add-result
+overflow_add-result c =
+    let a = c.args in
+    omega (arith, byte-most (leb a.lo a.k && leb a.k a.last))
+
+pub returns : goal.returns
+returns c =
+    let a = c.args in
+    (kept-key a.list.now a.c a.k a.lo a.last (omega arith), omega (arith, byte-most (leb a.lo a.k && leb a.k a.last)))
