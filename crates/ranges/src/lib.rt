@@ -71,7 +71,8 @@ pub fn load(ranges: &[Range]) -> Batch
     let mut i = 0;
     while i < m {
         let r = range_at(ranges, i);
-        all = with_range(all, i, r);
+        let next = with_range(all, i, r);
+        all = next;
         i += 1;
     }
     batched(n, all)

@@ -31,8 +31,8 @@ loop-i-preserved c =
     let l = c.loop-i in
     let es = entries_of c.args.es in
     let b = c.args.b in
-    let end = c.end_of.result in
-    let e : end ≡ end_at es (keys (held b)) b.n (l.i + 1) = c.end_of.ensures in
+    let end = c.end_of-end.result in
+    let e : end ≡ end_at es (keys (held b)) b.n (l.i + 1) = c.end_of-end.ensures in
     let r : c.share_of-here.result ≡ end - l.start = c.share_of-here.ensures in
     let inside : l.i < length es = omega (arith, counted (goal.at.loop-i-preserved c).Start) in
     ⊎_elim

@@ -29,7 +29,7 @@ pub returns-then-key-above : goal.returns-then-key-above
 returns-then-key-above c = let a = c.args in opened-taken c.loop-i.invariant a.at (λ y. c.if-key-above.true)
 
 pub shape_of-few-then-key-above : goal.shape_of-few-then-key-above
-shape_of-few-then-key-above c = (returns (goal.at.shape_of-few-then-key-above c).Then-key-above).long
+shape_of-few-then-key-above c = (returns-then-key-above c).long
 
 pub loop-i-preserved : goal.loop-i-preserved
 loop-i-preserved c = opened-next c.loop-i.invariant (omega arith) (omega (arith, c.if-key-above.false))
@@ -43,4 +43,4 @@ returns c =
     (opened-taken l.invariant a.at (λ y. let z : ⊥ = omega (arith, e) in absurd z))
 
 pub shape_of-few : goal.shape_of-few
-shape_of-few c = (returns-2 (goal.at.shape_of-few c).After-loop-i).long
+shape_of-few c = (returns c).long

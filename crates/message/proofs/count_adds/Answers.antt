@@ -34,13 +34,13 @@ pub overflow_add-next : goal.overflow_add-next
 overflow_add-next c =
     let l = c.loop-i in
     let a = c.args in
-    omega (arith, walk_inside a.fill a.n a.s.now l.next l.i l.invariant.walk c.loop-i-test.true c.type_size.ensures)
+    omega (arith, walk_inside a.fill a.n a.s.now l.next l.i l.invariant.walk c.loop-i-test.true c.size_of-next.ensures)
 
 pub loop-i-preserved : goal.loop-i-preserved
 loop-i-preserved c =
     let l = c.loop-i in
     let a = c.args in
-    adds-next a.fill a.n a.s.now a.at l.adds l.next l.i l.invariant c.loop-i-test.true c.type_size.ensures
+    adds-next a.fill a.n a.s.now a.at l.adds l.next l.i l.invariant c.loop-i-test.true c.size_of-next.ensures
 
 pub returns : goal.returns
 returns c =

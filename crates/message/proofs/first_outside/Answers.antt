@@ -44,14 +44,14 @@ pub overflow_add-next-in-loop-i : goal.overflow_add-next-in-loop-i
 overflow_add-next-in-loop-i c =
     let l = c.loop-i in
     let a = c.args in
-    omega (arith, walk_inside a.fill a.n a.s.now l.next l.i l.invariant.walk c.loop-i-test.true c.type_size.ensures)
+    omega (arith, walk_inside a.fill a.n a.s.now l.next l.i l.invariant.walk c.loop-i-test.true c.size_of-next.ensures)
 
 pub loop-i-preserved : goal.loop-i-preserved
 loop-i-preserved c =
     let l = c.loop-i in
     let a = c.args in
     let b = place-tested a.s.now (l.next + 1) _ _ c.raw_key-key.ensures c.place_of.ensures (to_z-of_z w32 _ (search rules)) c.in_limits.ensures in
-    outside-next a.fill a.n a.s.now a.at l.next l.i l.invariant c.loop-i-test.true (sym c.if-not-in_limits.false ∙ b) c.type_size.ensures
+    outside-next a.fill a.n a.s.now a.at l.next l.i l.invariant c.loop-i-test.true (sym c.if-not-in_limits.false ∙ b) c.size_of-next.ensures
 
 pub returns : goal.returns
 returns c =

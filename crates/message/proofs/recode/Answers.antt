@@ -34,7 +34,7 @@ pub overflow_add-next : goal.overflow_add-next
 overflow_add-next c =
     let a = c.args in
     let turn = turn-given a.fill a.n a.s.now a.at a.other a.out.now a.to c.loop-i.invariant c.loop-i-test.true in
-    omega (arith, turn.writes, c.loop-i.invariant.long, c.type_size.ensures)
+    omega (arith, turn.writes, c.loop-i.invariant.long, c.size_of-next.ensures)
 
 pub size_of-from-requires : goal.size_of-from-requires
 size_of-from-requires c =
@@ -51,7 +51,7 @@ overflow_add-from c =
 pub loop-i-preserved : goal.loop-i-preserved
 loop-i-preserved c =
     let a = c.args in
-    rw (c.size_of-from.ensures, c.type_size.ensures)
+    rw (c.size_of-from.ensures, c.size_of-next.ensures)
     (recoding-more a.fill a.n a.s.now a.at a.other a.out.now a.to c.loop-i.invariant c.loop-i-test.true
     (c.write_change.ensures ∙ ap (λ x. put_bytes c.loop-i.out c.loop-i.next (change_bytes a.other x)) c.change_at.ensures))
 

@@ -6,8 +6,8 @@ use Rattle.ranges.proofs.few.Goals as goal
 
 pub returns-then-n-lt64 : goal.returns-then-n-lt64
 unfolding few_of
-returns-then-n-lt64 c = (simp (lt-ltb _ _ c.if-n-lt64.taken), omega arith, omega arith)
+returns-then-n-lt64 c = (simp (lt-ltb _ _ c.if-n-lt64.true), omega arith, omega arith)
 
 pub returns : goal.returns
 unfolding few_of
-returns c = (simp (le-ltb _ _ c.if-n-lt64.left), omega arith, omega arith)
+returns c = (simp (le-ltb _ _ c.if-n-lt64.false), omega arith, omega arith)

@@ -13,7 +13,7 @@ returns c =
     let x2 = c.read_i32-2 in
     let y = c.read_i32-3 in
     rw (
-      to_z-of_z w32 x1.result (record { sfits = x1.ok }) ∙ x1.ensures,
-      to_z-of_z w32 x2.result (record { sfits = x2.ok }) ∙ x2.ensures,
-      to_z-of_z w32 y.result (record { sfits = y.ok }) ∙ y.ensures,
+      to_z-of_z w32 x1.result (record { sfits = x1.type_inv }) ∙ x1.ensures,
+      to_z-of_z w32 x2.result (record { sfits = x2.type_inv }) ∙ x2.ensures,
+      to_z-of_z w32 y.result (record { sfits = y.type_inv }) ∙ y.ensures,
     )

@@ -49,7 +49,7 @@ size_of-at-requires c =
 
 pub overflow_add-at : goal.overflow_add-at
 overflow_add-at c =
-    omega (arith, (turn-next c.loop-i.invariant c.loop-i-test.true).inside, c.type_size.ensures)
+    omega (arith, (turn-next c.loop-i.invariant c.loop-i-test.true).inside, c.size_of-at.ensures)
 
 pub overflow_add-i : goal.overflow_add-i
 overflow_add-i c =
@@ -58,7 +58,7 @@ overflow_add-i c =
 pub loop-i-preserved : goal.loop-i-preserved
 loop-i-preserved c =
     turn-goes c.loop-i.invariant c.loop-i-test.true c.requires.1 (c.row_of-x.ensures.0 ∙ ap row_of c.change_at.ensures) c.next_of-next.ensures c.if-next-ne0.false c.put_row-r.ensures
-    (ap (λ (j : ℕ). c.loop-i.at + j) c.type_size.ensures) (omega arith)
+    (ap (λ (j : ℕ). c.loop-i.at + j) c.size_of-at.ensures) (omega arith)
 
 pub shape_of-rows : goal.shape_of-rows
 shape_of-rows c = c.loop-i.invariant.sized

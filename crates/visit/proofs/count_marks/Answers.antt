@@ -8,6 +8,7 @@ use lib.ListN.{length, take}
 use Rattle.visit.proofs.Marking.{count-mark, count-blank}
 use Rattle.visit.specs.Visit.{marks_in}
 use Rattle.visit.proofs.count_marks.Goals as goal
+use Rattle.visit.proofs.count_marks.Goals.{then-m-i, else-m-i}
 
 pub loop-i-init : goal.loop-i-init
 loop-i-init c = (omega arith, omega arith, refl)
@@ -18,10 +19,10 @@ loop-i-preserved c =
     let m = c.args.m in
     let long : length m ≡ 64 = search rules in
     let h : l.i < length m = omega arith in
-    ⊎_elim
-    (λ w. (omega arith, omega arith, w.1 ∙ count-mark m l.i h l.invariant.2 w.0.taken))
-    (λ w. (omega arith, omega arith, w.1 ∙ count-blank m l.i h l.invariant.2 w.0.left))
-    c.if-m-i.branch
+    elim c.if-m-i.branch [
+      then-m-i w ↦ (omega arith, omega arith, w.sum-is ∙ count-mark m l.i h l.invariant.2 w.if-m-i.true)
+      | else-m-i w ↦ (omega arith, omega arith, w.sum-is ∙ count-blank m l.i h l.invariant.2 w.if-m-i.false)
+    ]
 
 pub returns : goal.returns
 returns c =

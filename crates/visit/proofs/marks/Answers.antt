@@ -9,17 +9,15 @@ use Rattle.visit.specs.Visit.{Blank}
 use Rattle.visit.proofs.Search.{key_reads, first_reads}
 use Rattle.visit.proofs.Marking.{wanted-blank, marks-none, marks-struck, struck-near}
 use Rattle.visit.proofs.marks.Goals as goal
+use Rattle.visit.proofs.marks.Goals.{After-earlier-hi}
 
 -- where the wanted ones may have marks
-module _ (c : tie.After-earlier) where
-  abbrev start : tie.Start
-  start = c.before.before.before.before.before.before.before.before.before.before
-
-  blank : Blank start.args.t.now start.args.at start.args.n c.before.before.before.later.result c.earlier.result c.before.before.before.before.before.before.before.wanted.result
+module _ (c : After-earlier-hi) where
+  blank : Blank c.args.t.now c.args.at c.args.n c.later-lo.result c.earlier-hi.result c.wanted-m.result
   blank =
-      wanted-blank start.args.t.now start.args.at start.args.n start.args.q (omega (arith, c.before.before.before.before.before.before.if1.false)) start.pre.0.rise
-      c.before.before.before.before.before.lowest-key.ensures c.before.before.highest-key.ensures c.before.before.before.before.read-key.ensures.0 c.before.read-key2.ensures.0 c.before.before.before.later.ensures.0
-      c.earlier.ensures.0 c.before.before.before.before.before.before.before.wanted.ensures
+      wanted-blank c.args.t.now c.args.at c.args.n c.args.q (omega (arith, c.if-n-eq0.false)) c.requires.0.rise
+      c.lowest_key.ensures c.highest_key.ensures c.read_key.ensures.0 c.read_key-2.ensures.0 c.later-lo.ensures.0
+      c.earlier-hi.ensures.0 c.wanted-m.ensures
 
 pub returns-then-n-eq0 : goal.returns-then-n-eq0
 returns-then-n-eq0 c = marks-none c.args.p (omega arith) c.wanted-m.ensures
@@ -38,21 +36,19 @@ strike_keys-requires c =
 
 pub returns-then-p-lo : goal.returns-then-p-lo
 returns-then-p-lo c =
-    let s = start (goal.at.returns-then-p-lo c).After-earlier-hi in
-    let a = s.args in
+    let a = c.args in
     let near = c.if-p-lo.true in
     let lo = c.later-lo.result in
     let hi = c.earlier-hi.result in
     marks-struck a.p c.wanted-m.ensures
-    (struck-near a.t.now a.at a.n a.p a.ws.now s.pre.2 (blank (goal.at.returns-then-p-lo c).After-earlier-hi)
+    (struck-near a.t.now a.at a.n a.p a.ws.now c.requires.2 (blank (goal.at.returns-then-p-lo c).After-earlier-hi)
     (leb-true a.p.lo lo (and_left (leb a.p.lo lo) (leb hi a.p.last) near))
     (leb-true hi a.p.last (and_right (leb a.p.lo lo) (leb hi a.p.last) near))
     c.strike_keys.ensures)
 
 pub strike_path-requires : goal.strike_path-requires
 strike_path-requires c =
-    let s = start (goal.at.strike_path-requires c).After-earlier-hi in
-    (s.pre.0, s.pre.1, omega (arith, s.pre.0.few, c.wanted-m.ensures.sized), blank (goal.at.strike_path-requires c).After-earlier-hi)
+    (c.requires.0, c.requires.1, omega (arith, c.requires.0.few, c.wanted-m.ensures.sized), blank (goal.at.strike_path-requires c).After-earlier-hi)
 
 pub returns : goal.returns
 returns c = marks-struck c.args.p c.wanted-m.ensures c.strike_path.ensures

@@ -1,0 +1,31 @@
+-- fill, fetch and take_top meet their contracts: one induction, on the level.
+use borrow.Author.Rules.{rules}
+use native.Mathlib.Omega.{arith}
+use Prim.Native.Nat.{ℕ, ◌<◌, ◌≤◌, ◌+◌, ◌-◌, ◌*◌}
+use mathlib.Core.Path.{◌≡◌, refl, sym, ◌∙◌}
+use mathlib.Core.Logic.{inl}
+use borrow.Author.Tests.{not-true, not-false, leb-true}
+use lib.ListN.{length}
+use Rattle.buffer.proofs.Lists.{length-image}
+use Rattle.buffer.proofs.Laws.{held-length, named-length}
+use Rattle.block.specs.declared.Asked.TheVariants.{Child}
+use Rattle.journal.proofs.Kept.{kept_refl, kept_trans, undoable-kept}
+use Rattle.fill.specs.Filling.{RoundPost}
+use Rattle.fill.proofs.Turns.{fetch-none, fetch-leaf, fetch-taken, round-done}
+use Rattle.fill.proofs.Whole.{Filling, goes_on_lem, fill_start, fill-ends, fill-turn, fill_fails, fill-over, take-fails, part-valid, fill-whole, take_done, loaded-works, filled-stores}
+use Rattle.fill.proofs.+fetch_fill_take_top.Given as goal
+
+abbrev pub decreases-fetch : goal.decreases-fetch
+decreases-fetch l = 3 * l.level
+
+abbrev pub decreases-fill : goal.decreases-fill
+decreases-fill l = 3 * l.level + 1
+
+abbrev pub decreases-take_top : goal.decreases-take_top
+decreases-take_top l = 3 * l.level + 2
+
+abbrev pub invariant-fill-loop-node : goal.invariant-fill-loop-node
+invariant-fill-loop-node l = Filling l.initial.t l.initial.s l.initial.map l.level l.initial.node l.t l.s l.map l.node × (l.rounds ≤ 128) × (length l.node.points.spots ≡ 80)
+
+abbrev pub decreases-fill-loop-node : goal.decreases-fill-loop-node
+decreases-fill-loop-node l = 128 - l.rounds
