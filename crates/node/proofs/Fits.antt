@@ -17,7 +17,7 @@ use Rattle.octets.proofs.Tests.{and_both, every-left, every-join}
 use Rattle.spot.specs.Keys.{all_keys, word, unsigned32}
 use Rattle.spot.specs.declared.Spot.{Spot}
 use Rattle.spot.proofs.Places.{within-yes}
-use Rattle.spot.specs.contracts.Spot.{the_field}
+use Rattle.spot.specs.contracts.Spot.{the_row}
 use Rattle.block.specs.declared.Entry.{Entry}
 use Rattle.block.specs.Node.{first_open}
 use Rattle.block.proofs.Views.{open-all}
@@ -32,10 +32,10 @@ spot-fits : (x : Spot) → x.key < all_keys → x.track < word → spot_fits x �
 unfolding unsigned32
 spot-fits x h g = and_both _ _ (key_fits_lem x.key h) (le-leb x.track 4294967295 (omega arith))
 
-one : (x : Spot) (vs : List Val) → shadow (the_field.row.own_val (the_field.into x) vs) → spot_fits x ≡ true
+one : (x : Spot) (vs : List Val) → shadow (the_row.own_val x vs) → spot_fits x ≡ true
 one x vs p = spot-fits x (omega (arith, p)) (omega (arith, p))
 
-pub all_fit : (l : List Spot) (us : List Val) → shadow (each the_field.row.Denot the_field.row.own_val (map the_field.into l) us) → every spot_fits l ≡ true
+pub all_fit : (l : List Spot) (us : List Val) → shadow (each the_row.Denot the_row.own_val l us) → every spot_fits l ≡ true
 all_fit [] us p = refl
 all_fit (x ∷ l) [] p = absurd p
 all_fit (x ∷ l) (u ∷ us) p = and_both _ _ (one x (u ∷ []) p.0) (all_fit l us p.1)

@@ -34,7 +34,7 @@ share : (c : After-keys_end_of-end)
     Share n (named n.deletes) n.deletes.n c.fullest_keys-child.result c.keys_start_of-start.result c.keys_end_of-end.result
 share c =
     let n = c.args.n in
-    share-of n c.requires.3 (entry-count c.before.before.before.before.before.before.before) c.requires.2 (named n.deletes) n.deletes.n c.fullest_keys-child.result c.keys_start_of-start.result c.keys_end_of-end.result (sym (long c.before.before.before.before.before.before.before))
+    share-of n c.requires.3 ((let es = c.args.n.entries in let h : length es.list ≡ 8 = search (rules, length-image) in length-take-le es.n es.list (omega (arith, c.requires.2)))) c.requires.2 (named n.deletes) n.deletes.n c.fullest_keys-child.result c.keys_start_of-start.result c.keys_end_of-end.result (sym ((named-length c.args.n.deletes (search (rules, length-image)) c.requires.0.deletes.fits)))
     c.fullest_keys-child.ensures c.keys_start_of-start.ensures c.keys_end_of-end.ensures
 
 few : (c : Start) → (c.args.n.deletes.n + 7) / 8 ≤ 16

@@ -36,7 +36,7 @@ share : (c : After-end_of-end)
     Share n (keys (held n.inserts)) n.inserts.n c.fullest-child.result c.start_of.result c.end_of.result
 share c =
     let n = c.args.n in
-    share-of n c.requires.3 (entry-count c.before.before.before.before.before.before.before) c.requires.2 (keys (held n.inserts)) n.inserts.n c.fullest-child.result c.start_of.result c.end_of.result (sym (keys_length (held n.inserts) ∙ long c.before.before.before.before.before.before.before))
+    share-of n c.requires.3 ((let es = c.args.n.entries in let h : length es.list ≡ 8 = search (rules, length-image) in length-take-le es.n es.list (omega (arith, c.requires.2)))) c.requires.2 (keys (held n.inserts)) n.inserts.n c.fullest-child.result c.start_of.result c.end_of.result (sym (keys_length (held n.inserts) ∙ (held-length c.args.n.inserts (search (rules, length-image)) c.requires.0.inserts.fits)))
     c.fullest-child.ensures c.start_of.ensures c.end_of.ensures
 
 few : (c : Start) → (c.args.n.inserts.n + 7) / 8 ≤ 16

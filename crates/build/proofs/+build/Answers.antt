@@ -36,7 +36,7 @@ pub overflow_add-start : goal.overflow_add-start
 overflow_add-start t c =
     let m = c.loop-j.invariant.few in
     let s = c.requires.segment.inside in
-    omega (arith, c.well-formed, c.ranges)
+    omega (arith, c.well_formed, c.ranges)
 
 pub overflow_add-at : goal.overflow_add-at
 overflow_add-at t c = let p = c.requires in omega (arith, p.last, p.blocks)

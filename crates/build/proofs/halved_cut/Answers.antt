@@ -17,7 +17,7 @@ pub overflow_add-mid : goal.overflow_add-mid
 overflow_add-mid c =
     let i = c.loop-lo.invariant in
     let w = i.near in
-    record { fits = omega (arith, between-high _ _ _ _ c.requires i, c.well-formed) }
+    record { fits = omega (arith, between-high _ _ _ _ c.requires i, c.well_formed) }
 
 pub loop-lo-smaller-then-taken-gt-POINTS_MOST : goal.loop-lo-smaller-then-taken-gt-POINTS_MOST
 loop-lo-smaller-then-taken-gt-POINTS_MOST c = let i = c.loop-lo.invariant in omega (arith, between-low _ _ _ _ c.requires i, between-high _ _ _ _ c.requires i)

@@ -20,20 +20,20 @@ known c = part-sizes c.args.t.now c.args.b c.requires.0 c.front_of-h.ensures.0
 
 -- where its spots begin, and how many they are
 start : (c : After-points_from) → let a = c.args in a.b * 2048 + c.points_from.result ≡ spots_at a.t.now a.b
-start c = omega (arith, (known c.before.before).children, c.points_from.ensures)
+start c = omega (arith, ((part-sizes c.args.t.now c.args.b c.requires.0 c.front_of-h.ensures.0)).children, c.points_from.ensures)
 
 all : (c : After-points_from) → let a = c.args in c.front_of-h.result.p + c.front_of-h.result.i ≡ spot_count a.t.now a.b
-all c = let z = known c.before.before in omega (arith, z.points, z.inserts)
+all c = let z = (part-sizes c.args.t.now c.args.b c.requires.0 c.front_of-h.ensures.0) in omega (arith, z.points, z.inserts)
 
 apart : (c : After-points_from) → let a = c.args in let h = c.front_of-h.result in KeysApart a.t.now (a.b * 2048 + c.points_from.result) (h.p + h.i)
 apart c =
     let h = c.front_of-h.result in
-    subst (λ (k : ℕ). KeysApart c.args.t.now k (h.p + h.i)) (sym (start c)) (spots-apart c.args.t.now c.args.b h (known c.before.before) c.requires.0)
+    subst (λ (k : ℕ). KeysApart c.args.t.now k (h.p + h.i)) (sym (start c)) (spots-apart c.args.t.now c.args.b h ((part-sizes c.args.t.now c.args.b c.requires.0 c.front_of-h.ensures.0)) c.requires.0)
 
 limits : (c : After-points_from) → let a = c.args in let h = c.front_of-h.result in limited_from a.t.now 12 (h.p + h.i) (a.b * 2048 + c.points_from.result) ≡ true
 limits c =
     let h = c.front_of-h.result in
-    ap (limited_from c.args.t.now 12 (h.p + h.i)) (start c) ∙ run-limited c.args.t.now c.args.b h (known c.before.before) c.requires.0
+    ap (limited_from c.args.t.now 12 (h.p + h.i)) (start c) ∙ run-limited c.args.t.now c.args.b h ((part-sizes c.args.t.now c.args.b c.requires.0 c.front_of-h.ensures.0)) c.requires.0
 
 -- those of its points
 points-limits : (c : After-points_from) → let a = c.args in limited_from a.t.now 12 c.front_of-h.result.p (a.b * 2048 + c.points_from.result) ≡ true

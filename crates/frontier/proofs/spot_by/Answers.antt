@@ -17,7 +17,7 @@ known c = part-sizes c.args.t.now c.args.b c.requires.0 c.front_of-h.ensures.0
 
 -- where its spots begin
 start : (c : After-points_from) → let a = c.args in a.b * 2048 + c.points_from.result ≡ spots_at a.t.now a.b
-start c = omega (arith, (known c.before.before).children, c.points_from.ensures)
+start c = omega (arith, ((part-sizes c.args.t.now c.args.b c.requires.0 c.front_of-h.ensures.0)).children, c.points_from.ensures)
 
 -- the spot lies in the table
 few : (c : After-points_from) → let a = c.args in spots_at a.t.now a.b + 12 * a.j + 12 ≤ length a.t.now

@@ -35,8 +35,8 @@ kid t c =
     record {
       few = c.requires.blocks;
       deep = c.requires.deep;
-      ok = node t c.before.before.before.before.before.before.before;
-      below = omega (arith, count t c.before.before.before.before.before.before.before, c.loop-i-test.true);
+      ok = (sym c.block_ok.ensures ∙ c.if-not-block_ok.false);
+      below = omega (arith, (ap (λ (h : Front). h.c) c.front_of-c.ensures.0), c.loop-i-test.true);
       entry = c.entry_at-e.ensures;
       range = c.child_span-part.ensures;
       going = c.loop-i.invariant.1;

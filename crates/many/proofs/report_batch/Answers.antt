@@ -60,7 +60,7 @@ begun c = start c.before.before.before.before
 answerable : (c : Else-not-header_ok) (few : List ℕ) → 1536 * (begun c).args.b.n ≤ length few
     → Answerable (begun c).args.b (begun c).args.table.now few (begun c).args.counts.now (begun c).args.read-map.now
 answerable c few room =
-    let k = fitting c.before.before.before.before.before in
+    let k = (let args = (start c).args in let lengths = lengths-right args.read-map.now args.counts.now args.b.n c.if-read_map-counts.false in record { sized = sym c.sized.ensures ∙ c.if-not-sized.false; mapped = lengths.0; matched = lengths.1 }) in
     record {
       sized = k.sized;
       mapped = k.mapped;

@@ -11,7 +11,7 @@ use Rattle.node.proofs.load_entries.Goals as goal
 pub loop-i-init : goal.loop-i-init
 loop-i-init c =
     let t = c.args.s.now in
-    (search rules, omega (arith, (counts t c.requires.0 (front_of t) refl).(goal.at.loop-i-init c).After-shared_slice_known-1, c.requires.1), search rules, none-loaded t _ refl)
+    (search rules, omega (arith, (counts t c.requires.0 (front_of t) refl).c, c.requires.1), search rules, none-loaded t _ refl)
 
 pub entry_at-e-requires : goal.entry_at-e-requires
 entry_at-e-requires c = (c.requires.0, omega (arith, c.requires.1))

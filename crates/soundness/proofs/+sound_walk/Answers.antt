@@ -46,9 +46,9 @@ kid t c =
     record {
       few = c.requires.blocks;
       deep = c.requires.deep;
-      mapped = map t c.before.before.before.before.before.before.before;
-      ok = node t c.before.before.before.before.before.before.before;
-      below = omega (arith, count t c.before.before.before.before.before.before.before, c.loop-i-test.true);
+      mapped = (ap length c.set_bit.ensures ∙ set_bit-length c.args.seen.now c.args.b ∙ c.requires.mapped);
+      ok = (sym c.block_ok.ensures ∙ c.if-not-block_ok.false);
+      below = omega (arith, (ap (λ (h : Front). h.c) c.front_of-c.ensures.0), c.loop-i-test.true);
       entry = c.entry_at-e.ensures;
       range = c.child_span-part.ensures;
       thread = c.loop-i.invariant.1;

@@ -12,5 +12,5 @@ returns-then-not-some c = let a = c.args in lowered_none a.h.now a.m a.x {some =
 pub returns : goal.returns
 returns c =
     let a = c.args in
-    let two = good_length (e_int w64) 2 a.x _ c.well-formed.1.1.1.0 in
+    let two = good_length (e_int w64) 2 a.x _ c.well_formed.1.1.1.0 in
     lowered-some a.h.now a.m a.x {some = a.some} c.if-not-some.false two c.requires.0 c.replace_top.ensures
