@@ -1,11 +1,11 @@
 -- `build::count_band` meets its contract. The loop's invariant: the sum and the count of what is left make the whole count.
-use mathlib.Core.Logic.{⊎_elim}
 use Prim.Native.Nat.{◌-◌}
 use Rattle.build.specs.Building.{limit_of}
 use Rattle.build.proofs.Bands.{Counted, counted_none, counted-in, counted-out, counted-all}
 use Rattle.build.proofs.Segments.{segment-limited}
 use native.Mathlib.Omega.{arith}
 use Rattle.build.proofs.count_band.Goals as goal
+use Rattle.build.proofs.count_band.Goals.{then-in_band, else-in_band}
 
 pub read_key-k-requires : goal.read_key-k-requires
 read_key-k-requires c =
@@ -16,9 +16,10 @@ loop-i-preserved c =
     let a = c.args in
     let l = c.loop-i in
     let h = c.loop-i-test.true in
-    ⊎_elim (λ w. counted-in a.list.now a.from a.n a.cut (limit_of a.limit) l.invariant h c.read_key-k.ensures.0 c.in_band.ensures w.0.taken w.1)
-    (λ w. counted-out a.list.now a.from a.n a.cut (limit_of a.limit) l.invariant h c.read_key-k.ensures.0 c.in_band.ensures w.0.left w.1)
-    c.if-in_band.branch
+    elim c.if-in_band.branch [
+      then-in_band w ↦ counted-in a.list.now a.from a.n a.cut (limit_of a.limit) l.invariant h c.read_key-k.ensures.0 c.in_band.ensures w.if-in_band.true w.sum-is
+      | else-in_band w ↦ counted-out a.list.now a.from a.n a.cut (limit_of a.limit) l.invariant h c.read_key-k.ensures.0 c.in_band.ensures w.if-in_band.false w.sum-is
+    ]
 
 pub returns : goal.returns
 returns c = counted-all _ _ _ _ _ c.loop-i.invariant c.loop-i-test.false

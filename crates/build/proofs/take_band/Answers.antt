@@ -3,12 +3,11 @@ use Rattle.build.proofs.Bands.{Taken, taken_none, taken-room, taken_in, taken_ou
 use Rattle.build.proofs.Segments.{segment-limited}
 use Rattle.build.specs.Building.{limit_of}
 use Prim.Native.Nat.{◌-◌, ◌<◌}
-use mathlib.Core.Logic.{⊎_elim}
 use Rattle.buffer.proofs.Lists.{length-image}
 use borrow.Author.Rules.{rules}
 use native.Mathlib.Omega.{arith}
 use Rattle.build.proofs.take_band.Goals as goal
-use Rattle.build.proofs.take_band.Goals.{Then-in_band}
+use Rattle.build.proofs.take_band.Goals.{Then-in_band, then-in_band, else-in_band}
 
 pub loop-i-init : goal.loop-i-init
 loop-i-init c = taken_none _ _ _ _ _ (search (rules, length-image)) c.empty-out.ensures.0 c.empty-out.ensures.1
@@ -31,9 +30,10 @@ loop-i-preserved c =
     let a = c.args in
     let r = c.loop-i.invariant in
     let l = c.loop-i-test.true in
-    ⊎_elim (λ w. taken_in a.list.now a.from a.n a.cut (limit_of a.limit) r l c.read_spot-s.ensures.0 c.in_band.ensures w.0.taken c.requires.1 w.1)
-    (λ w. taken_out a.list.now a.from a.n a.cut (limit_of a.limit) r l c.read_spot-s.ensures.0 c.in_band.ensures w.0.left w.1)
-    c.if-in_band.branch
+    elim c.if-in_band.branch [
+      then-in_band w ↦ taken_in a.list.now a.from a.n a.cut (limit_of a.limit) r l c.read_spot-s.ensures.0 c.in_band.ensures w.if-in_band.true c.requires.1 w.out-is
+      | else-in_band w ↦ taken_out a.list.now a.from a.n a.cut (limit_of a.limit) r l c.read_spot-s.ensures.0 c.in_band.ensures w.if-in_band.false w.out-is
+    ]
 
 pub returns : goal.returns
 returns c = taken-all _ _ _ _ _ c.requires.0.rises c.requires.1 c.loop-i.invariant c.loop-i-test.false

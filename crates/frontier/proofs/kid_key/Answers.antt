@@ -27,18 +27,18 @@ kid_of-kid-requires c = (c.requires, omega (arith, c.if-c-i.false, count (goal.a
 pub returns-then-not-admits_child : goal.returns-then-not-admits_child
 returns-then-not-admits_child c =
     let a = c.args in
-    let k = c.IsKid-of.ensures in
+    let k = c.kid_of-kid.ensures in
     key-none a.t.now a.b a.span a.q a.i
-    (cell-no a.t.now a.b a.span a.q a.i (omega (arith, c.if-c-i.false, count (goal.at.returns-then-not-admits_child c).After-kid_of-kid)) k.entry k.span c.admits_child.ensures
+    (cell-no a.t.now a.b a.span a.q a.i (omega (arith, c.if-c-i.false, count (goal.at.returns-then-not-admits_child c).After-front_of-c)) k.entry k.span c.admits_child.ensures
     c.if-not-admits_child.true)
 
 pub returns : goal.returns
 returns c =
     let a = c.args in
-    let k = c.IsKid-of.ensures in
-    let e = c.IsKid-of.result.entry in
+    let k = c.kid_of-kid.ensures in
+    let e = c.kid_of-kid.result.entry in
     let cell : rank_of e.top + 1 ≡ kid_cell a.t.now a.b a.span a.q a.i =
-    cell-yes a.t.now a.b a.span a.q a.i (omega (arith, c.if-c-i.false, count (goal.at.returns c).After-kid_of-kid)) k.entry k.span c.admits_child.ensures
+    cell-yes a.t.now a.b a.span a.q a.i (omega (arith, c.if-c-i.false, count (goal.at.returns c).After-front_of-c)) k.entry k.span c.admits_child.ensures
     c.if-not-admits_child.false in
     ap (λ (x : ℕ). (x / 4294967296 + 1) * 65536 + (65535 - e.block)) c.rank_key.ensures
     ∙ key-yes a.t.now a.b a.span a.q a.i (rank_of e.top) cell (ap (λ (x : Entry). x.block) k.entry)

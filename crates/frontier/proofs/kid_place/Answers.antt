@@ -9,5 +9,5 @@ use Rattle.frontier.proofs.kid_place.Goals as goal
 pub returns : goal.returns
 returns c =
     let p = c.args.p in
-    let k = c.IsKid-of.ensures in
+    let k = c.kid_of-kid.ensures in
     ap₂ (λ (e : Entry) (s : Span). record { block = e.block; level = p.level - 1; span = s }) k.entry k.span

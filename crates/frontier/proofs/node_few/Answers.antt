@@ -70,7 +70,7 @@ low_end-low-requires c =
 
 pub floor_few-requires : goal.floor_few-requires
 floor_few-requires c =
-    (some (goal.at.floor_few-requires c).After-run_few-arg-1, c.run_few-n.ensures.room)
+    (some (goal.at.floor_few-requires c).After-run_few-n, c.run_few-n.ensures.room)
 
 pub returns-then-h-eq0 : goal.returns-then-h-eq0
 returns-then-h-eq0 c =
@@ -89,22 +89,22 @@ returns-then-top_key-floor_few c =
     let few = c.run_few-n.new.few in
     let n = c.run_few-n.result in
     let first : Few a.t.now (spots_at a.t.now a.b) h.p a.q a.most few n =
-    subst (λ (k : ℕ). Few a.t.now k h.p a.q a.most few n) (start (goal.at.returns-then-top_key-floor_few c).After-front_of-h) c.run_few-n.ensures in
+    subst (λ (k : ℕ). Few a.t.now k h.p a.q a.most few n) (start (goal.at.returns-then-top_key-floor_few c).After-points_from) c.run_few-n.ensures in
     let low = c.low_end-low.result in
-    let one : OneOf a.t.now (spots_at a.t.now a.b) h.p low = subst (λ (k : ℕ). OneOf a.t.now k h.p low) (start (goal.at.returns-then-top_key-floor_few c).After-front_of-h) c.low_end-low.ensures in
+    let one : OneOf a.t.now (spots_at a.t.now a.b) h.p low = subst (λ (k : ℕ). OneOf a.t.now k h.p low) (start (goal.at.returns-then-top_key-floor_few c).After-points_from) c.low_end-low.ensures in
     let up : rank_of low < few_floor few n / 4294967296 = omega (arith, c.if-top_key-floor_few.true, c.floor_few.ensures, c.top_key.ensures, top-rank low) in
-    subst (λ (k : ℕ). Few a.t.now (spots_at a.t.now a.b) k a.q a.most few n) (all (goal.at.returns-then-top_key-floor_few c).After-front_of-h)
-    (inserts-past a.t.now a.b h (known (goal.at.returns-then-top_key-floor_few c).After-front_of-arg-1) c.requires.0 a.q a.most first one up)
+    subst (λ (k : ℕ). Few a.t.now (spots_at a.t.now a.b) k a.q a.most few n) (all (goal.at.returns-then-top_key-floor_few c).After-points_from)
+    (inserts-past a.t.now a.b h (known (goal.at.returns-then-top_key-floor_few c).After-front_of-h) c.requires.0 a.q a.most first one up)
 
 pub run_few-requires : goal.run_few-requires
 run_few-requires c =
-    let r = (known (goal.at.run_few-requires c).After-front_of-arg-1).runs in (
-      some (goal.at.run_few-requires c).After-run_few-arg-1,
+    let r = (known (goal.at.run_few-requires c).After-front_of-h).runs in (
+      some (goal.at.run_few-requires c).After-run_few-n,
       omega arith,
       omega (arith, r.p-most, r.i-most),
       omega (arith, r.used, c.requires.0.inside, c.points_from.ensures),
-      limits (goal.at.run_few-requires c).After-front_of-h,
-      apart (goal.at.run_few-requires c).After-front_of-h,
+      limits (goal.at.run_few-requires c).After-points_from,
+      apart (goal.at.run_few-requires c).After-points_from,
       c.run_few-n.ensures,
     )
 
@@ -113,5 +113,5 @@ returns c =
     let a = c.args in
     let few = c.run_few.new.few in
     let n = c.run_few.result in
-    subst (λ (k : ℕ). Few a.t.now (spots_at a.t.now a.b) k a.q a.most few n) (all (goal.at.returns c).After-front_of-h)
-    (subst (λ (k : ℕ). Few a.t.now k (c.front_of-h.result.p + c.front_of-h.result.i) a.q a.most few n) (start (goal.at.returns c).After-front_of-h) c.run_few.ensures)
+    subst (λ (k : ℕ). Few a.t.now (spots_at a.t.now a.b) k a.q a.most few n) (all (goal.at.returns c).After-points_from)
+    (subst (λ (k : ℕ). Few a.t.now k (c.front_of-h.result.p + c.front_of-h.result.i) a.q a.most few n) (start (goal.at.returns c).After-points_from) c.run_few.ensures)

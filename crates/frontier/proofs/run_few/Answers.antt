@@ -10,6 +10,7 @@ use Rattle.octets.proofs.Order.{less-or-not}
 use borrow.Author.Rules.{rules}
 use native.Mathlib.Omega.{arith}
 use Rattle.frontier.proofs.run_few.Goals as goal
+use Rattle.frontier.proofs.run_few.Goals.{then-is_taken, else-is_taken}
 
 pub floor_few-floor-requires : goal.floor_few-floor-requires
 floor_few-floor-requires c = let p = c.requires in (p.0, p.6.room)
@@ -40,10 +41,10 @@ loop-i-preserved c =
     let l = c.loop-i in
     let on : l.i < c.args.to = c.loop-i-test.true in (
       omega arith,
-      ⊎_elim
-          (λ w. passed-taken l.invariant.1 c.read_key-k.ensures.0 c.requires.0 c.args.to c.requires.5 on (sym c.is_taken.ensures ∙ w.0.taken) w.2.ensures w.3.ensures w.6.ensures w.7 w.8 w.9)
-          (λ w. passed-skip l.invariant.1 c.read_key-k.ensures.0 (sym c.is_taken.ensures ∙ w.0.left) w.1 w.2 w.3)
-          c.if-is_taken.branch,
+      elim c.if-is_taken.branch [
+        then-is_taken w ↦ passed-taken l.invariant.1 c.read_key-k.ensures.0 c.requires.0 c.args.to c.requires.5 on (sym c.is_taken.ensures ∙ w.if-is_taken.true) w.top_key.ensures w.insert_few-n.ensures w.floor_few-floor-then-is_taken.ensures w.few-is w.n-is w.floor-is
+        | else-is_taken w ↦ passed-skip l.invariant.1 c.read_key-k.ensures.0 (sym c.is_taken.ensures ∙ w.if-is_taken.false) w.few-is w.n-is w.floor-is
+      ],
     )
 
 pub shape_of-few : goal.shape_of-few

@@ -47,7 +47,7 @@ pub returns-then-waits_in : goal.returns-then-waits_in
 returns-then-waits_in c =
     let a = c.args in
     let v = c.loop-j.invariant in
-    sym (v.1 ∙ over_yes a.t.now a.rows.now a.k v.0 c.loop-j-test.true c.Waits-in.ensures c.if-waits_in.true)
+    sym (v.1 ∙ over_yes a.t.now a.rows.now a.k v.0 c.loop-j-test.true c.waits_in.ensures c.if-waits_in.true)
 
 pub loop-j-smaller : goal.loop-j-smaller
 loop-j-smaller c =
@@ -57,7 +57,7 @@ pub loop-j-preserved : goal.loop-j-preserved
 loop-j-preserved c =
     let a = c.args in
     let v = c.loop-j.invariant in
-    (up (goal.at.loop-j-preserved c).After-row-1, v.1 ∙ over_no a.t.now a.rows.now a.k v.0 c.loop-j-test.true c.Waits-in.ensures c.if-waits_in.false)
+    (up (goal.at.loop-j-preserved c).After-row-1, v.1 ∙ over_no a.t.now a.rows.now a.k v.0 c.loop-j-test.true c.waits_in.ensures c.if-waits_in.false)
 
 pub returns : goal.returns
 returns c =

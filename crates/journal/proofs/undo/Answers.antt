@@ -1,12 +1,12 @@
 -- `journal::undo` meets its contract. The loop's invariant: the blocks below b are as they were before, those from b on as at entry.
 use mathlib.Core.Path.{◌≡◌, sym, subst, ◌∙◌}
-use mathlib.Core.Logic.{⊎_elim}
 use mathlib.Core.List.{List}
 use Prim.Native.Nat.{ℕ, ◌+◌, ◌*◌, ◌/◌, ◌-◌, ◌≤◌}
 use native.Mathlib.Omega.{arith}
 use lib.ListN.{length}
 use Rattle.journal.proofs.Kept.{Undoing, undoing-none, undoing-clear, undoing-kept, undoing-all}
 use Rattle.journal.proofs.undo.Goals as goal
+use Rattle.journal.proofs.undo.Goals.{then-test_bit, else-test_bit}
 
 pub loop-b-init : goal.loop-b-init
 loop-b-init c = (omega arith, undoing-none)
@@ -30,12 +30,10 @@ loop-b-preserved c =
     let tested = sym c.test_bit.ensures in
     let h : l.b * 2048 + 2048 ≤ length t₀ = omega (arith, c.loop-b-test.true) in (
       omega arith,
-      ⊎_elim
-          (λ w.
-          subst (λ (x : List ℕ). Undoing t₀ s m (l.b + 1) x) (sym (w.5 ∙ w.2.ensures))
-          (undoing-kept u (tested ∙ w.0.taken) (omega (arith, u.sized)) (omega (arith, c.requires.room))))
-          (λ w. subst (λ (x : List ℕ). Undoing t₀ s m (l.b + 1) x) (sym w.1) (undoing-clear u (tested ∙ w.0.left)))
-          c.if-test_bit.branch,
+      elim c.if-test_bit.branch [
+        then-test_bit w ↦ subst (λ (x : List ℕ). Undoing t₀ s m (l.b + 1) x) (sym (w.t-is ∙ w.copy_block.ensures)) (undoing-kept u (tested ∙ w.if-test_bit.true) (omega (arith, u.sized)) (omega (arith, c.requires.room)))
+        | else-test_bit w ↦ subst (λ (x : List ℕ). Undoing t₀ s m (l.b + 1) x) (sym w.t-is) (undoing-clear u (tested ∙ w.if-test_bit.false))
+      ],
     )
 
 pub shape_of-t : goal.shape_of-t

@@ -6,7 +6,6 @@ use borrow.Author.Rules.{rules}
 use Rattle.spare.proofs.last_of.Goals as goal
 
 pub returns : goal.returns
-returns c = spare-last c.args.s c.args.left (long (goal.at.returns c).Start) c.requires.0 c.requires.1
-  where
-    long : ((goal.at.returns c).After-result-1 : tie.Start) → length c.args.s.blocks ≡ 8
-    long (goal.at.returns c).After-result-1 = search rules
+returns c =
+    let long : length c.args.s.blocks ≡ 8 = search rules in
+    spare-last c.args.s c.args.left long c.requires.0 c.requires.1

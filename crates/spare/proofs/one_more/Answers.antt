@@ -7,7 +7,6 @@ use native.Mathlib.Omega.{arith}
 use Rattle.spare.proofs.one_more.Goals as goal
 
 pub returns : goal.returns
-returns c = (search rules, take-push c.args.s.blocks c.args.s.n c.args.b (omega (arith, long (goal.at.returns c).Start, c.requires)))
-  where
-    long : ((goal.at.returns c).Start : tie.Start) → length c.args.s.blocks ≡ 8
-    long (goal.at.returns c).Start = search rules
+returns c =
+    let long : length c.args.s.blocks ≡ 8 = search rules in
+    (search rules, take-push c.args.s.blocks c.args.s.n c.args.b (omega arith))

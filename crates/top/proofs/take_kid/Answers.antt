@@ -37,7 +37,7 @@ returns c =
     let at_place = c.place_at-parent in
     let at_next = c.best_kid-next in
     let at-lower = c.lower-left in
-    let kid = c.IsKid-of.ensures in
+    let kid = c.kid_of-kid.ensures in
     let i = first_value a.kids.now % 8 in
     record {
       place =
