@@ -3,6 +3,8 @@
 
 ghost use Rattle.std.specs.Prelude.{◌≡◌, ◌≤◌, ◌<◌, length};
 
+use std::io::Read;
+
 // What is kept of the input: the length of the line begun, and whether there is more to read.
 #[derive(Clone, Copy)]
 struct Fed {
@@ -64,13 +66,18 @@ fn take_bytes(
 }
 
 // Reads once. A read that fails ends the input.
-fn take_some(table: &mut [u8], scratch: &mut [u8], line: &mut [u8], used: usize) -> Fed
+fn take_some<R: Input>(
+    rt: &R,
+    table: &mut [u8],
+    scratch: &mut [u8],
+    line: &mut [u8],
+    used: usize,
+) -> Fed
     requires { (used ≤ 64) × (length line.old ≡ 64) }
     ensures { result.used ≤ 64 }
 {
     let mut buffer = io::buffer();
-    let got = libc::read(0, &mut buffer);
-    let n = io::count(got, &buffer);
+    let n = rt.reader().read(&mut buffer).unwrap_or(0);
     if n == 0 {
         return Fed { used, more: false };
     }
@@ -93,12 +100,12 @@ fn turns_left(turns: u64, more: bool) -> u64
 }
 
 // All of the input. Nothing says that it ends, so the reads are counted down from a number that none uses up. The last line may have no line end.
-fn take_all(table: &mut [u8], scratch: &mut [u8]) {
+fn take_all<R: Input>(rt: &R, table: &mut [u8], scratch: &mut [u8]) {
     let mut line = [0u8; 64];
     let mut used = 0;
     let mut turns = u64::MAX;
     while turns > 0 {
-        let fed = take_some(table, scratch, &mut line, used);
+        let fed = take_some(rt, table, scratch, &mut line, used);
         used = fed.used;
         turns = turns_left(turns, fed.more);
     }
@@ -107,9 +114,9 @@ fn take_all(table: &mut [u8], scratch: &mut [u8]) {
     }
 }
 
-fn main() {
+fn main(rt: HostRuntime) {
     let mut table = [0u8; 65536];
     let mut scratch = [0u8; 65536];
     table::format(&mut table);
-    take_all(&mut table, &mut scratch);
+    take_all(&rt, &mut table, &mut scratch);
 }

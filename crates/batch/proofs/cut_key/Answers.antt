@@ -24,7 +24,7 @@ returns-then-count-eq0 c =
     let none : n.entries.n ≡ 0 = c.if-count-eq0.true in
     let e = ap (λ (x : Spot). x.key) c.get-middle.ensures in
     record {
-      leaf = λ z. rw e (middle-key n.points (long (goal.at.returns-then-count-eq0 c).Then-count-eq0) c.requires.0.points (leaf-points n.entries.n n.points.n c.requires.1 none) _ refl);
+      leaf = λ z. rw e (middle-key n.points (long (goal.at.returns-then-count-eq0 c).Start) c.requires.0.points (leaf-points n.entries.n n.points.n c.requires.1 none) _ refl);
       inner = λ z. absurd (omega arith);
     }
 

@@ -33,11 +33,11 @@ overflow_add-child c = omega (arith, c.fullest-child.ensures.there, entry-count 
 
 share : (c : After-end_of-end)
     → let n = c.args.n in
-    Share n (keys (held n.inserts)) n.inserts.n c.fullest-child.result c.start_of.result c.end_of.result
+    Share n (keys (held n.inserts)) n.inserts.n c.fullest-child.result c.start_of-start.result c.end_of-end.result
 share c =
     let n = c.args.n in
-    share-of n c.requires.3 ((let es = c.args.n.entries in let h : length es.list ≡ 8 = search (rules, length-image) in length-take-le es.n es.list (omega (arith, c.requires.2)))) c.requires.2 (keys (held n.inserts)) n.inserts.n c.fullest-child.result c.start_of.result c.end_of.result (sym (keys_length (held n.inserts) ∙ (held-length c.args.n.inserts (search (rules, length-image)) c.requires.0.inserts.fits)))
-    c.fullest-child.ensures c.start_of.ensures c.end_of.ensures
+    share-of n c.requires.3 ((let es = c.args.n.entries in let h : length es.list ≡ 8 = search (rules, length-image) in length-take-le es.n es.list (omega (arith, c.requires.2)))) c.requires.2 (keys (held n.inserts)) n.inserts.n c.fullest-child.result c.start_of-start.result c.end_of-end.result (sym (keys_length (held n.inserts) ∙ (held-length c.args.n.inserts (search (rules, length-image)) c.requires.0.inserts.fits)))
+    c.fullest-child.ensures c.start_of-start.ensures c.end_of-end.ensures
 
 few : (c : Start) → (c.args.n.inserts.n + 7) / 8 ≤ 16
 few c = omega (arith, c.requires.0.inserts.fits)
@@ -61,5 +61,5 @@ returns c =
     let d = c.between-down in
     let o = c.outside-inserts in
     let z = c.empty_keys-none in
-    picked-inserts c.args.n c.requires.3 (entry-count (goal.at.returns c).Start) c.requires.2 c.requires.0 c.fullest-child.result c.start_of.result c.end_of.result ((c.args.n.inserts.n + 7) / 8) c.part_end-stop.result
+    picked-inserts c.args.n c.requires.3 (entry-count (goal.at.returns c).Start) c.requires.2 c.requires.0 c.fullest-child.result c.start_of-start.result c.end_of-end.result ((c.args.n.inserts.n + 7) / 8) c.part_end-stop.result
     (few (goal.at.returns c).Start) c.part_end-stop.ensures d.result o.result z.result (long (goal.at.returns c).Start) (share (goal.at.returns c).After-end_of-end) refl c.requires.4 d.ensures.0 d.ensures.1 o.ensures.0 o.ensures.1 o.ensures.2 z.ensures.0 z.ensures.1

@@ -57,8 +57,8 @@ pub build-e-requires : goal.build-e-requires
 build-e-requires t c =
     let p = c.requires in
     let d = c.if-height-eq0.false in (
-      omega (arith, p.0, d),
-      child-ready _ _ _ _ _ _ _ _ (parts t (goal.at.build-e-requires t c).Else-height-eq0) c.loop-j.invariant c.loop-j-test.true p.1.segment _ 6 _ refl (omega arith) (omega (arith, p.1.high)) c.nodes_of-width.ensures.0,
+      omega (arith, c.decreases, d),
+      child-ready _ _ _ _ _ _ _ _ (parts t (goal.at.build-e-requires t c).Else-height-eq0) c.loop-j.invariant c.loop-j-test.true p.segment _ 6 _ refl (omega arith) (omega (arith, p.high)) c.nodes_of-width.ensures.0,
     )
 
 pub add_entry-es-requires : goal.add_entry-es-requires

@@ -8,7 +8,6 @@ use native.Mathlib.Omega.{arith}
 use Rattle.build.proofs.add_entry.Goals as goal
 
 pub returns : goal.returns
-returns c = (search rules, take-push c.args.es.list c.args.es.n c.args.e (omega (arith, long (goal.at.returns c).Start)))
-  where
-    long : ((goal.at.returns c).Start : tie.Start) → length c.args.es.list ≡ 8
-    long (goal.at.returns c).Start = search (rules, length-image)
+returns c =
+    let long : length c.args.es.list ≡ 8 = search (rules, length-image) in
+    (search rules, take-push c.args.es.list c.args.es.n c.args.e (omega arith))

@@ -17,7 +17,7 @@ loop-i-preserved c =
     let l = c.loop-i in
     let h = c.loop-i-test.true in
     elim c.if-in_band.branch [
-      then-in_band w ↦ counted-in a.list.now a.from a.n a.cut (limit_of a.limit) l.invariant h c.read_key-k.ensures.0 c.in_band.ensures w.if-in_band.true w.sum-is
+      | then-in_band w ↦ counted-in a.list.now a.from a.n a.cut (limit_of a.limit) l.invariant h c.read_key-k.ensures.0 c.in_band.ensures w.if-in_band.true w.sum-is
       | else-in_band w ↦ counted-out a.list.now a.from a.n a.cut (limit_of a.limit) l.invariant h c.read_key-k.ensures.0 c.in_band.ensures w.if-in_band.false w.sum-is
     ]
 

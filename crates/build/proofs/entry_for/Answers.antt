@@ -19,7 +19,5 @@ pub returns : goal.returns
 returns c =
     let a = c.args in
     let p = c.requires in
-    entry-some _ _ (held a.points) a.points.n c.highest-high.result c.lowest-least.result p.2 (sym (held-length a.points (long (goal.at.returns c).Start) (omega (arith, p.1)))) c.if-size-eq0.false p.1 c.highest-high.ensures c.lowest-least.ensures
-  where
-    long : ((goal.at.returns c).After-lowest-least : tie.Start) → length c.args.points.spots ≡ 80
-    long (goal.at.returns c).After-lowest-least = search (rules, length-image)
+    let long : length a.points.spots ≡ 80 = search (rules, length-image) in
+    entry-some _ _ (held a.points) a.points.n c.highest-high.result c.lowest-least.result p.2 (sym (held-length a.points long (omega (arith, p.1)))) c.if-size-eq0.false p.1 c.highest-high.ensures c.lowest-least.ensures

@@ -16,11 +16,11 @@ pub loop-i-preserved : goal.loop-i-preserved
 loop-i-preserved c = (
   omega arith,
   elim c.if-in_band.branch [
-    then-in_band w ↦ omega arith
+    | then-in_band w ↦ omega arith
     | else-in_band w ↦ omega arith
   ],
   elim c.if-in_band.branch [
-    then-in_band w ↦ ap (λ l. length l) w.top-is ∙ w.admit.ensures
+    | then-in_band w ↦ ap (λ l. length l) w.top-is ∙ w.admit.ensures
     | else-in_band w ↦ ap (λ l. length l) w.top-is ∙ c.loop-i.invariant.2
   ],
 )

@@ -8,7 +8,6 @@ use native.Mathlib.Omega.{arith}
 use Rattle.build.proofs.open_first.Goals as goal
 
 pub returns : goal.returns
-returns c = (search rules, opened c.args.es.list c.args.es.n (omega (arith, long (goal.at.returns c).Start)))
-  where
-    long : ((goal.at.returns c).After-e-1 : tie.Start) → length c.args.es.list ≡ 8
-    long (goal.at.returns c).After-e-1 = search (rules, length-image)
+returns c =
+    let long : length c.args.es.list ≡ 8 = search (rules, length-image) in
+    (search rules, opened c.args.es.list c.args.es.n (omega arith))

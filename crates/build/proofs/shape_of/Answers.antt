@@ -12,15 +12,15 @@ overflow_mul-i c =
 
 pub loop-i-smaller : goal.loop-i-smaller
 unfolding rows
-loop-i-smaller c = let m = sought-inside _ _ c.requires c.loop-i.invariant c.loop-test.true in omega arith
+loop-i-smaller c = let m = sought-inside _ _ c.requires c.loop-i.invariant c.loop-i-test.true in omega arith
 
 pub loop-i-preserved : goal.loop-i-preserved
 unfolding rows
-loop-i-preserved c = sought-next _ _ c.requires c.loop-i.invariant c.loop-test.true
+loop-i-preserved c = sought-next _ _ c.requires c.loop-i.invariant c.loop-i-test.true
 
 pub returns : goal.returns
 unfolding rows
-returns c = sought-found _ _ c.requires c.loop-i.invariant c.loop-test.false
+returns c = sought-found _ _ c.requires c.loop-i.invariant c.loop-i-test.false
 
 pub loop-i-init : goal.loop-i-init
 loop-i-init c = sought-first _

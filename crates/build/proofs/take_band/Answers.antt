@@ -31,7 +31,7 @@ loop-i-preserved c =
     let r = c.loop-i.invariant in
     let l = c.loop-i-test.true in
     elim c.if-in_band.branch [
-      then-in_band w ↦ taken_in a.list.now a.from a.n a.cut (limit_of a.limit) r l c.read_spot-s.ensures.0 c.in_band.ensures w.if-in_band.true c.requires.1 w.out-is
+      | then-in_band w ↦ taken_in a.list.now a.from a.n a.cut (limit_of a.limit) r l c.read_spot-s.ensures.0 c.in_band.ensures w.if-in_band.true c.requires.1 w.out-is
       | else-in_band w ↦ taken_out a.list.now a.from a.n a.cut (limit_of a.limit) r l c.read_spot-s.ensures.0 c.in_band.ensures w.if-in_band.false w.out-is
     ]
 

@@ -10,7 +10,7 @@ use Rattle.catalogue.proofs.Making.{EachInv, each_next, each-end}
 use Rattle.catalogue.proofs.entries_ok.Given as goal
 
 abbrev pub invariant-loop-b : goal.invariant-loop-b
-invariant-loop-b l = (1 ≤ l.b) × (l.b ≤ l.m) × EachInv (fine l.m l.s) 1 l.m l.ok l.b
+invariant-loop-b l = (1 ≤ l.b) × (l.b ≤ l.m) × EachInv (λ (b : ℕ). tile_entry_fine l.m b (tile_entry_at l.s b)) 1 l.m l.ok l.b
 
 abbrev pub decreases-loop-b : goal.decreases-loop-b
 decreases-loop-b l = l.m - l.b

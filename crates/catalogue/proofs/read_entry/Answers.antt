@@ -7,9 +7,10 @@ use Rattle.catalogue.specs.Reading.{LimitedEntry}
 use Rattle.catalogue.proofs.Lengths.{sized-lengths}
 use Rattle.catalogue.proofs.Facts.{listed-fine, listed-as}
 use Rattle.catalogue.proofs.read_entry.Goals as goal
+use Rattle.catalogue.proofs.read_entry.Goals.{Start}
 
 -- what is known of the entry, and of the block
-module _ (c : tie.Start) where
+module _ (c : Start) where
   limits : LimitedEntry (tile_entry_at c.args.s.now c.args.b)
   limits = listed-fine c.args.s.now c.args.b c.requires
 

@@ -39,16 +39,16 @@ pub returns-then-not-g : goal.returns-then-not-g
 returns-then-not-g c =
     let s = c.save.ensures in
     let g = c.grow-g.ensures in
-    heavy-undone c.requires.0 s.0 s.1 c.spare_blocks-spare.ensures g.0 g.1 c.refused.ensures c.undo.ensures (all-spots ?LOST) (all-keys ?LOST)
+    heavy-undone c.requires.0 s.0 s.1 c.spare_blocks-spare.ensures g.kept g.grown c.refused.ensures c.undo.ensures (all-spots (goal.at.returns-then-not-g c).Start) (all-keys (goal.at.returns-then-not-g c).Start)
 
 pub finish-requires : goal.finish-requires
 finish-requires c =
     let s = c.save.ensures in
     let g = c.grow-g.ensures in
-    heavy-finishes c.requires.0 s.0 s.1 c.spare_blocks-spare.ensures g.0 g.1 c.if-not-g.false
+    heavy-finishes c.requires.0 s.0 s.1 c.spare_blocks-spare.ensures g.kept g.grown (not-false _ c.if-not-g.false)
 
 pub returns : goal.returns
 returns c =
     let s = c.save.ensures in
     let g = c.grow-g.ensures in
-    heavy-done c.requires.0 s.0 s.1 c.spare_blocks-spare.ensures g.0 g.1 c.if-not-g.false c.finish.ensures (all-spots ?LOST) (all-keys ?LOST)
+    heavy-done c.requires.0 s.0 s.1 c.spare_blocks-spare.ensures g.kept g.grown (not-false _ c.if-not-g.false) c.finish.ensures (all-spots (goal.at.returns c).Start) (all-keys (goal.at.returns c).Start)

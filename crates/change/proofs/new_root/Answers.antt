@@ -17,7 +17,7 @@ roomy : (c : Else-left-level) → let a = c.args in (0 < a.left) × (a.level ≤
 roomy c = let a = c.args in room-above a.left a.level c.if-left-level.false
 
 pub returns-then-left-level : goal.returns-then-left-level
-returns-then-left-level c = (kept_refl, crown-fails c.not_grown.ensures (λ f low high kids finds. refl))
+returns-then-left-level c = record { kept = kept_refl; crowned = crown-fails c.not_grown.ensures (λ f low high kids finds. refl) }
 
 pub last_of-root-requires : goal.last_of-root-requires
 last_of-root-requires c = let p = c.requires in ((roomy (goal.at.last_of-root-requires c).Else-left-level).0, omega (arith, p.less, p.spares.few))
@@ -30,7 +30,7 @@ fill-f-requires c =
 pub returns-then-not-f : goal.returns-then-not-f
 returns-then-not-f c =
     let f = c.fill-f.ensures in
-    (f.0, crown-fails c.not_grown-then-not-f.ensures (crown-whole c.over-n.ensures f.1 c.requires.zero))
+    record { kept = f.kept; crowned = crown-fails c.not_grown-then-not-f.ensures (crown-whole c.over-n.ensures f.filled c.requires.zero) }
 
 pub write_node-requires : goal.write_node-requires
 write_node-requires c =
@@ -38,7 +38,7 @@ write_node-requires c =
     let p = c.requires in
     let f = c.fill-f.ensures in
     let i = last-inside p.spares p.less last.ensures in
-    (undoable-kept f.0 p.undoable, subst⁻¹ (λ (n : ℕ). last.result < blocks_of n) f.0.table i.1, crown-stores c.over-n.ensures f.1 p.zero)
+    (undoable-kept f.kept p.undoable, subst⁻¹ (λ (n : ℕ). last.result < blocks_of n) f.kept.table i.1, crown-stores c.over-n.ensures f.filled p.zero)
 
 pub overflow_add-result : goal.overflow_add-result
 overflow_add-result c =
@@ -55,5 +55,5 @@ returns c =
     let f = c.fill-f.ensures in
     let w = c.write_node.ensures in
     let last = c.last_of-root in
-    let went = c.if-not-f.false in
-    (kept_trans f.0 w.0, crown-done _ a.spare a.left last.result c.over-n.ensures f.1 went p.zero p.inner (roomy (goal.at.returns c).Else-left-level).1 (roomy (goal.at.returns c).Else-left-level).0 last.ensures w.1)
+    let went = (not-false _ c.if-not-f.false) in
+    record { kept = kept_trans f.kept w.0; crowned = crown-done _ a.spare a.left last.result c.over-n.ensures f.filled went p.zero p.inner (roomy (goal.at.returns c).Else-left-level).1 (roomy (goal.at.returns c).Else-left-level).0 last.ensures w.1 }

@@ -1,6 +1,5 @@
 -- `choose::fullest` meets its contract. The loop's invariant: the fullest of the first i.
 use mathlib.Core.Path.{◌≡◌, ◌∙◌}
-use mathlib.Core.Logic.{⊎_elim}
 use Prim.Native.Nat.{◌≤◌, ◌<◌, ◌-◌, ◌+◌}
 use native.Mathlib.Omega.{arith}
 use borrow.Author.Rules.{rules}
@@ -13,7 +12,7 @@ use Rattle.node.specs.Memory.{entries_of}
 use Rattle.choose.specs.Choices.{end_at}
 use Rattle.choose.proofs.Chosen.{Seen, seen_none, seen-new, seen-stays, seen_all}
 use Rattle.choose.proofs.fullest.Goals as goal
-use Rattle.choose.proofs.fullest.Goals.{Start}
+use Rattle.choose.proofs.fullest.Goals.{Start, then-most-here, else-most-here}
 
 long : (c : Start) → length c.args.es.list ≡ 8
 long c = search (rules, length-image)
@@ -35,18 +34,18 @@ loop-i-preserved c =
     let e : end ≡ end_at es (keys (held b)) b.n (l.i + 1) = c.end_of-end.ensures in
     let r : c.share_of-here.result ≡ end - l.start = c.share_of-here.ensures in
     let inside : l.i < length es = omega (arith, counted (goal.at.loop-i-preserved c).Start) in
-    ⊎_elim
-    (λ w.
-    let f : c.if-most-here.best ≡ l.i = w.1 in
-    let g : c.if-most-here.most ≡ end - l.start = w.2 ∙ r in
-    let t : l.most < c.share_of-here.result = w.0.taken in
-    (omega arith, rw (f, g) (seen-new es (keys (held b)) b.n l.best l.most l.start l.i end inside e l.invariant.1 (omega arith))))
-    (λ w.
-    let f : c.if-most-here.best ≡ l.best = w.1 in
-    let g : c.if-most-here.most ≡ l.most = w.2 in
-    let t : c.share_of-here.result ≤ l.most = w.0.left in
-    (omega arith, rw (f, g) (seen-stays es (keys (held b)) b.n l.best l.most l.start l.i end inside e l.invariant.1 (omega arith))))
-    c.if-most-here.branch
+    elim c.if-most-here.branch [
+      then-most-here w ↦
+        let f : c.if-most-here.best ≡ l.i = w.best-is in
+        let g : c.if-most-here.most ≡ end - l.start = w.most-is ∙ r in
+        let t : l.most < c.share_of-here.result = w.if-most-here.true in
+        (omega arith, rw (f, g) (seen-new es (keys (held b)) b.n l.best l.most l.start l.i end inside e l.invariant.1 (omega arith)))
+      | else-most-here w ↦
+        let f : c.if-most-here.best ≡ l.best = w.best-is in
+        let g : c.if-most-here.most ≡ l.most = w.most-is in
+        let t : c.share_of-here.result ≤ l.most = w.if-most-here.false in
+        (omega arith, rw (f, g) (seen-stays es (keys (held b)) b.n l.best l.most l.start l.i end inside e l.invariant.1 (omega arith)))
+    ]
 
 pub returns : goal.returns
 returns c =

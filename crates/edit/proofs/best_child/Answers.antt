@@ -1,6 +1,5 @@
 -- `edit::best_child` meets its contract. The loop's invariant: the best of the first i.
 use mathlib.Core.Path.{◌≡◌, ◌∙◌}
-use mathlib.Core.Logic.{⊎_elim}
 use Prim.Native.Nat.{◌≤◌, ◌<◌, ◌-◌}
 use native.Mathlib.Omega.{arith}
 use borrow.Author.Rules.{rules}
@@ -10,7 +9,7 @@ use Rattle.buffer.proofs.Lists.{length-image}
 use Rattle.node.proofs.Listed.{blank}
 use Rattle.edit.proofs.Picked.{pick_yes, pick_no, Seen, seen_none, seen-new, seen-stays, seen_all}
 use Rattle.edit.proofs.best_child.Goals as goal
-use Rattle.edit.proofs.best_child.Goals.{Start}
+use Rattle.edit.proofs.best_child.Goals.{Start, then-e-best, else-e-best}
 
 long : (c : Start) → length c.args.es.list ≡ 8
 long c = search (rules, length-image)
@@ -26,18 +25,18 @@ loop-i-preserved c =
     let e : r.result ≡ rank_key (get_or es.list l.i blank).top = r.ensures in
     let inside : l.i < length es.list = omega (arith, long (goal.at.loop-i-preserved c).Start, c.requires) in
     let x = get_or es.list l.i blank in
-    ⊎_elim
-    (λ w.
-    let t = pick_yes x.size l.best es.n l.high r.result w.0.taken in
-    let f : c.if-e-best.best ≡ l.i = w.1 in
-    let g : c.if-e-best.high ≡ rank_key x.top = w.2 ∙ e in
-    (omega arith, rw (f, g) (seen-new es.list es.n l.i inside (omega arith) l.best l.high t.0 (rw e at t.1) l.invariant.1)))
-    (λ w.
-    let t = pick_no x.size l.best es.n l.high r.result w.0.left in
-    let f : c.if-e-best.best ≡ l.best = w.1 in
-    let g : c.if-e-best.high ≡ l.high = w.2 in
-    (omega arith, rw (f, g) (seen-stays es.list es.n l.i inside (omega arith) l.best l.high (rw e at t) l.invariant.1)))
-    c.if-e-best.branch
+    elim c.if-e-best.branch [
+      then-e-best w ↦
+        let t = pick_yes x.size l.best es.n l.high r.result w.if-e-best.true in
+        let f : c.if-e-best.best ≡ l.i = w.best-is in
+        let g : c.if-e-best.high ≡ rank_key x.top = w.high-is ∙ e in
+        (omega arith, rw (f, g) (seen-new es.list es.n l.i inside (omega arith) l.best l.high t.0 (rw e at t.1) l.invariant.1))
+      | else-e-best w ↦
+        let t = pick_no x.size l.best es.n l.high r.result w.if-e-best.false in
+        let f : c.if-e-best.best ≡ l.best = w.best-is in
+        let g : c.if-e-best.high ≡ l.high = w.high-is in
+        (omega arith, rw (f, g) (seen-stays es.list es.n l.i inside (omega arith) l.best l.high (rw e at t) l.invariant.1))
+    ]
 
 pub returns : goal.returns
 returns c =

@@ -35,7 +35,7 @@ returns c =
     record {
       block = refl;
       low = refl;
-      agree = λ room. agreed _ (node_in room c.args.n) h.result l.result (sym (held-length p (long (goal.at.returns c).After-highest-arg-1) c.requires.points.fits)) h.ensures l.ensures refl refl;
+      agree = λ room. agreed _ (node_in room c.args.n) h.result l.result (sym (held-length p (long (goal.at.returns c).Start) c.requires.points.fits)) h.ensures l.ensures refl refl;
       fits = λ b. record { block = b; size = omega (arith, c.requires.points.fits); top = λ e. absurd (omega arith); bottom = λ e. absurd (omega arith) };
       size = refl;
     }

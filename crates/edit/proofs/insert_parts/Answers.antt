@@ -21,22 +21,19 @@ use Rattle.edit.proofs.insert_parts.Goals.{In-loop-i, Start}
 long : (c : Start) → length c.args.batch.spots ≡ 80
 long c = search (rules, length-image)
 
-abbrev start : tie.In-loop invariant-loop decreases-loop → tie.Start invariant-loop decreases-loop
-start c = c.before.before.before.before.before.before.before.before
-
 -- the spot of a turn
-abbrev spot_of : tie.In-loop invariant-loop decreases-loop → Spot
-spot_of c = get_or (start c).args.t2.spots (c.before.loop.i - 1) blank
+abbrev spot_of : In-loop-i → Spot
+spot_of c = get_or c.args.batch.spots (c.loop-i.i - 1) blank
 
 -- with it one spot more is inserted
 turn : (c : In-loop-i) (b : Held)
-    → b ≡ insert_one (start c).args.r (spot_of c) (buffers (joined c.loop-i.high c.loop-i.points) (joined c.loop-i.low c.loop-i.inserts) (named c.loop-i.deletes))
-    → b ≡ insert_all (start c).args.r (drop (c.loop-i.i - 1) (held (start c).args.t2)) (held_in (start c).args.n)
+    → b ≡ insert_one c.args.r (spot_of c) (buffers (joined c.loop-i.high c.loop-i.points) (joined c.loop-i.low c.loop-i.inserts) (named c.loop-i.deletes))
+    → b ≡ insert_all c.args.r (drop (c.loop-i.i - 1) (held c.args.batch)) (held_in c.args.n)
 turn c b e =
-    let s = start c in
-    let a = s.args in
+    let a = c.args in
     let l = c.loop-i in
-    inserts-more a.r a.t2.spots a.t2.n (omega (arith, long s)) (held_in a.n) l.i (omega arith) l.invariant.0 l.invariant.1.holds e
+    let fits : length a.batch.spots ≡ 80 = search (rules, length-image) in
+    inserts-more a.r a.batch.spots a.batch.n (omega arith) (held_in a.n) l.i (omega arith) l.invariant.0 l.invariant.1.holds e
 
 pub loop-i-init : goal.loop-i-init
 loop-i-init c =
@@ -54,7 +51,7 @@ put-high-requires c =
     let l = c.loop-i in
     let w = c.without-others in
     let k = (spot_of (goal.at.put-high-requires c).In-loop-i).key in
-    (w.ensures.2, omega (arith, w.ensures.0, l.invariant.1.high.few, (start (goal.at.put-high-requires c).In-loop-i).requires.1), ap (λ (x : List Spot). has k (keys x)) w.ensures.1 ∙ spot-gone k (held l.high))
+    (w.ensures.2, omega (arith, w.ensures.0, l.invariant.1.high.few, c.requires.1), ap (λ (x : List Spot). has k (keys x)) w.ensures.1 ∙ spot-gone k (held l.high))
 
 pub loop-i-preserved-then-r-rank_key : goal.loop-i-preserved-then-r-rank_key
 loop-i-preserved-then-r-rank_key c =
@@ -64,7 +61,7 @@ loop-i-preserved-then-r-rank_key c =
     let i = c.without-inserts in
     let o = c.without-others in
     let h = c.put-high in
-    let high : (start (goal.at.loop-i-preserved-then-r-rank_key c).In-loop-i).args.r ≤ rank_key (spot_of (goal.at.loop-i-preserved-then-r-rank_key c).In-loop-i).key = omega (arith, c.if-r-rank_key.true, c.rank_key.ensures) in (
+    let high : c.args.r ≤ rank_key (spot_of (goal.at.loop-i-preserved-then-r-rank_key c).In-loop-i).key = omega (arith, c.if-r-rank_key.true, c.rank_key.ensures) in (
       omega (arith, l.invariant.0),
       gathered-high l.points l.inserts l.deletes l.high l.low g (spot_of (goal.at.loop-i-preserved-then-r-rank_key c).In-loop-i) (omega (arith, l.invariant.0)) (turn (goal.at.loop-i-preserved-then-r-rank_key c).In-loop-i) d.result d.ensures.0 d.ensures.1 d.ensures.2
           i.result o.result h.result high i.ensures.0 i.ensures.1 i.ensures.2 o.ensures.0 o.ensures.1 h.ensures.0 h.ensures.1 h.ensures.2,
@@ -75,7 +72,7 @@ put-low-requires c =
     let l = c.loop-i in
     let w = c.without-others-else-r-rank_key in
     let k = (spot_of (goal.at.put-low-requires c).In-loop-i).key in
-    (w.ensures.2, omega (arith, w.ensures.0, l.invariant.1.low.few, (start (goal.at.put-low-requires c).In-loop-i).requires.1), ap (λ (x : List Spot). has k (keys x)) w.ensures.1 ∙ spot-gone k (held l.low))
+    (w.ensures.2, omega (arith, w.ensures.0, l.invariant.1.low.few, c.requires.1), ap (λ (x : List Spot). has k (keys x)) w.ensures.1 ∙ spot-gone k (held l.low))
 
 pub loop-i-preserved : goal.loop-i-preserved
 loop-i-preserved c =
@@ -85,7 +82,7 @@ loop-i-preserved c =
     let p = c.without-points in
     let o = c.without-others-else-r-rank_key in
     let w = c.put-low in
-    let low : rank_key (spot_of (goal.at.loop-i-preserved c).In-loop-i).key < (start (goal.at.loop-i-preserved c).In-loop-i).args.r = omega (arith, c.if-r-rank_key.false, c.rank_key.ensures) in (
+    let low : rank_key (spot_of (goal.at.loop-i-preserved c).In-loop-i).key < c.args.r = omega (arith, c.if-r-rank_key.false, c.rank_key.ensures) in (
       omega (arith, l.invariant.0),
       gathered-low l.points l.inserts l.deletes l.high l.low g (spot_of (goal.at.loop-i-preserved c).In-loop-i) (omega (arith, l.invariant.0)) (turn (goal.at.loop-i-preserved c).In-loop-i) d.result d.ensures.0 d.ensures.1 d.ensures.2
           p.result o.result w.result low p.ensures.0 p.ensures.1 p.ensures.2 o.ensures.0 o.ensures.1 w.ensures.0 w.ensures.1 w.ensures.2,

@@ -16,14 +16,14 @@ pub returns : goal.returns
 returns c =
     let es = c.args.n.entries in
     let e = c.entries_before-entries.ensures in
-    let p = c.Below-key.ensures in
+    let p = c.below_key-points.ensures in
     let i = c.below_key-inserts.ensures in
     let d = c.keys_below-deletes.ensures in
     record {
       holds = same-held p.1 i.1 d.1;
       tidy = record { points = p.2; inserts = i.2; deletes = d.2 };
       entries = e.1;
-      count = e.0 ∙ left-count es.list es.n c.args.k (omega (arith, long (goal.at.returns c).After-below_key-points, c.requires.2)) c.requires.1;
+      count = e.0 ∙ left-count es.list es.n c.args.k (omega (arith, long (goal.at.returns c).Start, c.requires.2)) c.requires.1;
       level = refl;
       points = p.0;
       inserts = i.0;

@@ -27,7 +27,7 @@ returns c =
       holds = same-held p.1 i.1 d.1;
       tidy = record { points = p.2; inserts = i.2; deletes = d.2 };
       entries = opened rest.1 first e.1;
-      count = e.0 ∙ rest.0 ∙ right-count es.list es.n c.args.k (omega (arith, long (goal.at.returns c).After-replace-entries, c.requires.2)) k;
+      count = e.0 ∙ rest.0 ∙ right-count es.list es.n c.args.k (omega (arith, long (goal.at.returns c).Start, c.requires.2)) k;
       level = refl;
       points = p.0;
       inserts = i.0;

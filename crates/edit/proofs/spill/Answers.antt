@@ -56,7 +56,7 @@ pub returns : goal.returns
 returns c =
     let l = c.loop-points in
     let i = c.merge-inserts in
-    lowering-all c.args.n l.points l.gathered i.result l.invariant (omega arith) (omega arith) c.requires.0 (lengths (goal.at.returns c).Else-size-le64).1 (search (rules, length-image)) i.ensures.1
+    lowering-all c.args.n l.points l.gathered i.result l.invariant (omega arith) (omega arith) c.requires.0 (lengths (goal.at.returns c).Start).1 (search (rules, length-image)) i.ensures.1
     i.ensures.2
 
 pub lowest-low-requires : goal.lowest-low-requires

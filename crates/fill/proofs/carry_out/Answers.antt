@@ -8,7 +8,7 @@ use Rattle.fill.proofs.Turns.{replaced-ready, carry-failed, carry-child, carry-b
 use Rattle.fill.proofs.carry_out.Goals as goal
 
 pub returns-then-not-took : goal.returns-then-not-took
-returns-then-not-took c = let e = c.failed.ensures in carry-failed c.if-not-took.true e.0 e.2 e.3
+returns-then-not-took c = let e = c.failed.ensures in carry-failed (not-true _ c.if-not-took.true) e.0 e.2 e.3
 
 pub with_child-next-requires : goal.with_child-next-requires
 with_child-next-requires c = let w = c.requires in (go c.args.p.waits refl, w.2)
@@ -21,16 +21,16 @@ pub from_inserts-requires : goal.from_inserts-requires
 from_inserts-requires c = let w = c.requires in replaced-ready w.0 w.1 c.with_child-next.ensures
 
 pub returns-then-p-2 : goal.returns-then-p-2
-returns-then-p-2 c = carry-both c.if-not-took.false c.if-p.true c.if-p-2.true (record { next = c.with_child-next.result; replaced = c.with_child-next.ensures; up = c.from_inserts.ensures })
+returns-then-p-2 c = carry-both (not-false _ c.if-not-took.false) c.if-p.true c.if-p-2.true (record { next = c.with_child-next.result; replaced = c.with_child-next.ensures; up = c.from_inserts.ensures })
 
 pub from_top-requires : goal.from_top-requires
 from_top-requires c = let w = c.requires in replaced-ready w.0 w.1 c.with_child-next.ensures
 
 pub returns-then-p : goal.returns-then-p
-returns-then-p c = carry-child c.if-not-took.false c.if-p.true c.if-p-2.false (record { next = c.with_child-next.result; replaced = c.with_child-next.ensures; up = c.from_top.ensures })
+returns-then-p c = carry-child (not-false _ c.if-not-took.false) c.if-p.true c.if-p-2.false (record { next = c.with_child-next.result; replaced = c.with_child-next.ensures; up = c.from_top.ensures })
 
 pub returns-then-p-3 : goal.returns-then-p-3
-returns-then-p-3 c = carry-insert c.if-not-took.false c.if-p.false c.if-p-3.true c.from_inserts-then-p-3.ensures
+returns-then-p-3 c = carry-insert (not-false _ c.if-not-took.false) c.if-p.false c.if-p-3.true c.from_inserts-then-p-3.ensures
 
 pub returns : goal.returns
-returns c = carry_over c.if-not-took.false c.if-p.false c.if-p-3.false (record { node = c.without_deletes-node.result; is = refl; edited = c.without_deletes-node.ensures })
+returns c = carry_over (not-false _ c.if-not-took.false) c.if-p.false c.if-p-3.false (record { node = c.without_deletes-node.result; is = refl; edited = c.without_deletes-node.ensures })

@@ -18,7 +18,7 @@ loop-i-preserved c =
     let a = c.args in
     let l = c.loop-i in
     elim c.if-best-key.branch [
-      then-best-key w ↦ (
+      | then-best-key w ↦ (
         omega arith,
         subst (λ (r : KidPick). KidsBest a.t.now a.b a.span a.q a.most (l.i + 1) r) (sym w.best-is)
             (kids-take a.t.now a.b a.span a.q a.most l.i l.invariant.1 c.kid_key-key.ensures (omega arith) w.if-best-key.true),

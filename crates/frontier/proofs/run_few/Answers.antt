@@ -42,7 +42,7 @@ loop-i-preserved c =
     let on : l.i < c.args.to = c.loop-i-test.true in (
       omega arith,
       elim c.if-is_taken.branch [
-        then-is_taken w ↦ passed-taken l.invariant.1 c.read_key-k.ensures.0 c.requires.0 c.args.to c.requires.5 on (sym c.is_taken.ensures ∙ w.if-is_taken.true) w.top_key.ensures w.insert_few-n.ensures w.floor_few-floor-then-is_taken.ensures w.few-is w.n-is w.floor-is
+        | then-is_taken w ↦ passed-taken l.invariant.1 c.read_key-k.ensures.0 c.requires.0 c.args.to c.requires.5 on (sym c.is_taken.ensures ∙ w.if-is_taken.true) w.top_key.ensures w.insert_few-n.ensures w.floor_few-floor-then-is_taken.ensures w.few-is w.n-is w.floor-is
         | else-is_taken w ↦ passed-skip l.invariant.1 c.read_key-k.ensures.0 (sym c.is_taken.ensures ∙ w.if-is_taken.false) w.few-is w.n-is w.floor-is
       ],
     )

@@ -31,7 +31,7 @@ loop-b-preserved c =
     let h : l.b * 2048 + 2048 ≤ length t₀ = omega (arith, c.loop-b-test.true) in (
       omega arith,
       elim c.if-test_bit.branch [
-        then-test_bit w ↦ subst (λ (x : List ℕ). Undoing t₀ s m (l.b + 1) x) (sym (w.t-is ∙ w.copy_block.ensures)) (undoing-kept u (tested ∙ w.if-test_bit.true) (omega (arith, u.sized)) (omega (arith, c.requires.room)))
+        | then-test_bit w ↦ subst (λ (x : List ℕ). Undoing t₀ s m (l.b + 1) x) (sym (w.t-is ∙ w.copy_block.ensures)) (undoing-kept u (tested ∙ w.if-test_bit.true) (omega (arith, u.sized)) (omega (arith, c.requires.room)))
         | else-test_bit w ↦ subst (λ (x : List ℕ). Undoing t₀ s m (l.b + 1) x) (sym w.t-is) (undoing-clear u (tested ∙ w.if-test_bit.false))
       ],
     )

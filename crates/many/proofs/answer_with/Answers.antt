@@ -61,4 +61,4 @@ pub returns : goal.returns
 returns c =
     all-given _ _ _ _ _ c.count_all-all.ensures _ c.if-not-all.false (omega (arith, c.if-output-all.false)) refl c.give_all.ensures c.requires.0.matched
     c.copy_counts.ensures
-    (map_is _ c.args.read-map.now _ (c.count_all-all.auto.seen ∙ c.set_bit.auto.map ∙ length-replicate {A = ℕ} 512 0) c.requires.0.mapped c.copy.ensures)
+    (map_is _ c.args.read_map.now _ (c.count_all-all.auto.seen ∙ c.set_bit.auto.map ∙ length-replicate {A = ℕ} 512 0) c.requires.0.mapped c.copy.ensures)

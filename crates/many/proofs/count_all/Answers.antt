@@ -25,21 +25,17 @@ going : (ok : Bool) (i n : ℕ) → ok && ltb i n ≡ true → (ok ≡ true) × 
 going true i n h = (refl, omega (arith, ltb-true i n h))
 going false i n h = absurd (false≢true h)
 
--- from the test of the loop back to the start
-abbrev start : tie.In-loop invariant-loop decreases-loop → tie.Start invariant-loop decreases-loop
-start c = c.before.before.before.before.before.before.before
-
 -- what is known in the loop: none was broken, and the i-th has its part of the buffer and its number
 record Within (c : tie.In-loop invariant-loop decreases-loop) : Type 0 where
   ok : c.before.loop.ok ≡ true
-  more : c.before.loop.i + 1 ≤ (start c).args.b.n
+  more : c.before.loop.i + 1 ≤ c.args.b.n
   few : c.before.loop.i < 64
   room : 1536 * c.before.loop.i + 1536 ≤ length c.before.loop.few
   number : c.before.loop.i < length c.before.loop.each
 
 within : (c : In-loop-ok) → Within c
 within c =
-    let pre = (start c).requires.0 in
+    let pre = c.requires.0 in
     let l = c.loop-ok in
     let test = going l.ok l.i _ c.loop-ok-test.true in
     record {
@@ -70,7 +66,7 @@ loop-ok-preserved c =
       w.more,
       same_len_mid (1536 * l.i) (1536 * l.i + 1536 - 1536 * l.i) l.few c.count_one-one.new.few o.held.sized ∙ l.invariant.1,
       simp length-set l.invariant.2,
-      counting-next _ _ (start (goal.at.loop-ok-preserved c).In-loop-ok).requires.0.header l.invariant.3 w.ok (omega (arith, w.few, long (start (goal.at.loop-ok-preserved c).In-loop-ok))) _ wide o (λ j. omega (arith, bytes.given j)) (omega (arith, w.room, wide)) w.number,
+      counting-next _ _ c.requires.0.header l.invariant.3 w.ok (omega (arith, w.few, long (goal.at.loop-ok-preserved c).Start)) _ wide o (λ j. omega (arith, bytes.given j)) (omega (arith, w.room, wide)) w.number,
       still-more l.invariant.4 c.count_one-one.ensures.1,
     )
 

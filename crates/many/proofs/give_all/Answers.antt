@@ -17,20 +17,16 @@ loop-i-init c = giving-start _ _ _ _ _ c.requires
 long : (s : Start) → length s.args.b.all ≡ 64
 long s = search (rules, length-image)
 
--- from the test of the loop back to the start
-abbrev start : tie.In-loop invariant-loop decreases-loop → tie.Start invariant-loop decreases-loop
-start c = c.before.before.before.before.before.before.before
-
 -- what is known in the loop: the i-th has its part of the buffer, its number, and room
 record Within (c : tie.In-loop invariant-loop decreases-loop) : Type 0 where
   few : c.before.loop.i < 64
-  buffer : 1536 * c.before.loop.i + 1536 ≤ length (start c).args.few.now
-  number : c.before.loop.i < length (start c).args.each.now
-  left : c.before.loop.at + 12 * get_or (start c).args.each.now c.before.loop.i 0 ≤ length c.before.loop.output
+  buffer : 1536 * c.before.loop.i + 1536 ≤ length c.args.few.now
+  number : c.before.loop.i < length c.args.each.now
+  left : c.before.loop.at + 12 * get_or c.args.each.now c.before.loop.i 0 ≤ length c.before.loop.output
 
 within : (c : In-loop-i) → Within c
 within c =
-    let known = (start c).requires in
+    let known = c.requires in
     record {
       few = omega (arith, known.many, c.loop-i-test.true);
       buffer = omega (arith, known.buffer, c.loop-i-test.true);
@@ -42,7 +38,7 @@ pub give-requires : goal.give-requires
 give-requires c =
     let told = c.struct_told-in-loop-i-2-1.given in
     let l = c.loop-i in
-    givable _ _ _ _ _ (start (goal.at.give-requires c).In-loop-i).requires (long (start (goal.at.give-requires c).In-loop-i)) l.invariant c.loop-i-test.true (to_z-of_z w32 _ (record { sfits = told.0.1 })) (to_z-of_z w32 _ (record { sfits = told.1.0.1 })) (to_z-of_z w32 _ (record { sfits = told.1.1.0.1 })) _ refl
+    givable _ _ _ _ _ c.requires (long (goal.at.give-requires c).Start) l.invariant c.loop-i-test.true (to_z-of_z w32 _ (record { sfits = told.0.1 })) (to_z-of_z w32 _ (record { sfits = told.1.0.1 })) (to_z-of_z w32 _ (record { sfits = told.1.1.0.1 })) _ refl
     (1536 * l.i + 1536 - 1536 * l.i)
     (omega arith)
 
@@ -53,12 +49,12 @@ overflow_mul-at c =
 
 pub overflow_add-at : goal.overflow_add-at
 overflow_add-at c =
-    omega (arith, within (goal.at.overflow_add-at c).In-loop-i, c.loop-i.invariant.sized, (start (goal.at.overflow_add-at c).In-loop-i).well-formed)
+    omega (arith, within (goal.at.overflow_add-at c).In-loop-i, c.loop-i.invariant.sized, c.well-formed)
 
 pub loop-i-preserved : goal.loop-i-preserved
 loop-i-preserved c =
     let told = c.struct_told-in-loop-i-2-1.given in
-    giving-next _ _ _ _ _ (start (goal.at.loop-i-preserved c).In-loop-i).requires (long (start (goal.at.loop-i-preserved c).In-loop-i)) c.loop-i.invariant c.loop-i-test.true (to_z-of_z w32 _ (record { sfits = told.0.1 })) (to_z-of_z w32 _ (record { sfits = told.1.0.1 })) (to_z-of_z w32 _ (record { sfits = told.1.1.0.1 })) _ refl
+    giving-next _ _ _ _ _ c.requires (long (goal.at.loop-i-preserved c).Start) c.loop-i.invariant c.loop-i-test.true (to_z-of_z w32 _ (record { sfits = told.0.1 })) (to_z-of_z w32 _ (record { sfits = told.1.0.1 })) (to_z-of_z w32 _ (record { sfits = told.1.1.0.1 })) _ refl
     c.give.auto.output
     c.give.ensures
 

@@ -22,20 +22,16 @@ pub returns-then-read_map-counts : goal.returns-then-read_map-counts
 returns-then-read_map-counts c =
     many-lent _ _ _ _ _ _ (sym c.sized.ensures ∙ c.if-not-sized.false) c.if-read_map-counts.true c.refused-then-read_map-counts.ensures
 
--- from the second test back to the start
-abbrev start : tie.Else2 → tie.Start
-start c = c.before.before.before.before.before.before.before.before
-
 -- what is known once the lengths are right
 record Fitting (c : tie.Else2) : Type 0 where
-  sized : table_sized (length (start c).args.table.now) ≡ true
-  mapped : length (start c).args.read-map.now ≡ 512
-  matched : length (start c).args.counts.now ≡ (start c).args.b.n
+  sized : table_sized (length c.args.table.now) ≡ true
+  mapped : length c.args.read_map.now ≡ 512
+  matched : length c.args.counts.now ≡ c.args.b.n
 
 fitting : (c : Else-read_map-counts) → Fitting c
 fitting c =
-    let args = (start c).args in
-    let lengths = lengths-right args.read-map.now args.counts.now args.b.n c.if-read_map-counts.false in
+    let args = c.args in
+    let lengths = lengths-right args.read_map.now args.counts.now args.b.n c.if-read_map-counts.false in
     record { sized = sym c.sized.ensures ∙ c.if-not-sized.false; mapped = lengths.0; matched = lengths.1 }
 
 pub returns-then-b-gt64 : goal.returns-then-b-gt64
@@ -45,22 +41,18 @@ returns-then-b-gt64 c =
 
 pub header_ok-requires : goal.header_ok-requires
 header_ok-requires c =
-    sized-long (start (goal.at.header_ok-requires c).Else-read_map-counts).args.table.now (fitting (goal.at.header_ok-requires c).Else-read_map-counts).sized
+    sized-long c.args.table.now (fitting (goal.at.header_ok-requires c).Else-read_map-counts).sized
 
 pub returns-then-not-header_ok : goal.returns-then-not-header_ok
 returns-then-not-header_ok c =
     let k = fitting (goal.at.returns-then-not-header_ok c).Else-read_map-counts in
     many-header _ _ _ _ _ _ k.sized k.mapped k.matched (omega (arith, c.if-b-gt64.false)) (sym c.header_ok.ensures ∙ c.if-not-header_ok.true) c.refused-then-not-header_ok.ensures
 
--- from the test of block 0 back to the start
-abbrev begun : tie.Else4 → tie.Start
-begun c = start c.before.before.before.before
-
 -- all can be answered, with a buffer that has room for each
-answerable : (c : Else-not-header_ok) (few : List ℕ) → 1536 * (begun c).args.b.n ≤ length few
-    → Answerable (begun c).args.b (begun c).args.table.now few (begun c).args.counts.now (begun c).args.read-map.now
+answerable : (c : Else-not-header_ok) (few : List ℕ) → 1536 * c.args.b.n ≤ length few
+    → Answerable c.args.b c.args.table.now few c.args.counts.now c.args.read_map.now
 answerable c few room =
-    let k = (let args = (start c).args in let lengths = lengths-right args.read-map.now args.counts.now args.b.n c.if-read_map-counts.false in record { sized = sym c.sized.ensures ∙ c.if-not-sized.false; mapped = lengths.0; matched = lengths.1 }) in
+    let k = (let args = c.args in let lengths = lengths-right args.read_map.now args.counts.now args.b.n c.if-read_map-counts.false in record { sized = sym c.sized.ensures ∙ c.if-not-sized.false; mapped = lengths.0; matched = lengths.1 }) in
     record {
       sized = k.sized;
       mapped = k.mapped;

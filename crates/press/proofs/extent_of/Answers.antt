@@ -1,10 +1,10 @@
 -- `press::extent_of` meets its contract. The loop's invariant: the spots kept so far, and what the catalogue says of them.
 use mathlib.Core.Path.{◌∙◌}
-use mathlib.Core.Logic.{⊎_elim}
 use Prim.Native.Nat.{◌-◌}
 use native.Mathlib.Omega.{arith}
 use Rattle.press.proofs.Pieces.{Shown, shown-none, shown-room, shown-in, shown-out, shown-all, spot-inside, spot-limited}
 use Rattle.press.proofs.extent_of.Goals as goal
+use Rattle.press.proofs.extent_of.Goals.{then-p-rank_key, else-p-rank_key}
 
 pub loop-i-init : goal.loop-i-init
 loop-i-init c = shown-none c.args.spots.now c.args.p c.requires
@@ -29,10 +29,12 @@ pub loop-i-preserved : goal.loop-i-preserved
 loop-i-preserved c =
     let s = c.args.spots.now in
     let p = c.args.p in
-    ⊎_elim
-    (λ w. shown-in s p c.requires c.loop-i.invariant c.loop-i-test.true c.read_key-k.ensures.0 c.rank_key.ensures w.0.taken (w.2 ∙ w.1.ensures))
-    (λ w. shown-out s p c.requires c.loop-i.invariant c.loop-i-test.true c.read_key-k.ensures.0 c.rank_key.ensures w.0.left w.1)
-    c.if-p-rank_key.branch
+    elim c.if-p-rank_key.branch [
+      | then-p-rank_key w ↦
+          shown-in s p c.requires c.loop-i.invariant c.loop-i-test.true c.read_key-k.ensures.0 c.rank_key.ensures w.if-p-rank_key.true (w.e-is ∙ w.with_key-e.ensures)
+      | else-p-rank_key w ↦
+          shown-out s p c.requires c.loop-i.invariant c.loop-i-test.true c.read_key-k.ensures.0 c.rank_key.ensures w.if-p-rank_key.false w.e-is
+    ]
 
 pub returns : goal.returns
 returns c =

@@ -1,11 +1,11 @@
 -- `press::write_tile` meets its contract. The loop's invariant: the spots kept so far stand at the front of the block.
-use mathlib.Core.Logic.{⊎_elim}
 use mathlib.Core.Path.{refl, sym, ◌∙◌}
 use Prim.Native.Nat.{◌-◌}
 use native.Mathlib.Omega.{arith}
 use Rattle.press.proofs.PutBytes.{zeroed}
 use Rattle.press.proofs.Pieces.{Laid, laid_none, laid-room, laid_in, laid_out_lem, laid-all, spot-inside, spot-limited}
 use Rattle.press.proofs.write_tile.Goals as goal
+use Rattle.press.proofs.write_tile.Goals.{then-p-rank_key, else-p-rank_key}
 
 pub loop-i-init : goal.loop-i-init
 loop-i-init c =
@@ -43,12 +43,14 @@ pub loop-i-preserved : goal.loop-i-preserved
 loop-i-preserved c =
     let s = c.args.spots.now in
     let p = c.args.p in
-    ⊎_elim
-    (λ w. laid_in s p c.requires.0 2048 refl c.loop-i.invariant c.loop-i-test.true c.read_spot-x.ensures.0 c.rank_key.ensures w.0.taken
-    (w.5 ∙ w.2.ensures) w.6)
-    (λ w. laid_out_lem s p c.requires.0 2048 refl c.loop-i.invariant c.loop-i-test.true c.read_spot-x.ensures.0 c.rank_key.ensures w.0.left
-    w.1 w.2)
-    c.if-p-rank_key.branch
+    elim c.if-p-rank_key.branch [
+      | then-p-rank_key w ↦
+          laid_in s p c.requires.0 2048 refl c.loop-i.invariant c.loop-i-test.true c.read_spot-x.ensures.0 c.rank_key.ensures w.if-p-rank_key.true
+          (w.s-is ∙ w.write_spot.ensures) w.at-is
+      | else-p-rank_key w ↦
+          laid_out_lem s p c.requires.0 2048 refl c.loop-i.invariant c.loop-i-test.true c.read_spot-x.ensures.0 c.rank_key.ensures w.if-p-rank_key.false
+          w.s-is w.at-is
+    ]
 
 pub shape_of-s : goal.shape_of-s
 shape_of-s c = c.loop-i.invariant.long ∙ sym c.requires.1

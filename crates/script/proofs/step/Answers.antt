@@ -13,7 +13,7 @@ slice_bounds-call-end-2 c =
 
 pub slice_bounds-call-end-4 : goal.slice_bounds-call-end-4
 slice_bounds-call-end-4 c =
-    front_long _ c.smaller-b.result c.args.read-map.now c.smaller-b.ensures
+    front_long _ c.smaller-b.result c.args.read_map.now c.smaller-b.ensures
 
 pub slice_bounds-call-end-6 : goal.slice_bounds-call-end-6
 slice_bounds-call-end-6 c =
@@ -28,7 +28,7 @@ returns c =
     let call = c.call in
     let a = c.args in
     let w = a.scratch.now in
-    let m = a.read-map.now in
+    let m = a.read_map.now in
     let v = a.counts.now in
     let o = a.output.now in
     let i = c.smaller-c in

@@ -21,7 +21,7 @@ use Rattle.settle.proofs.Pushing.{work-as, push-fails, push-stops, push-none, pu
 use Rattle.settle.proofs.Refining.{refine-fails, refine-done}
 use Rattle.settle.proofs.Finishing.{finish-fails, finish-done, finish-one, left-fails, right-fails, finish-two}
 use Rattle.settle.proofs.+finish_push_settle_split.Goals as goal
-use Rattle.settle.proofs.+finish_push_settle_split.Goals.{finish-After-fill-f, push-Else-level-n, split-After-half-upper}
+use Rattle.settle.proofs.+finish_push_settle_split.Goals.{finish-After-fill-f, push-Else-level-n, settle-After-receive-full, split-After-half-upper}
 
 -- the push and the filling as one step
 refined : (t : ℕ) (c : finish-After-fill-f t)
@@ -36,7 +36,7 @@ refined t c =
     let k = c.push-w.ensures in
     let f = c.fill-f.ensures in
     let g = c.fill-f.result in
-    (kept_trans k.0 f.0, refine-done k.1 c.if-not-w.false f.1 _ (sizes-right g.ok g.node.inserts.n g.node.deletes.n))
+    (kept_trans k.kept f.kept, refine-done k.worked (not-false _ c.if-not-w.false) f.filled _ (sizes-right g.ok g.node.inserts.n g.node.deletes.n))
 
 pub finish-push-w-requires : goal.finish-push-w-requires
 finish-push-w-requires t c = (omega (arith, c.decreases), c.requires.0)
@@ -45,21 +45,21 @@ pub finish-returns-then-not-w : goal.finish-returns-then-not-w
 finish-returns-then-not-w t c =
     let k = c.push-w.ensures in
     let e = c.not_finished.ensures in
-    (k.0, finish-fails (refine-fails k.1 c.if-not-w.true) e.0 e.1 e.2)
+    record { kept = k.kept; finished = finish-fails (refine-fails k.worked (not-true _ c.if-not-w.true)) e.0 e.1 e.2 }
 
 pub finish-fill-f-requires : goal.finish-fill-f-requires
 finish-fill-f-requires t c = c.push-w.ensures.worked.works
 
 pub finish-returns-then-not-ok : goal.finish-returns-then-not-ok
 finish-returns-then-not-ok t c =
-    let r = refined t (goal.at.finish-returns-then-not-ok t c).finish-After-fill-f in
+    let r = refined t (goal.at.finish-returns-then-not-ok t c).After-fill-f in
     let e = c.not_finished-then-not-ok.ensures in
-    (r.0, finish-fails r.1 e.0 e.1 e.2)
+    record { kept = r.0; finished = finish-fails r.1 e.0 e.1 e.2 }
 
 pub finish-write_node-requires : goal.finish-write_node-requires
 finish-write_node-requires t c =
     let w = c.requires in
-    let r = refined t (goal.at.finish-write_node-requires t c).finish-After-t-2-1 in
+    let r = refined t (goal.at.finish-write_node-requires t c).After-fill-f in
     (undoable-kept r.0 w.0.works.undoable, rw r.0.table w.1, refined-stores r.1 c.if-not-ok.false)
 
 pub finish-entry_for-entry-requires : goal.finish-entry_for-entry-requires
@@ -67,9 +67,9 @@ finish-entry_for-entry-requires t c = c.fill-f.ensures.filled.works.tidy
 
 pub finish-returns : goal.finish-returns
 finish-returns t c =
-    let r = refined t (goal.at.finish-returns t c).finish-After-slice_known-7-1 in
+    let r = refined t (goal.at.finish-returns t c).After-fill-f in
     let q = c.write_node.ensures in
-    (kept_trans r.0 q.0, finish-done r.1 c.if-not-ok.false q.1 c.entry_for-entry.ensures)
+    record { kept = kept_trans r.0 q.0; finished = finish-done r.1 c.if-not-ok.false q.1 c.entry_for-entry.ensures }
 
 -- there is a level below, and room for another entry
 roomy : (t : ℕ) (c : push-Else-level-n t)
@@ -77,15 +77,15 @@ roomy : (t : ℕ) (c : push-Else-level-n t)
 roomy t c = let a = c.args in may-push a.level a.n.entries.n c.if-level-n.false
 
 pub push-returns-then-n : goal.push-returns-then-n
-push-returns-then-n t c = (kept_refl, work-as c.handed.ensures (push-none c.requires))
+push-returns-then-n t c = record { kept = kept_refl; worked = work-as c.handed.ensures (push-none c.requires) }
 
 pub push-returns-then-level-n : goal.push-returns-then-level-n
-push-returns-then-level-n t c = (kept_refl, work-as c.handed-then-level-n.ensures (push-fails false _ c.requires kept_refl (omega arith) (λ lo hi f o. refl)))
+push-returns-then-level-n t c = record { kept = kept_refl; worked = work-as c.handed-then-level-n.ensures (push-fails false _ c.requires kept_refl (omega arith) (λ lo hi f o. refl)) }
 
 pub push-pick-p-requires : goal.push-pick-p-requires
 push-pick-p-requires t c =
     let w = c.requires in
-    (w.works.tidy, (roomy t (goal.at.push-pick-p-requires t c).push-Else-level-n).1, w.works.entries.few, w.rise)
+    (w.works.tidy, (roomy t (goal.at.push-pick-p-requires t c).Else-level-n).1, w.works.entries.few, w.rise)
 
 pub push-entry-e-requires : goal.push-entry-e-requires
 push-entry-e-requires t c = (c.pick-p.ensures.there, c.requires.works.entries.few)
@@ -95,7 +95,7 @@ push-settle-r-requires t c =
     let w = c.requires in
     let p = c.pick-p.ensures in
     let i = w.works.inside c.entry-e.result c.entry-e.ensures.there in (
-      omega (arith, (roomy t (goal.at.push-settle-r-requires t c).push-After-entry-e).0, c.decreases),
+      omega (arith, (roomy t (goal.at.push-settle-r-requires t c).Else-level-n).0, c.decreases),
       record {
         undoable = w.works.undoable;
         inside = i.1;
@@ -111,50 +111,48 @@ push-settle-r-requires t c =
 pub push-returns-then-not-r : goal.push-returns-then-not-r
 push-returns-then-not-r t c =
     let k = c.settle-r.ensures in
-    let pushed = push-stops c.requires k.0 (roomy t (goal.at.push-returns-then-not-r t c).push-After-entry-e).0 c.entry-e.ensures c.pick-p.ensures k.1 in
-    (k.0, work-as c.handed-then-not-r.ensures pushed)
+    let pushed = push-stops c.requires k.kept (roomy t (goal.at.push-returns-then-not-r t c).Else-level-n).0 c.entry-e.ensures c.pick-p.ensures k.settled in
+    record { kept = k.kept; worked = work-as c.handed-then-not-r.ensures pushed }
 
 pub push-put_back-node-requires : goal.push-put_back-node-requires
 push-put_back-node-requires t c =
     let p = c.pick-p.ensures in
     let z = ap (λ (es : Entries). es.n) p.entries in
-    (omega (arith, z, p.there), omega (arith, z, (roomy t (goal.at.push-put_back-node-requires t c).push-After-settle-arg-3-1).2))
+    (omega (arith, z, p.there), omega (arith, z, (roomy t (goal.at.push-put_back-node-requires t c).Else-level-n).2))
 
 pub push-returns : goal.push-returns
 push-returns t c =
-    let m = roomy t (goal.at.push-returns t c).push-After-settle-arg-3-1 in
+    let m = roomy t (goal.at.push-returns t c).Else-level-n in
     let k = c.settle-r.ensures in
     let entry = c.entry-e.ensures in
     let picked = c.pick-p.ensures in
-    (k.0, work-as c.handed-2.ensures (push-done c.requires k.0 m.0 m.2 entry picked k.1 c.if-not-r.false c.put_back-node.ensures))
-
-abbrev Received : ℕ → Type 0
-Received t = settle-lts.After-receive (settle-claims t) (settle-at t) settle.Post
+    record { kept = k.kept; worked = work-as c.handed-2.ensures (push-done c.requires k.kept m.0 m.2 entry picked k.settled (not-false _ c.if-not-r.false) c.put_back-node.ensures) }
 
 -- the node that took in the batch stands for its block
-stood : (t : ℕ) (c : Received t)
-    → let a = c.before.before.before.before.before.before.before.before.args in
-    StandsFor a.t.now a.s.now a.map.now a.b a.level a.asked c.receive.result a.spare a.left
+stood : (t : ℕ) (c : settle-After-receive-full t)
+    → let a = c.args in
+    StandsFor a.t.now a.s.now a.map.now a.b a.level a.asked c.receive-full.result a.spare a.left
 stood t c =
-    let start = c.before.before.before.before.before.before.before.before in
-    let r = c.receive.ensures in
-    let ok = sym c.before.before.before.block-ok.ensures ∙ not-false _ c.before.before.if1.false in
-    stands start.args.asked start.requires.1 ok r.loaded r.taken r.long_e r.long_i r.long_d
+    let r = c.receive-full.ensures in
+    let ok = sym c.block_ok.ensures ∙ c.if-not-block_ok.false in
+    stands c.args.asked c.requires ok r.loaded r.taken r.long_e r.long_i r.long_d
 
 -- what was placed is settled
-settle-taken : (t : ℕ) (c : Received t) {t' : List ℕ} {r : Settled}
-    → let a = c.before.before.before.before.before.before.before.before.args in
-    PlacePost a.t.now t' a.level a.b a.asked c.receive.result a.spare a.left r
+settle-taken : (t : ℕ) (c : settle-After-receive-full t) {t' : List ℕ} {r : Settled}
+    → let a = c.args in
+    PlacePost a.t.now t' a.level a.b a.asked c.receive-full.result a.spare a.left r
     → SettlePost a.t.now t' a.level a.b a.asked (held a.inserts) (named a.deletes) a.spare a.left r
 settle-taken t c =
-    let a = c.before.before.before.before.before.before.before.before.args in
-    settle-placed (stood t c) (received a.level a.asked c.receive.ensures.loaded c.receive.ensures.taken)
+    let a = c.args in
+    let q = c.receive-full.ensures in
+    let ok = sym c.block_ok.ensures ∙ c.if-not-block_ok.false in
+    settle-placed (stands a.asked c.requires ok q.loaded q.taken q.long_e q.long_i q.long_d) (received a.level a.asked q.loaded q.taken)
 
 pub settle-block_ok-requires : goal.settle-block_ok-requires
 settle-block_ok-requires t c = let w = c.requires in omega (arith, w.undoable.whole, w.inside)
 
 pub settle-returns-then-not-block_ok : goal.settle-returns-then-not-block_ok
-settle-returns-then-not-block_ok t c = let e = c.not_settled.ensures in (kept_refl, settle-refused e.0 (omega (arith, e.1)) (sym c.block_ok.ensures ∙ c.if-not-block_ok.true))
+settle-returns-then-not-block_ok t c = let e = c.not_settled.ensures in record { kept = kept_refl; settled = settle-refused e.0 (omega (arith, e.1)) (sym c.block_ok.ensures ∙ c.if-not-block_ok.true) }
 
 pub settle-receive-full-requires : goal.settle-receive-full-requires
 settle-receive-full-requires t c =
@@ -164,38 +162,38 @@ settle-receive-full-requires t c =
 
 pub settle-split-requires : goal.settle-split-requires
 settle-split-requires t c =
-    let st = stood t (goal.at.settle-split-requires t c).settle-After-receive-full in
+    let st = stood t (goal.at.settle-split-requires t c).After-receive-full in
     (omega (arith, c.decreases), (st, must-cut st c.must_split.ensures c.if-must_split.true))
 
 pub settle-returns-then-must_split : goal.settle-returns-then-must_split
-settle-returns-then-must_split t c = let k = c.split.ensures in (k.0, settle-taken t (goal.at.settle-returns-then-must_split t c).settle-After-receive-full k.1)
+settle-returns-then-must_split t c = let k = c.split.ensures in record { kept = k.kept; settled = settle-taken t (goal.at.settle-returns-then-must_split t c).After-receive-full k.placed }
 
 pub settle-finish-x-requires : goal.settle-finish-x-requires
 settle-finish-x-requires t c =
-    let st = stood t (goal.at.settle-finish-x-requires t c).settle-After-receive-full in
+    let st = stood t (goal.at.settle-finish-x-requires t c).After-receive-full in
     (omega (arith, c.decreases), (stands-push st (points-few c.receive-full.ensures.taken c.must_split.ensures c.if-must_split.false), st.inside))
 
 pub settle-returns-then-not-x : goal.settle-returns-then-not-x
 settle-returns-then-not-x t c =
     let e = c.not_settled-then-not-x.ensures in
     let k = c.finish-x.ensures in
-    let failed = c.if-not-x.true in
-    (k.0, settle-taken t (goal.at.settle-returns-then-not-x t c).settle-After-receive-full (place-fails e.0 (omega (arith, e.1, k.1.same, k.1.refined.work.fewer)) e.2 (λ lo hi f low sound apart o. k.1.whole failed ∙ k.1.refined.work.whole lo hi f o)))
+    let failed = (not-true _ c.if-not-x.true) in
+    record { kept = k.kept; settled = settle-taken t (goal.at.settle-returns-then-not-x t c).After-receive-full (place-fails e.0 (omega (arith, e.1, k.finished.same, k.finished.refined.work.fewer)) e.2 (λ lo hi f low sound apart o. k.finished.whole failed ∙ k.finished.refined.work.whole lo hi f o)) }
 
 pub settle-returns : goal.settle-returns
 settle-returns t c =
     let k = c.finish-x.ensures in
-    (k.0, settle-taken t (goal.at.settle-returns t c).settle-After-receive-full (finish-one k.1 (stood t (goal.at.settle-returns t c).settle-After-receive-full) c.low_of-low.ensures c.if-not-x.false))
+    record { kept = k.kept; settled = settle-taken t (goal.at.settle-returns t c).After-receive-full (finish-one k.finished (stood t (goal.at.settle-returns t c).After-receive-full) c.low_of-low.ensures (not-false _ c.if-not-x.false)) }
 
 -- its halves
-abbrev halves-at : (t : ℕ) → split-lts.After-half2 (split-claims t) (split_at t) split.Post → Halves
-halves-at t c = record { sep = c.before.before.before.cut-key.result; left = c.before.half.result; right = c.half2.result }
+abbrev halves-at : (t : ℕ) → split-After-half-upper t → Halves
+halves-at t c = record { sep = c.cut_key-sep.result; left = c.half-lower.result; right = c.half-upper.result }
 
 halved : (t : ℕ) (c : split-After-half-upper t) → Halved c.args.n (halves-at t c)
 halved t c = record { key = c.cut_key-sep.ensures; left = c.half-lower.ensures.below refl; right = c.half-upper.ensures.above refl }
 
 pub split-returns-then-left-eq0 : goal.split-returns-then-left-eq0
-split-returns-then-left-eq0 t c = let e = c.not_settled.ensures in (kept_refl, place-fails e.0 (omega (arith, e.1)) e.2 (λ lo hi f low sound apart o. refl))
+split-returns-then-left-eq0 t c = let e = c.not_settled.ensures in record { kept = kept_refl; placed = place-fails e.0 (omega (arith, e.1)) e.2 (λ lo hi f low sound apart o. refl) }
 
 pub split-last_of-c-requires : goal.split-last_of-c-requires
 split-last_of-c-requires t c =
@@ -213,7 +211,7 @@ pub split-half-upper-requires : goal.split-half-upper-requires
 split-half-upper-requires t c = let w = c.requires in (w.0.tidy, cut-halves c.args.n w.1)
 
 pub split-returns-then-lower-upper : goal.split-returns-then-lower-upper
-split-returns-then-lower-upper t c = let e = c.not_settled-then-lower-upper.ensures in (kept_refl, place-fails e.0 (omega (arith, e.1)) e.2 (λ lo hi f low sound apart o. refl))
+split-returns-then-lower-upper t c = let e = c.not_settled-then-lower-upper.ensures in record { kept = kept_refl; placed = place-fails e.0 (omega (arith, e.1)) e.2 (λ lo hi f low sound apart o. refl) }
 
 pub split-overflow_sub-left : goal.split-overflow_sub-left
 split-overflow_sub-left t c = let h = c.if-left-eq0.false in omega (arith, h)
@@ -222,22 +220,22 @@ pub split-finish-x-requires : goal.split-finish-x-requires
 split-finish-x-requires t c =
     let w = c.requires in
     let few = both-few c.half-lower.result.points.n c.half-upper.result.points.n c.if-lower-upper.false in
-    (omega (arith, c.decreases), (left-push w.0 w.1 (halved t (goal.at.split-finish-x-requires t c).split-After-half-upper) few.0, w.0.inside))
+    (omega (arith, c.decreases), (left-push w.0 w.1 (halved t (goal.at.split-finish-x-requires t c).After-half-upper) few.0, w.0.inside))
 
 pub split-returns-then-not-x : goal.split-returns-then-not-x
 split-returns-then-not-x t c =
     let w = c.requires in
     let e = c.not_settled-then-not-x.ensures in
     let k = c.finish-x.ensures in
-    (k.0, place-fails e.0 (omega (arith, e.1, k.1.same, k.1.refined.work.fewer)) e.2 (λ lo hi f low sound apart o. left-fails w.0 w.1 (halved t (goal.at.split-returns-then-not-x t c).split-After-half-upper) k.1 c.if-not-x.true lo hi f o))
+    record { kept = k.kept; placed = place-fails e.0 (omega (arith, e.1, k.finished.same, k.finished.refined.work.fewer)) e.2 (λ lo hi f low sound apart o. left-fails w.0 w.1 (halved t (goal.at.split-returns-then-not-x t c).After-half-upper) k.finished (not-true _ c.if-not-x.true) lo hi f o) }
 
 pub split-finish-y-requires : goal.split-finish-y-requires
 split-finish-y-requires t c =
     let w = c.requires in
     let k = c.finish-x.ensures in
     let few = both-few c.half-lower.result.points.n c.half-upper.result.points.n c.if-lower-upper.false in
-    let less = k.1.refined.work.fewer in
-    (omega (arith, c.decreases), (push_kept (right-push w.0 w.1 (halved t (goal.at.split-finish-y-requires t c).split-After-half-upper) few.1) k.0 (omega (arith, k.1.same, less)), rw k.0.table (last-inside w.0.spares w.0.less c.last_of-c.ensures).1))
+    let less = k.finished.refined.work.fewer in
+    (omega (arith, c.decreases), (push_kept (right-push w.0 w.1 (halved t (goal.at.split-finish-y-requires t c).After-half-upper) few.1) k.kept (omega (arith, k.finished.same, less)), rw k.kept.table (last-inside w.0.spares w.0.less c.last_of-c.ensures).1))
 
 pub split-returns-then-not-y : goal.split-returns-then-not-y
 split-returns-then-not-y t c =
@@ -245,8 +243,8 @@ split-returns-then-not-y t c =
     let e = c.not_settled-then-not-y.ensures in
     let k = c.finish-x.ensures in
     let j = c.finish-y.ensures in
-    let went = c.if-not-x.false in
-    (kept_trans k.0 j.0, place-fails e.0 (omega (arith, e.1, k.1.same, k.1.refined.work.fewer, j.1.same, j.1.refined.work.fewer)) e.2 (λ lo hi f low sound apart o. right-fails w.0 w.1 (halved t (goal.at.split-returns-then-not-y t c).split-After-half-upper) k.1 went j.1 c.if-not-y.true lo hi f sound apart o))
+    let went = (not-false _ c.if-not-x.false) in
+    record { kept = kept_trans k.kept j.kept; placed = place-fails e.0 (omega (arith, e.1, k.finished.same, k.finished.refined.work.fewer, j.finished.same, j.finished.refined.work.fewer)) e.2 (λ lo hi f low sound apart o. right-fails w.0 w.1 (halved t (goal.at.split-returns-then-not-y t c).After-half-upper) k.finished went j.finished (not-true _ c.if-not-y.true) lo hi f sound apart o) }
 
 pub split-returns : goal.split-returns
 split-returns t c =
@@ -254,43 +252,43 @@ split-returns t c =
     let h = c.if-left-eq0.false in
     let k = c.finish-x.ensures in
     let j = c.finish-y.ensures in
-    (kept_trans k.0 j.0, finish-two w.0 w.1 (halved t (goal.at.split-returns t c).split-After-struct_known-2-1) k.1 c.if-not-x.false j.1 c.low_of-low.ensures c.if-not-y.false (omega (arith, h)) c.last_of-c.ensures c.both.ensures)
+    record { kept = kept_trans k.kept j.kept; placed = finish-two w.0 w.1 (halved t (goal.at.split-returns t c).After-half-upper) k.finished (not-false _ c.if-not-x.false) j.finished c.low_of-low.ensures (not-false _ c.if-not-y.false) (omega (arith, h)) c.last_of-c.ensures c.both.ensures }
 
 pub finish-shape_of-t-then-not-ok : goal.finish-shape_of-t-then-not-ok
-finish-shape_of-t-then-not-ok t c = (finish-returns-then-not-ok t c).0.table
+finish-shape_of-t-then-not-ok t c = (finish-returns-then-not-ok t c).kept.table
 
 pub finish-shape_of-s-then-not-ok : goal.finish-shape_of-s-then-not-ok
-finish-shape_of-s-then-not-ok t c = (finish-returns-then-not-ok t c).0.scratch
+finish-shape_of-s-then-not-ok t c = (finish-returns-then-not-ok t c).kept.scratch
 
 pub finish-shape_of-map-then-not-ok : goal.finish-shape_of-map-then-not-ok
-finish-shape_of-map-then-not-ok t c = (finish-returns-then-not-ok t c).0.mapped
+finish-shape_of-map-then-not-ok t c = (finish-returns-then-not-ok t c).kept.mapped
 
 pub finish-shape_of-t : goal.finish-shape_of-t
-finish-shape_of-t t c = (finish-returns t c).0.table
+finish-shape_of-t t c = (finish-returns t c).kept.table
 
 pub finish-shape_of-s : goal.finish-shape_of-s
-finish-shape_of-s t c = (finish-returns t c).0.scratch
+finish-shape_of-s t c = (finish-returns t c).kept.scratch
 
 pub finish-shape_of-map : goal.finish-shape_of-map
-finish-shape_of-map t c = (finish-returns t c).0.mapped
+finish-shape_of-map t c = (finish-returns t c).kept.mapped
 
 pub push-overflow_sub-level : goal.push-overflow_sub-level
-push-overflow_sub-level t c = omega (arith, (roomy t (goal.at.push-overflow_sub-level t c).push-After-pick-p).0)
+push-overflow_sub-level t c = omega (arith, (roomy t (goal.at.push-overflow_sub-level t c).Else-level-n).0)
 
 pub split-shape_of-t-then-not-y : goal.split-shape_of-t-then-not-y
-split-shape_of-t-then-not-y t c = (split-returns-then-not-y t c).0.table
+split-shape_of-t-then-not-y t c = (split-returns-then-not-y t c).kept.table
 
 pub split-shape_of-s-then-not-y : goal.split-shape_of-s-then-not-y
-split-shape_of-s-then-not-y t c = (split-returns-then-not-y t c).0.scratch
+split-shape_of-s-then-not-y t c = (split-returns-then-not-y t c).kept.scratch
 
 pub split-shape_of-map-then-not-y : goal.split-shape_of-map-then-not-y
-split-shape_of-map-then-not-y t c = (split-returns-then-not-y t c).0.mapped
+split-shape_of-map-then-not-y t c = (split-returns-then-not-y t c).kept.mapped
 
 pub split-shape_of-t : goal.split-shape_of-t
-split-shape_of-t t c = (split-returns t c).0.table
+split-shape_of-t t c = (split-returns t c).kept.table
 
 pub split-shape_of-s : goal.split-shape_of-s
-split-shape_of-s t c = (split-returns t c).0.scratch
+split-shape_of-s t c = (split-returns t c).kept.scratch
 
 pub split-shape_of-map : goal.split-shape_of-map
-split-shape_of-map t c = (split-returns t c).0.mapped
+split-shape_of-map t c = (split-returns t c).kept.mapped

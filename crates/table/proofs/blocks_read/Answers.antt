@@ -24,17 +24,17 @@ counted map l e = e ∙ ap (λ (k : ℕ). ones_below map (8 * k)) l
 
 pub returns-then-read_map-ne512 : goal.returns-then-read_map-ne512
 returns-then-read_map-ne512 c =
-    let map = c.args.read-map.now in
+    let map = c.args.read_map.now in
     record { answered = c.plain_answer.ensures ∙ sym (ap (chosen map) (ne_eqb (length map) 512 c.if-read_map-ne512.true)) }
 
 pub overflow_cast-result : goal.overflow_cast-result
 overflow_cast-result c =
-    let map = c.args.read-map.now in
+    let map = c.args.read_map.now in
     let l : length map ≡ 512 = omega (arith, c.if-read_map-ne512.false) in
     omega (arith, counted map l c.ones-n.ensures, ones-le-bits map 4096)
 
 pub returns : goal.returns
 returns c =
-    let map = c.args.read-map.now in
+    let map = c.args.read_map.now in
     let l : length map ≡ 512 = omega (arith, c.if-read_map-ne512.false) in
     record { answered = ap (answer 0) (counted map l c.ones-n.ensures) ∙ sym (ap (chosen map) (eq-eqb (length map) 512 l)) }

@@ -18,7 +18,7 @@ pub returns-then-not-sized : goal.returns-then-not-sized
 returns-then-not-sized c =
     let args = c.args in
     walk-early _ _ _ 0 _
-    (number_short (with_output args.table.now args.output.now args.read-map.now) (report args.x1 args.x2 args.y)
+    (number_short (with_output args.table.now args.output.now args.read_map.now) (report args.x1 args.x2 args.y)
     (sym c.sized.ensures ∙ c.if-not-sized.true))
     c.plain_answer.ensures
 
@@ -26,9 +26,9 @@ pub returns-then-read_map-ne512 : goal.returns-then-read_map-ne512
 returns-then-read_map-ne512 c =
     let args = c.args in
     walk-early _ _ _ 1 _
-    (number-lent (with_output args.table.now args.output.now args.read-map.now) (report args.x1 args.x2 args.y)
+    (number-lent (with_output args.table.now args.output.now args.read_map.now) (report args.x1 args.x2 args.y)
     (sym c.sized.ensures ∙ c.if-not-sized.false)
-    (ne_eqb (length args.read-map.now) 512 (λ h. omega arith)))
+    (ne_eqb (length args.read_map.now) 512 (λ h. omega arith)))
     c.plain_answer-then-read_map-ne512.ensures
 
 pub size-all-requires : goal.size-all-requires
@@ -76,7 +76,7 @@ give-requires c =
 pub returns : goal.returns
 returns c =
     let fits = c.ranges in
-    let mapped : length c.args.read-map.now ≡ 512 = omega (arith, c.if-read_map-ne512.false) in
+    let mapped : length c.args.read_map.now ≡ 512 = omega (arith, c.if-read_map-ne512.false) in
     let counted = c.size-all.ensures.0 in
     report-given _ _ _ _ _ _
     (sym c.sized.ensures ∙ c.if-not-sized.false)
@@ -89,4 +89,4 @@ returns c =
     (omega (arith, c.if-output-all.false))
     refl
     (rw (to_z-of_z w32 _ fits.x1, to_z-of_z w32 _ fits.x2, to_z-of_z w32 _ fits.y) at c.give.ensures)
-    (map_is _ c.args.read-map.now _ counted.sized mapped c.copy.ensures)
+    (map_is _ c.args.read_map.now _ counted.sized mapped c.copy.ensures)

@@ -14,38 +14,36 @@ use mathlib.Core.Path.{◌≡◌, refl, sym, ◌∙◌}
 use borrow.Author.Rules.{rules}
 use native.Mathlib.Omega.{arith}
 use Rattle.table.proofs.top.Goals as goal
+use Rattle.table.proofs.top.Goals.{After-top_query-q}
 
 -- ---- once the query is made
 
-abbrev start : tie.After-top-query → tie.Start
-start p = p.before.before.before.before.before.before.before.before
+module _ (p : After-top_query-q) where
+  sized : table_sized (length p.args.table.now) ≡ true
+  sized = sym p.sized.ensures ∙ p.if-not-sized.false
 
-module _ (p : tie.After-top-query) where
-  sized : table_sized (length (start p).args.table.now) ≡ true
-  sized = sym p.before.before.before.before.sized.ensures ∙ not-false _ p.before.before.before.if1.false
+  mapped : length p.args.read_map.now ≡ 512
+  mapped = omega (arith, p.if-read_map-ne512.false)
 
-  mapped : length (start p).args.read-map.now ≡ 512
-  mapped = omega (arith, p.before.before.if2.left)
+  lent : eqb (length p.args.read_map.now) 512 ≡ true
+  lent = eq-eqb (length p.args.read_map.now) 512 mapped
 
-  lent : eqb (length (start p).args.read-map.now) 512 ≡ true
-  lent = eq-eqb (length (start p).args.read-map.now) 512 mapped
-
-  asks : p.top-query.result ≡ top_query (start p).args.x1 (start p).args.x2 0
-  asks = top-asks _ _ _ _ 0 _ (to_z-of_z w32 _ (start p).fits.x1) (to_z-of_z w32 _ (start p).fits.x2) p.top-query.ensures
+  asks : p.top_query-q.result ≡ top_query p.args.x1 p.args.x2 0
+  asks = top-asks _ _ _ _ 0 _ (to_z-of_z w32 _ p.ranges.x1) (to_z-of_z w32 _ p.ranges.x2) p.top_query-q.ensures
 
 -- ---- the needs
 
 pub returns-then-not-sized : goal.returns-then-not-sized
 returns-then-not-sized c =
     let a = c.args in
-    top-short a.x1 a.x2 a.k a.table.now a.output.now a.read-map.now _ (sym c.sized.ensures ∙ c.if-not-sized.true)
+    top-short a.x1 a.x2 a.k a.table.now a.output.now a.read_map.now _ (sym c.sized.ensures ∙ c.if-not-sized.true)
     c.plain_answer.ensures
 
 pub returns-then-read_map-ne512 : goal.returns-then-read_map-ne512
 returns-then-read_map-ne512 c =
     let a = c.args in
-    top_lent a.x1 a.x2 a.k a.table.now a.output.now a.read-map.now _ (sym c.sized.ensures ∙ c.if-not-sized.false)
-    (ne_eqb (length a.read-map.now) 512 (λ h. omega (arith, c.if-read_map-ne512.true)))
+    top_lent a.x1 a.x2 a.k a.table.now a.output.now a.read_map.now _ (sym c.sized.ensures ∙ c.if-not-sized.false)
+    (ne_eqb (length a.read_map.now) 512 (λ h. omega (arith, c.if-read_map-ne512.true)))
     c.plain_answer-then-read_map-ne512.ensures
 
 pub top_none-requires : goal.top_none-requires
@@ -54,16 +52,16 @@ top_none-requires c = ((sym c.sized.ensures ∙ c.if-not-sized.false), omega ari
 pub returns-then-k-eq0 : goal.returns-then-k-eq0
 returns-then-k-eq0 c =
     let a = c.args in
-    top-zero a.x1 a.x2 a.k a.table.now a.output.now a.read-map.now _ _ c.if-k-eq0.true
+    top-zero a.x1 a.x2 a.k a.table.now a.output.now a.read_map.now _ _ c.if-k-eq0.true
     (sym c.sized.ensures ∙ c.if-not-sized.false)
-    (eq-eqb (length a.read-map.now) 512 (omega (arith, c.if-read_map-ne512.false)))
+    (eq-eqb (length a.read_map.now) 512 (omega (arith, c.if-read_map-ne512.false)))
     c.top_none.ensures
 
 pub top_size-all-requires : goal.top_size-all-requires
 top_size-all-requires c =
     record {
-      x1 = (start (goal.at.top_size-all-requires c).After-top_query-q).args.x1;
-      x2 = (start (goal.at.top_size-all-requires c).After-top_query-q).args.x2;
+      x1 = c.args.x1;
+      x2 = c.args.x2;
       asks = asks (goal.at.top_size-all-requires c).After-top_query-q;
       sized = sized (goal.at.top_size-all-requires c).After-top_query-q;
       clear = refl;
@@ -73,21 +71,21 @@ top_size-all-requires c =
 
 pub returns-then-not-all : goal.returns-then-not-all
 returns-then-not-all c =
-    let a = (start (goal.at.returns-then-not-all c).After-top_query-q).args in
-    top-broken a.x1 a.x2 a.k a.table.now a.output.now a.read-map.now (sized (goal.at.returns-then-not-all c).After-top_query-q) (lent (goal.at.returns-then-not-all c).After-top_query-q) _
-    (c.top_size-all.ensures.fails a.x1 a.x2 (asks (goal.at.returns-then-not-all c).After-top_query-q) c.if-not-all.true)
+    let a = c.args in
+    top-broken a.x1 a.x2 a.k a.table.now a.output.now a.read_map.now (sized (goal.at.returns-then-not-all c).After-top_query-q) (lent (goal.at.returns-then-not-all c).After-top_query-q) _
+    (c.top_size-all.ensures.fails a.x1 a.x2 (asks (goal.at.returns-then-not-all c).After-top_query-q) (not-true _ c.if-not-all.true))
     c.plain_answer-then-not-all.ensures
 
 pub overflow_cast-result : goal.overflow_cast-result
 overflow_cast-result c =
-    let g = c.top_size-all.ensures.gives (start (goal.at.overflow_cast-result c).After-top_query-q).args.x1 (start (goal.at.overflow_cast-result c).After-top_query-q).args.x2 (asks (goal.at.overflow_cast-result c).After-top_query-q) c.if-not-all.false in
+    let g = c.top_size-all.ensures.gives c.args.x1 c.args.x2 (asks (goal.at.overflow_cast-result c).After-top_query-q) (not-false _ c.if-not-all.false) in
     omega (arith, g.few)
 
 pub returns-then-output-n : goal.returns-then-output-n
 returns-then-output-n c =
-    let a = (start (goal.at.returns-then-output-n c).After-top_query-q).args in
-    let g = c.top_size-all.ensures.gives a.x1 a.x2 (asks (goal.at.returns-then-output-n c).After-top_query-q) c.if-not-all.false in
-    top-many a.x1 a.x2 a.k a.table.now a.output.now a.read-map.now (sized (goal.at.returns-then-output-n c).After-top_query-q) (lent (goal.at.returns-then-output-n c).After-top_query-q) _ _ g c.if-output-n.true refl
+    let a = c.args in
+    let g = c.top_size-all.ensures.gives a.x1 a.x2 (asks (goal.at.returns-then-output-n c).After-top_query-q) (not-false _ c.if-not-all.false) in
+    top-many a.x1 a.x2 a.k a.table.now a.output.now a.read_map.now (sized (goal.at.returns-then-output-n c).After-top_query-q) (lent (goal.at.returns-then-output-n c).After-top_query-q) _ _ g c.if-output-n.true refl
 
 pub overflow_mul-n : goal.overflow_mul-n
 overflow_mul-n c = omega (arith, c.top_size-all.ensures.small c.if-all.true)
@@ -105,22 +103,22 @@ overflow_cast-result-then-all c = omega (arith, c.top_size-all.ensures.small c.i
 
 pub returns-then-all : goal.returns-then-all
 returns-then-all c =
-    let a = (start (goal.at.returns-then-all c).After-top_query-q).args in
+    let a = c.args in
     let z = c.top_size-all in
     let in-few = c.if-all.true in
-    let v = z.ensures.held a.x1 a.x2 (asks (goal.at.returns-then-all c).After-top_query-q) c.if-not-all.false in-few in
-    top-few a.x1 a.x2 a.k a.table.now a.output.now a.read-map.now (sized (goal.at.returns-then-all c).After-top_query-q) (lent (goal.at.returns-then-all c).After-top_query-q) _ _ _ _ _ _ _ v.ended (z.ensures.small in-few)
+    let v = z.ensures.held a.x1 a.x2 (asks (goal.at.returns-then-all c).After-top_query-q) (not-false _ c.if-not-all.false) in-few in
+    top-few a.x1 a.x2 a.k a.table.now a.output.now a.read_map.now (sized (goal.at.returns-then-all c).After-top_query-q) (lent (goal.at.returns-then-all c).After-top_query-q) _ _ _ _ _ _ _ v.ended (z.ensures.small in-few)
     c.if-output-n.false
     refl
     c.copy.ensures
-    (map_is _ a.read-map.now _ (z.auto.read ∙ length-replicate {A = ℕ} 512 0) (mapped (goal.at.returns-then-all c).After-top_query-q) c.copy-then-all.ensures)
+    (map_is _ a.read_map.now _ (z.auto.read ∙ length-replicate {A = ℕ} 512 0) (mapped (goal.at.returns-then-all c).After-top_query-q) c.copy-then-all.ensures)
 
 pub top_write-requires : goal.top_write-requires
 top_write-requires c =
     let z = c.top_size-all in (
       record {
-        x1 = (start (goal.at.top_write-requires c).After-top_query-q).args.x1;
-        x2 = (start (goal.at.top_write-requires c).After-top_query-q).args.x2;
+        x1 = c.args.x1;
+        x2 = c.args.x2;
         asks = asks (goal.at.top_write-requires c).After-top_query-q;
         sized = sized (goal.at.top_write-requires c).After-top_query-q;
         some = omega (arith, c.if-k-eq0.false);
@@ -135,16 +133,16 @@ copy-requires-2 c = (omega (arith, c.top_write.auto.read, c.top_size-all.auto.re
 
 pub overflow_cast-result-2 : goal.overflow_cast-result-2
 overflow_cast-result-2 c =
-    let g = c.top_size-all.ensures.gives (start (goal.at.overflow_cast-result-2 c).After-top_query-q).args.x1 (start (goal.at.overflow_cast-result-2 c).After-top_query-q).args.x2 (asks (goal.at.overflow_cast-result-2 c).After-top_query-q) c.if-not-all.false in
+    let g = c.top_size-all.ensures.gives c.args.x1 c.args.x2 (asks (goal.at.overflow_cast-result-2 c).After-top_query-q) (not-false _ c.if-not-all.false) in
     omega (arith, g.few)
 
 pub returns : goal.returns
 returns c =
-    let a = (start (goal.at.returns c).After-top_query-q).args in
+    let a = c.args in
     let z = c.top_size-all in
-    let g = z.ensures.gives a.x1 a.x2 (asks (goal.at.returns c).After-top_query-q) c.if-not-all.false in
+    let g = z.ensures.gives a.x1 a.x2 (asks (goal.at.returns c).After-top_query-q) (not-false _ c.if-not-all.false) in
     let w = c.top_write in
-    top-wide a.x1 a.x2 a.k a.table.now a.output.now a.read-map.now (sized (goal.at.returns c).After-top_query-q) (lent (goal.at.returns c).After-top_query-q) _ _ _ _ _ g (w.ensures.ends a.x1 a.x2 (asks (goal.at.returns c).After-top_query-q) g)
+    top-wide a.x1 a.x2 a.k a.table.now a.output.now a.read_map.now (sized (goal.at.returns c).After-top_query-q) (lent (goal.at.returns c).After-top_query-q) _ _ _ _ _ g (w.ensures.ends a.x1 a.x2 (asks (goal.at.returns c).After-top_query-q) g)
     c.if-output-n.false
     refl
-    (map_is _ a.read-map.now _ (w.auto.read ∙ z.auto.read ∙ length-replicate {A = ℕ} 512 0) (mapped (goal.at.returns c).After-top_query-q) c.copy-2.ensures)
+    (map_is _ a.read_map.now _ (w.auto.read ∙ z.auto.read ∙ length-replicate {A = ℕ} 512 0) (mapped (goal.at.returns c).After-top_query-q) c.copy-2.ensures)

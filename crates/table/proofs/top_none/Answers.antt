@@ -25,7 +25,7 @@ returns c =
     inr (
       sym c.header_ok.ensures ∙ c.if-not-header_ok.false,
       c.plain_answer-2.ensures,
-      map_is _ c.args.read-map.now _ (c.set_bit.auto.map ∙ length-replicate {A = ℕ} 512 0) c.requires.1 c.copy.ensures ∙
+      map_is _ c.args.read_map.now _ (c.set_bit.auto.map ∙ length-replicate {A = ℕ} 512 0) c.requires.1 c.copy.ensures ∙
           c.set_bit.ensures ∙
           map-none,
     )

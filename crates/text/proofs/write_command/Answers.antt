@@ -12,49 +12,49 @@ use Rattle.text.proofs.write_command.Goals as goal
 
 pub returns-in-Add : goal.returns-in-Add
 returns-in-Add c =
-    let g = c.c-1.given in
-    let x = g.0.0 in
-    let y = g.0.1.0 in
-    let n = g.0.1.1.0 in
+    let g = c.in-Add in
+    let x = g.place in
+    let y = g.rank in
+    let n = g.track in
     let ex : to_z w32 (of_z w32 x) ≡ x = search rules in
     let ey : to_z w32 (of_z w32 y) ≡ y = search rules in
     wrote-within 37 (command_text c.args.c) (omega arith)
-    (third-text 43 x y (decimal n) ex ey refl ∙ sym (ap command_text g.1))
+    (third-text 43 x y (decimal n) ex ey refl ∙ sym (ap command_text g.is))
     (wrote_then c.write_two-p.ensures c.more_number.ensures)
 
 pub returns-in-Withdraw : goal.returns-in-Withdraw
 returns-in-Withdraw c =
-    let g = c.c-in-Withdraw-1.given in
-    let x = g.0.0 in
-    let y = g.0.1.0 in
+    let g = c.in-Withdraw in
+    let x = g.place in
+    let y = g.rank in
     let ex : to_z w32 (of_z w32 x) ≡ x = search rules in
     let ey : to_z w32 (of_z w32 y) ≡ y = search rules in
     wrote-within 37 (command_text c.args.c) (omega arith)
-    (joined_as 45 x y ex ey ∙ sym (ap command_text g.1)) c.write_two.ensures
+    (joined_as 45 x y ex ey ∙ sym (ap command_text g.is)) c.write_two.ensures
 
 pub returns-in-Report : goal.returns-in-Report
 returns-in-Report c =
-    let g = c.c-in-Report-1.given in
-    let x = g.0.0 in
-    let y = g.0.1.0 in
-    let z = g.0.1.1.0 in
+    let g = c.in-Report in
+    let x = g.x1 in
+    let y = g.x2 in
+    let z = g.y in
     let ex : to_z w32 (of_z w32 x) ≡ x = search rules in
     let ey : to_z w32 (of_z w32 y) ≡ y = search rules in
     let ez : to_z w32 (of_z w32 z) ≡ z = search rules in
     wrote-within 37 (command_text c.args.c) (omega arith)
-    (third-text 63 x y (signed z) ex ey (ap signed ez) ∙ sym (ap command_text g.1))
+    (third-text 63 x y (signed z) ex ey (ap signed ez) ∙ sym (ap command_text g.is))
     (wrote_then c.write_two-p-in-Report.ensures c.more_signed.ensures)
 
 pub returns-in-Top : goal.returns-in-Top
 returns-in-Top c =
-    let g = c.c-in-Top-1.given in
-    let x = g.0.0 in
-    let y = g.0.1.0 in
-    let n = g.0.1.1.0 in
+    let g = c.in-Top in
+    let x = g.x1 in
+    let y = g.x2 in
+    let n = g.k in
     let ex : to_z w32 (of_z w32 x) ≡ x = search rules in
     let ey : to_z w32 (of_z w32 y) ≡ y = search rules in
     wrote-within 37 (command_text c.args.c) (omega arith)
-    (third-text 94 x y (decimal n) ex ey refl ∙ sym (ap command_text g.1))
+    (third-text 94 x y (decimal n) ex ey refl ∙ sym (ap command_text g.is))
     (wrote_then c.write_two-p-in-Top.ensures c.more_number-in-Top.ensures)
 
 pub returns-in-Bad : goal.returns-in-Bad

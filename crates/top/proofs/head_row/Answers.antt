@@ -7,13 +7,13 @@ use Rattle.top.proofs.head_row.Goals as goal
 use Rattle.top.proofs.head_row.Goals.{After-struct_known-2-1}
 
 pub returns-then-not-p : goal.returns-then-not-p
-returns-then-not-p c = rw c.if-not-p.true
+returns-then-not-p c = rw (not-true c.args.p.there c.if-not-p.true)
 
 -- the row has room for all three
 low : (c : After-struct_known-2-1) → let a = c.args in (a.s < 4096) × (a.p.at < 128) × (a.p.more < 8796093022208)
 low c =
     let p = c.requires in
-    let y = c.if-not-p.false in
+    let y = not-false c.args.p.there c.if-not-p.false in
     (p.few, p.low y, p.small y)
 
 pub overflow_mul-result : goal.overflow_mul-result

@@ -25,7 +25,7 @@ read_node-first-requires c =
     let p = c.requires in
     let good = c.if-not-header_ok in
     let at-header = c.header_ok in
-    root-reads p (sym at-header.ensures ∙ not-false _ good.false) c.root_place-root.ensures
+    root-reads p (sym at-header.ensures ∙ good.false) c.root_place-root.ensures
 
 pub returns-then-not-first : goal.returns-then-not-first
 returns-then-not-first c =
@@ -35,7 +35,7 @@ returns-then-not-first c =
     let at-root = c.root_place-root in
     let at_read = c.read_node-first in
     searched-broken c.stops-then-not-first.ensures refl
-    (root-stuck p (sym at-header.ensures ∙ not-false _ good.false) at-root.ensures at_read.ensures c.if-not-first.true)
+    (root-stuck p (sym at-header.ensures ∙ good.false) at-root.ensures at_read.ensures (not-true _ c.if-not-first.true))
 
 pub sweep-requires : goal.sweep-requires
 sweep-requires c =
@@ -43,7 +43,7 @@ sweep-requires c =
     let done = c.if-not-first in
     let p = c.requires in
     let at-header = c.header_ok in
-    let valid = sym at-header.ensures ∙ not-false _ good.false in
+    let valid = sym at-header.ensures ∙ good.false in
     let at-root = c.root_place-root in
     let at_read = c.read_node-first in
     let ok = not-false _ done.false in

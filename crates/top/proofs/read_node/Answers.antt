@@ -30,7 +30,7 @@ pub join-sizes-requires : goal.join-sizes-requires
 join-sizes-requires c =
     let at_Ok = c.block_ok in
     let valid = c.if-not-block_ok in
-    c.requires.joins (sym at_Ok.ensures ∙ not-false _ valid.false)
+    c.requires.joins (sym at_Ok.ensures ∙ valid.false)
 
 pub returns : goal.returns
 returns c =
@@ -41,7 +41,7 @@ returns c =
     record {
       broken = λ e. absurd (true≢false e);
       new = λ e. sym at_test.ensures ∙ unread.false;
-      valid = λ e. sym at_Ok.ensures ∙ not-false _ valid.false;
+      valid = λ e. sym at_Ok.ensures ∙ valid.false;
       marked = λ e. c.set_bit.ensures;
       added = λ e. c.join-sizes.ensures;
     }

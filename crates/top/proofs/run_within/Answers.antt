@@ -11,7 +11,7 @@ use Rattle.top.proofs.run_within.Goals as goal
 pub returns-then-not-some : goal.returns-then-not-some
 returns-then-not-some c =
     let at-few = c.narrow_run-some in
-    run-some c.if-not-some.true at-few.ensures
+    run-some (not-true _ c.if-not-some.true) at-few.ensures
 
 pub zero-requires : goal.zero-requires
 zero-requires c =

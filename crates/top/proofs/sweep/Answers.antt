@@ -146,7 +146,7 @@ returns-then-not-next c =
     let few : l.z.slots ≤ 4096 = omega (arith, at_test.true, l.invariant.0, p.few) in
     let s = gave-swept few l.invariant.2 at-floor.result at-floor.ensures at_give.ensures in
     searched-broken c.stops.ensures (swept-behind s)
-    (kid-stuck few s at-floor.result at-floor.ensures at_give.ensures.ends a.most at-stop.false at_read.ensures c.if-not-next.true)
+    (kid-stuck few s at-floor.result at-floor.ensures at_give.ensures.ends a.most at-stop.false at_read.ensures (not-true _ c.if-not-next.true))
 
 pub loop-z-smaller : goal.loop-z-smaller
 loop-z-smaller c =
@@ -161,7 +161,7 @@ loop-z-smaller c =
     let more = at_test.true in
     let few : l.z.slots ≤ 4096 = omega (arith, more, l.invariant.0, p.few) in
     let s = gave-swept few l.invariant.2 at-floor.result at-floor.ensures at_give.ensures in
-    omega (arith, more, kid-slots few s at-floor.result at-floor.ensures at_give.ensures.ends a.most at-stop.false at_read.ensures c.if-not-next.false)
+    omega (arith, more, kid-slots few s at-floor.result at-floor.ensures at_give.ensures.ends a.most at-stop.false at_read.ensures (not-false _ c.if-not-next.false))
 
 pub loop-z-preserved : goal.loop-z-preserved
 loop-z-preserved c =
@@ -177,7 +177,7 @@ loop-z-preserved c =
     let at_give = c.give_above-g in
     let on = at-stop.false in
     let at_read = c.read_kid-next in
-    let ok = c.if-not-next.false in
+    let ok = not-false _ c.if-not-next.false in
     let few : l.z.slots ≤ 4096 = omega (arith, more, l.invariant.0, p.few) in
     let s = gave-swept few l.invariant.2 at-floor.result at-floor.ensures at_give.ensures in (
       l.invariant.0,

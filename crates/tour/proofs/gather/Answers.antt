@@ -64,8 +64,8 @@ read_entry-e-requires c =
     record {
       long = block-length (tour (goal.at.read_entry-e-requires c).In-loop-b) 0 (omega (arith, inside (goal.at.read_entry-e-requires c).In-loop-b));
       bytes = length (tour (goal.at.read_entry-e-requires c).In-loop-b);
-      sized = (start (goal.at.read_entry-e-requires c).In-loop-b).requires.sized;
-      fine = (start (goal.at.read_entry-e-requires c).In-loop-b).requires.catalogue;
+      sized = c.requires.sized;
+      fine = c.requires.catalogue;
       some = c.loop-b.invariant.some;
       below = more (goal.at.read_entry-e-requires c).In-loop-b;
     }

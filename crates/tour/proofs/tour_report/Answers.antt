@@ -33,7 +33,7 @@ long c = sym c.sized.ensures ∙ c.if-not-sized.false
 pub returns-then-read_map-ne512 : goal.returns-then-read_map-ne512
 returns-then-read_map-ne512 c =
     let args = c.args in
-    tour-lent _ _ _ args.tour.now _ args.read-map.now _ (long (goal.at.returns-then-read_map-ne512 c).Else-not-sized) (λ h. omega (arith, h, c.if-read_map-ne512.true)) c.plain_answer-then-read_map-ne512.ensures
+    tour-lent _ _ _ args.tour.now _ args.read_map.now _ (long (goal.at.returns-then-read_map-ne512 c).Else-not-sized) (λ h. omega (arith, h, c.if-read_map-ne512.true)) c.plain_answer-then-read_map-ne512.ensures
 
 -- and the map its bytes
 module _ (c : tie.Else2) where
@@ -43,7 +43,7 @@ module _ (c : tie.Else2) where
   abbrev tour : List ℕ
   tour = start.args.tour.now
 
-  mapped : length start.args.read-map.now ≡ 512
+  mapped : length start.args.read_map.now ≡ 512
   mapped = omega (arith, c.if2.false)
 
 pub slice_bounds-catalogue_ok-end : goal.slice_bounds-catalogue_ok-end
@@ -122,4 +122,4 @@ returns c =
     let k = known g in
     tour-given _ _ _ (tour (lent k)) _ _ _ (long (lent k).before) (mapped (lent k)) (listed k) (read-for (same g) g.gather.ensures) (ok (goal.at.returns c).Else-output-n) _ _ (omega (arith, c.if-output-n.false)) c.spots_answer-2.ensures
     (held-turned (turnable (goal.at.returns c).Else-output-n) (same g) c.from_key.ensures c.copy.ensures c.from_on.ensures c.copy.auto.to (λ i. omega (arith, c.slice_known-4-1.given i)))
-    (map_is _ (start (lent k)).args.read-map.now _ g.gather.kept.1.1.0 (mapped (lent k)) c.copy-2.ensures)
+    (map_is _ (start (lent k)).args.read_map.now _ g.gather.kept.1.1.0 (mapped (lent k)) c.copy-2.ensures)

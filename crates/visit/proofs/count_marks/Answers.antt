@@ -20,7 +20,7 @@ loop-i-preserved c =
     let long : length m ≡ 64 = search rules in
     let h : l.i < length m = omega arith in
     elim c.if-m-i.branch [
-      then-m-i w ↦ (omega arith, omega arith, w.sum-is ∙ count-mark m l.i h l.invariant.2 w.if-m-i.true)
+      | then-m-i w ↦ (omega arith, omega arith, w.sum-is ∙ count-mark m l.i h l.invariant.2 w.if-m-i.true)
       | else-m-i w ↦ (omega arith, omega arith, w.sum-is ∙ count-blank m l.i h l.invariant.2 w.if-m-i.false)
     ]
 

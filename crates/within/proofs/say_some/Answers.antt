@@ -17,102 +17,86 @@ use mathlib.Core.Path.{◌≡◌, ap, ◌∙◌}
 use borrow.Author.Rules.{rules}
 use native.Mathlib.Omega.{arith}
 use Rattle.within.proofs.say_some.Goals as goal
+use Rattle.within.proofs.say_some.Goals.{After-run_within-found}
 
 -- ---- once the search is made
 
-abbrev start : tie.After-run-within → tie.Start
-start p = p.before.before.before.before.before.before.before
+module _ (p : After-run_within-found) where
+  asks : p.top_query-q.result ≡ top_query p.args.x1 p.args.x2 0
+  asks = top-asks _ _ _ _ 0 _ (to_z-of_z w32 _ p.ranges.x1) (to_z-of_z w32 _ p.ranges.x2) p.top_query-q.ensures
 
-module _ (p : tie.After-run-within) where
-  asks : p.before.before.before.top-query.result ≡ top_query (start p).args.x1 (start p).args.x2 0
-  asks = top-asks _ _ _ _ 0 _ (to_z-of_z w32 _ (start p).ranges.x1) (to_z-of_z w32 _ (start p).ranges.x2) p.before.before.before.top-query.ensures
+  lent : eqb (length p.args.read_map.now) 512 ≡ true
+  lent = eq-eqb (length p.args.read_map.now) 512 p.requires.mapped
 
-  lent : eqb (length (start p).args.read-map.now) 512 ≡ true
-  lent = eq-eqb (length (start p).args.read-map.now) 512 (start p).pre.mapped
+  mapped : length p.run_within-found.new.seen ≡ 512
+  mapped = p.run_within-found.auto.seen ∙ length-replicate {A = ℕ} 512 0
 
-  mapped : length p.run-within.last.1.0 ≡ 512
-  mapped = p.run-within.kept.1.0 ∙ length-replicate {A = ℕ} 512 0
-
-  buffer : length p.run-within.last.1.1.1.1.1.0 ≡ 6144
-  buffer = p.run-within.kept.1.1.1.1.1.0 ∙ length-replicate 6144 zero
+  buffer : length p.run_within-found.new.out ≡ 6144
+  buffer = p.run_within-found.auto.out ∙ length-replicate 6144 zero
 
   -- it is at its end
   abbrev Ends : Type 0
   Ends =
-      HaltedOn (start p).args.table.now (start p).args.x1 (start p).args.x2 (start p).args.k (start p).args.allowance 512 (replicate 6144 zero) p.run-within.last.1.0
-      p.run-within.last.1.1.1.1.1.0
-      p.run-within.result.spots
-      p.run-within.result.ceiling
+      HaltedOn p.args.table.now p.args.x1 p.args.x2 p.args.k p.args.allowance 512 (replicate 6144 zero) p.run_within-found.new.seen
+      p.run_within-found.new.out
+      p.run_within-found.result.spots
+      p.run_within-found.result.ceiling
 
-  halted : p.run-within.result.ok ≡ true → Ends
-  halted h = p.run-within.ensures.ends (start p).args.x1 (start p).args.x2 asks h
-
-abbrev found : tie.After-unbias → tie.After-run-within
-found u = u.before.before.before.before.before
-
-module _ (u : tie.After-unbias) where
-  ended : Ends (found u)
-  ended = halted (found u) (not-false _ u.before.if1.false)
-
-  -- no more spots than k, which 32 bits hold
-  few-spots : Fits w32 (found u).run-within.result.spots
-  few-spots = omega (arith, ended.halted.few, (start (found u)).ranges.k)
+  halted : p.run_within-found.result.ok ≡ true → Ends
+  halted h = p.run_within-found.ensures.ends p.args.x1 p.args.x2 asks h
 
 -- ---- the needs
 
 pub returns-then-not-found : goal.returns-then-not-found
 returns-then-not-found c =
-    let a = (start (goal.at.returns-then-not-found c).After-run_within-found).args in
-    within-broken a.x1 a.x2 a.k a.allowance a.table.now a.output.now a.read-map.now (start (goal.at.returns-then-not-found c).After-run_within-found).requires.sized (lent (goal.at.returns-then-not-found c).After-run_within-found) _
-    (c.run_within-found.ensures.fails a.x1 a.x2 (asks (goal.at.returns-then-not-found c).After-run_within-found) c.if-not-found.true).within
+    let a = c.args in
+    within-broken a.x1 a.x2 a.k a.allowance a.table.now a.output.now a.read_map.now c.requires.sized (lent (goal.at.returns-then-not-found c).After-run_within-found) _
+    (c.run_within-found.ensures.fails a.x1 a.x2 (asks (goal.at.returns-then-not-found c).After-run_within-found) (not-true _ c.if-not-found.true)).within
     c.tell.ensures
 
 pub unbias-left-requires : goal.unbias-left-requires
-unbias-left-requires c = (halted (goal.at.unbias-left-requires c).After-run_within-found c.if-not-found.false).halted.low
+unbias-left-requires c = (halted (goal.at.unbias-left-requires c).After-run_within-found (not-false _ c.if-not-found.false)).halted.low
 
 pub overflow_cast-n : goal.overflow_cast-n
-overflow_cast-n c = few-spots (goal.at.overflow_cast-n c).After-unbias-left
+overflow_cast-n c = omega (arith, (halted (goal.at.overflow_cast-n c).After-run_within-found (not-false _ c.if-not-found.false)).halted.few, c.ranges.k)
 
 pub returns-then-output-n : goal.returns-then-output-n
 returns-then-output-n c =
-    let at-run = found (goal.at.returns-then-output-n c).After-unbias-left in
-    let a = (start at-run).args in
-    let h = (ended (goal.at.returns-then-output-n c).After-unbias-left).halted in
-    within-many a.x1 a.x2 a.k a.allowance a.table.now a.output.now a.read-map.now (start at-run).pre.sized (lent at-run) _ _ h.sure.whole
+    let a = c.args in
+    let h = (halted (goal.at.returns-then-output-n c).After-run_within-found (not-false _ c.if-not-found.false)).halted in
+    within-many a.x1 a.x2 a.k a.allowance a.table.now a.output.now a.read_map.now c.requires.sized (lent (goal.at.returns-then-output-n c).After-run_within-found) _ _ h.sure.whole
     (h.counted ∙ h.sure.many)
     c.if-output-n.true
     c.tell-then-output-n.ensures
 
 pub deliver-requires : goal.deliver-requires
 deliver-requires c =
-    let at-run = found (goal.at.deliver-requires c).After-unbias-left in
-    let p = (start at-run).pre in
+    let p = c.requires in
     record {
-      x1 = (start at-run).args.x1;
-      x2 = (start at-run).args.x2;
-      asks = asks at-run;
+      x1 = c.args.x1;
+      x2 = c.args.x2;
+      asks = asks (goal.at.deliver-requires c).After-run_within-found;
       sized = p.sized;
-      mapped = mapped at-run;
-      buffer = buffer at-run;
+      mapped = mapped (goal.at.deliver-requires c).After-run_within-found;
+      buffer = buffer (goal.at.deliver-requires c).After-run_within-found;
       some = p.some;
       allowed = p.allowed;
       fits = omega (arith, c.if-output-n.false);
       base = _;
       ceiling = _;
-      halted = ended (goal.at.deliver-requires c).After-unbias-left;
+      halted = halted (goal.at.deliver-requires c).After-run_within-found (not-false _ c.if-not-found.false);
     }
 
 pub overflow_cast-n-2 : goal.overflow_cast-n-2
-overflow_cast-n-2 c = few-spots (goal.at.overflow_cast-n-2 c).After-unbias-left
+overflow_cast-n-2 c = omega (arith, (halted (goal.at.overflow_cast-n-2 c).After-run_within-found (not-false _ c.if-not-found.false)).halted.few, c.ranges.k)
 
 pub returns : goal.returns
 returns c =
-    let at-run = found (goal.at.returns c).After-unbias-left in
-    let a = (start at-run).args in
+    let a = c.args in
     let ceiling = to_z-of_z w32 c.unbias-left.result (record { sfits = c.unbias-left.type_inv }) ∙ c.unbias-left.ensures in
-    within-given a.x1 a.x2 a.k a.allowance a.table.now a.output.now a.read-map.now (start at-run).pre.sized (lent at-run) _ _ _ _ _ _
-    (c.deliver.ensures.ends a.x1 a.x2 (asks at-run))
-    (ended (goal.at.returns c).After-unbias-left).halted.sure
+    within-given a.x1 a.x2 a.k a.allowance a.table.now a.output.now a.read_map.now c.requires.sized (lent (goal.at.returns c).After-run_within-found) _ _ _ _ _ _
+    (c.deliver.ensures.ends a.x1 a.x2 (asks (goal.at.returns c).After-run_within-found))
+    (halted (goal.at.returns c).After-run_within-found (not-false _ c.if-not-found.false)).halted.sure
     c.if-output-n.false
-    (map_is _ a.read-map.now _ (c.deliver.auto.read ∙ mapped at-run) (start at-run).pre.mapped c.copy.ensures)
-    (c.tell-2.ensures ∙ ap (said_of 0 at-run.run-within.result.spots) ceiling)
+    (map_is _ a.read_map.now _ (c.deliver.auto.read ∙ mapped (goal.at.returns c).After-run_within-found) c.requires.mapped c.copy.ensures)
+    (c.tell-2.ensures ∙ ap (said_of 0 c.run_within-found.result.spots) ceiling)
