@@ -21,7 +21,7 @@ use Rattle.spot.specs.declared.Spot.{Spot}
 use Rattle.spot.proofs.Limits.{first-end, end-small}
 use Rattle.block.specs.declared.Entry.{Entry}
 use Rattle.block.specs.declared.Asked.TheVariants.{Root}
-use Rattle.block.specs.Table.{block, blocks_of, block_ok, capacity}
+use Rattle.block.specs.Table.{blocks_of, block_ok, capacity}
 use Rattle.block.specs.Header.{Header, head_of}
 use Rattle.block.specs.HeaderRules.{header_ok}
 use Rattle.block.specs.Node.{Node, store_of}

@@ -1,6 +1,5 @@
 -- `batch::entries_back` meets its contract.
 use native.Mathlib.Omega.{arith}
-use borrow.Author.Rules.{rules}
 use Rattle.batch.proofs.entries_back.Goals as goal
 
 pub returns-then-two : goal.returns-then-two

@@ -1,6 +1,5 @@
 -- `batch::spill_inner` meets its contract.
 use mathlib.Core.Path.{refl}
-use borrow.Author.Rules.{rules}
 use Rattle.batch.proofs.spill_inner.Goals as goal
 
 pub returns-then-n-eq0 : goal.returns-then-n-eq0

@@ -46,7 +46,7 @@ changed c =
       received = c.requires;
       spots = (held-length c.args.inserts (search (rules, length-image)) (omega (arith, c.requires.few_i)));
       keys = (named-length c.args.deletes (search (rules, length-image)) (omega (arith, c.requires.few_d)));
-      before = (let n = c.args.n in let t = c.requires.tidy in record { points = held-length n.points (search (rules, length-image)) t.points.fits; inserts = held-length n.inserts (search (rules, length-image)) t.inserts.fits; deletes = named-length n.deletes (search (rules, length-image)) t.deletes.fits; });
+      before = (let n = c.args.n in let t = c.requires.tidy in record { points = held-length n.points (search (rules, length-image)) t.points.fits; inserts = held-length n.inserts (search (rules, length-image)) t.inserts.fits; deletes = named-length n.deletes (search (rules, length-image)) t.deletes.fits });
       counted = counted-less c;
       threshold = c.threshold-r.ensures;
       inserted = c.insert_all-more.ensures;

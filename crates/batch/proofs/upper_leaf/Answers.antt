@@ -1,6 +1,5 @@
 -- `batch::upper_leaf` meets its contract.
 use mathlib.Core.Path.{refl}
-use borrow.Author.Rules.{rules}
 use Rattle.edit.proofs.Buffered.{same-held}
 use Rattle.batch.proofs.Middle.{right-bare, right-count}
 use Rattle.batch.proofs.upper_leaf.Goals as goal

@@ -3,7 +3,6 @@ use mathlib.Core.List.{List}
 use mathlib.Core.Path.{ap, ◌∙◌, subst, subst⁻¹}
 use Prim.Native.Nat.{ℕ}
 use borrow.Rule.Slice.PartMut.{put_mid}
-use borrow.Author.Rules.{rules}
 use Rattle.journal.proofs.Kept.{copied_is}
 use Rattle.spare.specs.Spares.{taken_of, HeadFits, Reheaded}
 use Rattle.change.proofs.finish.Goals as goal

@@ -1,7 +1,6 @@
 -- `change::grow` meets its contract.
 use native.Mathlib.Omega.{arith}
 use borrow.Author.Tests.{not-false, not-true}
-use borrow.Author.Rules.{rules}
 use Rattle.journal.proofs.Kept.{kept_trans}
 use Rattle.change.proofs.Settles.{grow-fails, grow-one, grow-crowns, grow-two}
 use Rattle.change.proofs.grow.Goals as goal

@@ -3,7 +3,6 @@ use mathlib.Core.Bool.{true}
 use mathlib.Core.Path.{◌≡◌}
 use native.Mathlib.Omega.{arith}
 use borrow.Author.Tests.{not-false}
-use borrow.Author.Rules.{rules}
 use mathlib.Core.List.{Memᴰ}
 use Prim.Native.Nat.{ℕ}
 use Rattle.spot.specs.Keys.{start_key, end_key, within}

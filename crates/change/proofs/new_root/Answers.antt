@@ -3,7 +3,6 @@ use mathlib.Core.Path.{refl, subst⁻¹}
 use Prim.Native.Nat.{ℕ, ◌<◌, ◌≤◌}
 use native.Mathlib.Omega.{arith}
 use borrow.Author.Tests.{not-false}
-use borrow.Author.Rules.{rules}
 use Rattle.block.specs.Table.{blocks_of}
 use Rattle.journal.proofs.Kept.{kept_refl, kept_trans, undoable-kept}
 use Rattle.settle.proofs.Ways.{last-inside}

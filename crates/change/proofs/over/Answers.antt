@@ -2,7 +2,6 @@
 use mathlib.Core.Path.{refl, ap}
 use mathlib.Core.List.{List}
 use native.Mathlib.Omega.{arith}
-use borrow.Author.Rules.{rules}
 use Rattle.octets.specs.Lists.{rising}
 use Rattle.edit.proofs.Buffered.{same-held}
 use Rattle.spot.specs.Spots.{keys}

@@ -10,7 +10,7 @@ use Rattle.buffer.specs.Buffer.{held}
 use Rattle.buffer.proofs.Lists.{length-image}
 use Rattle.node.specs.Memory.{entries_of}
 use Rattle.choose.specs.Choices.{end_at}
-use Rattle.choose.proofs.Chosen.{Seen, seen_none, seen-new, seen-stays, seen_all}
+use Rattle.choose.proofs.Chosen.{seen_none, seen-new, seen-stays, seen_all}
 use Rattle.choose.proofs.fullest.Goals as goal
 use Rattle.choose.proofs.fullest.Goals.{Start, then-most-here, else-most-here}
 
@@ -35,16 +35,16 @@ loop-i-preserved c =
     let r : c.share_of-here.result ≡ end - l.start = c.share_of-here.ensures in
     let inside : l.i < length es = omega (arith, counted (goal.at.loop-i-preserved c).Start) in
     elim c.if-most-here.branch [
-      then-most-here w ↦
-        let f : c.if-most-here.best ≡ l.i = w.best-is in
-        let g : c.if-most-here.most ≡ end - l.start = w.most-is ∙ r in
-        let t : l.most < c.share_of-here.result = w.if-most-here.true in
-        (omega arith, rw (f, g) (seen-new es (keys (held b)) b.n l.best l.most l.start l.i end inside e l.invariant.1 (omega arith)))
+      | then-most-here w ↦
+          let f : c.if-most-here.best ≡ l.i = w.best-is in
+          let g : c.if-most-here.most ≡ end - l.start = w.most-is ∙ r in
+          let t : l.most < c.share_of-here.result = w.if-most-here.true in
+          (omega arith, rw (f, g) (seen-new es (keys (held b)) b.n l.best l.most l.start l.i end inside e l.invariant.1 (omega arith)))
       | else-most-here w ↦
-        let f : c.if-most-here.best ≡ l.best = w.best-is in
-        let g : c.if-most-here.most ≡ l.most = w.most-is in
-        let t : c.share_of-here.result ≤ l.most = w.if-most-here.false in
-        (omega arith, rw (f, g) (seen-stays es (keys (held b)) b.n l.best l.most l.start l.i end inside e l.invariant.1 (omega arith)))
+          let f : c.if-most-here.best ≡ l.best = w.best-is in
+          let g : c.if-most-here.most ≡ l.most = w.most-is in
+          let t : c.share_of-here.result ≤ l.most = w.if-most-here.false in
+          (omega arith, rw (f, g) (seen-stays es (keys (held b)) b.n l.best l.most l.start l.i end inside e l.invariant.1 (omega arith)))
     ]
 
 pub returns : goal.returns

@@ -1,17 +1,9 @@
 -- `choose::fullest` meets its contract. The loop's invariant: the fullest of the first i.
-use mathlib.Core.Path.{◌≡◌, ◌∙◌}
-use mathlib.Core.Logic.{⊎_elim}
-use Prim.Native.Nat.{◌≤◌, ◌<◌, ◌-◌, ◌+◌}
-use native.Mathlib.Omega.{arith}
-use borrow.Author.Rules.{rules}
-use lib.ListN.{length}
-use lib.Seq.{length-take-le}
+use Prim.Native.Nat.{◌≤◌, ◌-◌}
 use Rattle.spot.specs.Spots.{keys}
 use Rattle.buffer.specs.Buffer.{held}
-use Rattle.buffer.proofs.Lists.{length-image}
 use Rattle.node.specs.Memory.{entries_of}
-use Rattle.choose.specs.Choices.{end_at}
-use Rattle.choose.proofs.Chosen.{Seen, seen_none, seen-new, seen-stays, seen_all}
+use Rattle.choose.proofs.Chosen.{Seen}
 use Rattle.choose.proofs.fullest.Given as goal
 
 abbrev pub invariant-loop-i : goal.invariant-loop-i

@@ -1,7 +1,6 @@
 -- `choose::keys_start_of` meets its contract: a count of the keys below the low, or none for the first.
 use mathlib.Core.Path.{ap, ◌∙◌}
 use Prim.Native.Nat.{ℕ}
-use borrow.Author.Rules.{rules}
 use Rattle.buffer.specs.Buffer.{named, below}
 use Rattle.node.specs.Memory.{entries_of}
 use Rattle.choose.proofs.Chosen.{start-later}

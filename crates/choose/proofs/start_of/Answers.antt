@@ -1,7 +1,6 @@
 -- `choose::start_of` meets its contract: a count of the keys below the low, or none for the first.
 use mathlib.Core.Path.{ap, ◌∙◌}
 use Prim.Native.Nat.{ℕ}
-use borrow.Author.Rules.{rules}
 use Rattle.spot.specs.Spots.{keys}
 use Rattle.buffer.specs.Buffer.{held, below}
 use Rattle.node.specs.Memory.{entries_of}

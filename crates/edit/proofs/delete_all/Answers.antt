@@ -1,12 +1,12 @@
 -- `edit::delete_all` meets its contract. The loop's invariant: the keys from index i on are deleted.
 use mathlib.Core.Path.{◌≡◌, ap}
-use Prim.Native.Nat.{ℕ, ◌+◌, ◌-◌, ◌≤◌}
+use Prim.Native.Nat.{ℕ}
 use native.Mathlib.Omega.{arith}
 use borrow.Author.Rules.{rules}
 use lib.ListN.{length, drop}
 use Rattle.update_theory.specs.Held.{delete_all}
 use Rattle.buffer.specs.Buffer.{named}
-use Rattle.edit.specs.Edits.{held_in, Edited}
+use Rattle.edit.specs.Edits.{held_in}
 use Rattle.edit.proofs.Buffered.{deletes-none, deletes-more, edited-none, edited-more, edited-same}
 use Rattle.edit.proofs.delete_all.Goals as goal
 use Rattle.edit.proofs.delete_all.Goals.{Start}

@@ -14,7 +14,7 @@ use Rattle.buffer.proofs.Lists.{length-image}
 use Rattle.update_theory.specs.Held.{Held, insert_one, insert_all}
 use Rattle.edit.specs.Edits.{held_in}
 use Rattle.edit.proofs.Buffered.{buffers, spot-gone, inserts-none, inserts-more, edited-same}
-use Rattle.edit.proofs.Gathered.{Gathered, joined, gathered_none, gathered-high, gathered-low, gathered-all}
+use Rattle.edit.proofs.Gathered.{joined, gathered_none, gathered-high, gathered-low, gathered-all}
 use Rattle.edit.proofs.insert_parts.Goals as goal
 use Rattle.edit.proofs.insert_parts.Goals.{In-loop-i, Start}
 

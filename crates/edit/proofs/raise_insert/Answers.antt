@@ -1,7 +1,6 @@
 -- `edit::raise_insert` meets its contract.
 use mathlib.Core.Path.{refl}
 use native.Mathlib.Omega.{arith}
-use borrow.Author.Rules.{rules}
 use Rattle.edit.proofs.Buffered.{same-held}
 use Rattle.edit.proofs.raise_insert.Goals as goal
 

@@ -5,7 +5,7 @@ use borrow.Author.Rules.{rules}
 use lib.ListN.{length}
 use Rattle.buffer.specs.Buffer.{held}
 use Rattle.buffer.proofs.Lists.{length-image}
-use Rattle.edit.proofs.Lowered.{Lowering, lowering-none, lowest-new, one_fewer, lowering-more, lowering-all, spilled-none}
+use Rattle.edit.proofs.Lowered.{lowering-none, lowest-new, one_fewer, lowering-more, lowering-all, spilled-none}
 use Rattle.edit.proofs.spill.Goals as goal
 use Rattle.edit.proofs.spill.Goals.{After-put-gathered, Start}
 

@@ -1,11 +1,5 @@
 -- `edit::spill` meets its contract. The loop's invariant: `Lowering`, what P has become and what has gathered.
-use mathlib.Core.Path.{◌≡◌}
-use native.Mathlib.Omega.{arith}
-use borrow.Author.Rules.{rules}
-use lib.ListN.{length}
-use Rattle.buffer.specs.Buffer.{held}
-use Rattle.buffer.proofs.Lists.{length-image}
-use Rattle.edit.proofs.Lowered.{Lowering, lowering-none, lowest-new, one_fewer, lowering-more, lowering-all, spilled-none}
+use Rattle.edit.proofs.Lowered.{Lowering}
 use Rattle.edit.proofs.spill.Given as goal
 
 abbrev pub invariant-loop-points : goal.invariant-loop-points

@@ -1,18 +1,8 @@
 -- fill, fetch and take_top meet their contracts: one induction, on the level.
-use borrow.Author.Rules.{rules}
-use native.Mathlib.Omega.{arith}
-use Prim.Native.Nat.{ℕ, ◌<◌, ◌≤◌, ◌+◌, ◌-◌, ◌*◌}
-use mathlib.Core.Path.{◌≡◌, refl, sym, ◌∙◌}
-use mathlib.Core.Logic.{inl}
-use borrow.Author.Tests.{not-true, not-false, leb-true}
+use Prim.Native.Nat.{◌≤◌, ◌+◌, ◌-◌, ◌*◌}
+use mathlib.Core.Path.{◌≡◌}
 use lib.ListN.{length}
-use Rattle.buffer.proofs.Lists.{length-image}
-use Rattle.buffer.proofs.Laws.{held-length, named-length}
-use Rattle.block.specs.declared.Asked.TheVariants.{Child}
-use Rattle.journal.proofs.Kept.{kept_refl, kept_trans, undoable-kept}
-use Rattle.fill.specs.Filling.{RoundPost}
-use Rattle.fill.proofs.Turns.{fetch-none, fetch-leaf, fetch-taken, round-done}
-use Rattle.fill.proofs.Whole.{Filling, goes_on_lem, fill_start, fill-ends, fill-turn, fill_fails, fill-over, take-fails, part-valid, fill-whole, take_done, loaded-works, filled-stores}
+use Rattle.fill.proofs.Whole.{Filling}
 use Rattle.fill.proofs.+fetch_fill_take_top.Given as goal
 
 abbrev pub decreases-fetch : goal.decreases-fetch

@@ -1,5 +1,4 @@
 -- `fill::without_deletes` meets its contract.
-use borrow.Author.Rules.{rules}
 use native.Mathlib.Omega.{arith}
 use mathlib.Core.Path.{refl, ap}
 use Rattle.octets.specs.Lists.{rising}

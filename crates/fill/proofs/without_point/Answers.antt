@@ -1,5 +1,4 @@
 -- `fill::without_point` meets its contract.
-use borrow.Author.Rules.{rules}
 use native.Mathlib.Omega.{arith}
 use mathlib.Core.Path.{refl}
 use Rattle.edit.proofs.Buffered.{same-held}

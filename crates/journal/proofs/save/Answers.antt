@@ -2,7 +2,6 @@
 use mathlib.Core.Path.{◌≡◌, sym, ◌∙◌}
 use mathlib.Core.Bool.{false}
 use native.Mathlib.Omega.{arith}
-use borrow.Author.Rules.{rules}
 use Rattle.octets.specs.Bitmap.{bit}
 use Rattle.octets.proofs.Bits.{set_bit-same}
 use Rattle.journal.proofs.Kept.{kept_refl, kept-save}

@@ -1,7 +1,7 @@
 -- `journal::undo` meets its contract. The loop's invariant: the blocks below b are as they were before, those from b on as at entry.
 use mathlib.Core.Path.{◌≡◌, sym, subst, ◌∙◌}
 use mathlib.Core.List.{List}
-use Prim.Native.Nat.{ℕ, ◌+◌, ◌*◌, ◌/◌, ◌-◌, ◌≤◌}
+use Prim.Native.Nat.{ℕ, ◌+◌, ◌*◌, ◌/◌, ◌≤◌}
 use native.Mathlib.Omega.{arith}
 use lib.ListN.{length}
 use Rattle.journal.proofs.Kept.{Undoing, undoing-none, undoing-clear, undoing-kept, undoing-all}

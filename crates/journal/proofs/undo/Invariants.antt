@@ -1,11 +1,6 @@
 -- `journal::undo` meets its contract. The loop's invariant: the blocks below b are as they were before, those from b on as at entry.
-use mathlib.Core.Path.{◌≡◌, sym, subst, ◌∙◌}
-use mathlib.Core.Logic.{⊎_elim}
-use mathlib.Core.List.{List}
-use Prim.Native.Nat.{ℕ, ◌+◌, ◌*◌, ◌/◌, ◌-◌, ◌≤◌}
-use native.Mathlib.Omega.{arith}
-use lib.ListN.{length}
-use Rattle.journal.proofs.Kept.{Undoing, undoing-none, undoing-clear, undoing-kept, undoing-all}
+use Prim.Native.Nat.{◌-◌, ◌≤◌}
+use Rattle.journal.proofs.Kept.{Undoing}
 use Rattle.journal.proofs.undo.Given as goal
 
 abbrev pub invariant-loop-b : goal.invariant-loop-b

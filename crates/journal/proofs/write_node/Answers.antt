@@ -1,5 +1,4 @@
 -- `journal::write_node` meets its contract: the block is kept, then one that is kept is written.
-use borrow.Author.Rules.{rules}
 use Rattle.journal.proofs.Kept.{kept_trans, kept-write}
 use Rattle.journal.proofs.write_node.Goals as goal
 

@@ -27,16 +27,16 @@ count_all-all-requires c =
 
 pub returns-then-not-all : goal.returns-then-not-all
 returns-then-not-all c =
-    all-broken _ _ _ _ _ c.count_all-all.ensures _ c.if-not-all.true c.refused.ensures
+    all-broken _ _ _ _ _ c.count_all-all.ensures _ (not-true _ c.if-not-all.true) c.refused.ensures
 
 pub returns-then-output-all : goal.returns-then-output-all
 returns-then-output-all c =
-    all-many _ _ _ _ _ c.count_all-all.ensures _ c.if-not-all.false (omega (arith, c.if-output-all.true)) refl
+    all-many _ _ _ _ _ c.count_all-all.ensures _ (not-false _ c.if-not-all.false) (omega (arith, c.if-output-all.true)) refl
 
 pub give_all-requires : goal.give_all-requires
 give_all-requires c =
     let pre = c.requires.0 in
-    let ok : c.count_all-all.result.ok ≡ true = c.if-not-all.false in
+    let ok : c.count_all-all.result.ok ≡ true = (not-false _ c.if-not-all.false) in
     let counted = c.count_all-all.ensures in
     record {
       sized = pre.sized;
@@ -59,6 +59,6 @@ copy-requires c =
 
 pub returns : goal.returns
 returns c =
-    all-given _ _ _ _ _ c.count_all-all.ensures _ c.if-not-all.false (omega (arith, c.if-output-all.false)) refl c.give_all.ensures c.requires.0.matched
+    all-given _ _ _ _ _ c.count_all-all.ensures _ (not-false _ c.if-not-all.false) (omega (arith, c.if-output-all.false)) refl c.give_all.ensures c.requires.0.matched
     c.copy_counts.ensures
     (map_is _ c.args.read_map.now _ (c.count_all-all.auto.seen ∙ c.set_bit.auto.map ∙ length-replicate {A = ℕ} 512 0) c.requires.0.mapped c.copy.ensures)

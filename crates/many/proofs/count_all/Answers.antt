@@ -26,12 +26,12 @@ going true i n h = (refl, omega (arith, ltb-true i n h))
 going false i n h = absurd (false≢true h)
 
 -- what is known in the loop: none was broken, and the i-th has its part of the buffer and its number
-record Within (c : tie.In-loop invariant-loop decreases-loop) : Type 0 where
-  ok : c.before.loop.ok ≡ true
-  more : c.before.loop.i + 1 ≤ c.args.b.n
-  few : c.before.loop.i < 64
-  room : 1536 * c.before.loop.i + 1536 ≤ length c.before.loop.few
-  number : c.before.loop.i < length c.before.loop.each
+record Within (c : In-loop-ok) : Type 0 where
+  ok : c.loop-ok.ok ≡ true
+  more : c.loop-ok.i + 1 ≤ c.args.b.n
+  few : c.loop-ok.i < 64
+  room : 1536 * c.loop-ok.i + 1536 ≤ length c.loop-ok.few
+  number : c.loop-ok.i < length c.loop-ok.each
 
 within : (c : In-loop-ok) → Within c
 within c =

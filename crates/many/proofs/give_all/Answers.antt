@@ -18,11 +18,11 @@ long : (s : Start) → length s.args.b.all ≡ 64
 long s = search (rules, length-image)
 
 -- what is known in the loop: the i-th has its part of the buffer, its number, and room
-record Within (c : tie.In-loop invariant-loop decreases-loop) : Type 0 where
-  few : c.before.loop.i < 64
-  buffer : 1536 * c.before.loop.i + 1536 ≤ length c.args.few.now
-  number : c.before.loop.i < length c.args.each.now
-  left : c.before.loop.at + 12 * get_or c.args.each.now c.before.loop.i 0 ≤ length c.before.loop.output
+record Within (c : In-loop-i) : Type 0 where
+  few : c.loop-i.i < 64
+  buffer : 1536 * c.loop-i.i + 1536 ≤ length c.args.few.now
+  number : c.loop-i.i < length c.args.each.now
+  left : c.loop-i.at + 12 * get_or c.args.each.now c.loop-i.i 0 ≤ length c.loop-i.output
 
 within : (c : In-loop-i) → Within c
 within c =
@@ -30,8 +30,8 @@ within c =
     record {
       few = omega (arith, known.many, c.loop-i-test.true);
       buffer = omega (arith, known.buffer, c.loop-i-test.true);
-      number = numbered _ _ _ _ _ known (long (start c)) c.loop-i.invariant c.loop-i-test.true;
-      left = room _ _ _ _ _ known (long (start c)) c.loop-i.invariant c.loop-i-test.true;
+      number = numbered _ _ _ _ _ known (let s : length c.args.b.all ≡ 64 = search (rules, length-image) in s) c.loop-i.invariant c.loop-i-test.true;
+      left = room _ _ _ _ _ known (let s : length c.args.b.all ≡ 64 = search (rules, length-image) in s) c.loop-i.invariant c.loop-i-test.true;
     }
 
 pub give-requires : goal.give-requires

@@ -23,7 +23,7 @@ returns-then-read_map-counts c =
     many-lent _ _ _ _ _ _ (sym c.sized.ensures ∙ c.if-not-sized.false) c.if-read_map-counts.true c.refused-then-read_map-counts.ensures
 
 -- what is known once the lengths are right
-record Fitting (c : tie.Else2) : Type 0 where
+record Fitting (c : Else-read_map-counts) : Type 0 where
   sized : table_sized (length c.args.table.now) ≡ true
   mapped : length c.args.read_map.now ≡ 512
   matched : length c.args.counts.now ≡ c.args.b.n

@@ -1,9 +1,6 @@
 -- `spare::find_clear` meets its contract. The loop's invariant: the blocks found so far, and the map with them marked.
-use Rattle.spare.proofs.Finding.{Found, found_none, found-more}
+use Rattle.spare.proofs.Finding.{Found}
 use Prim.Native.Nat.{◌-◌}
-use mathlib.Core.Path.{refl}
-use borrow.Author.Rules.{rules}
-use native.Mathlib.Omega.{arith}
 use Rattle.spare.proofs.find_clear.Given as goal
 
 abbrev pub invariant-loop-found : goal.invariant-loop-found

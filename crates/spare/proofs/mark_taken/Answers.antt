@@ -1,6 +1,5 @@
 -- `spare::mark_taken` meets its contract. The loop's invariant: the blocks from `left` up to i are marked besides those that were.
-use Rattle.spare.proofs.Marking.{MarkedTo, to_start, to_below, to-next, to_end}
-use Prim.Native.Nat.{◌-◌}
+use Rattle.spare.proofs.Marking.{to_start, to_below, to-next, to_end}
 use lib.ListN.{length}
 use mathlib.Core.Path.{◌≡◌}
 use borrow.Author.Rules.{rules}

@@ -1,10 +1,6 @@
 -- `spare::mark_taken` meets its contract. The loop's invariant: the blocks from `left` up to i are marked besides those that were.
-use Rattle.spare.proofs.Marking.{MarkedTo, to_start, to_below, to-next, to_end}
+use Rattle.spare.proofs.Marking.{MarkedTo}
 use Prim.Native.Nat.{◌-◌}
-use lib.ListN.{length}
-use mathlib.Core.Path.{◌≡◌}
-use borrow.Author.Rules.{rules}
-use native.Mathlib.Omega.{arith}
 use Rattle.spare.proofs.mark_taken.Given as goal
 
 abbrev pub invariant-loop-i : goal.invariant-loop-i

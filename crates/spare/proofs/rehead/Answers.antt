@@ -3,7 +3,6 @@ use Rattle.spare.proofs.Heading.{taken-fits, table-long, root-small, bound-small
 use Rattle.block.proofs.Frames.{put-part-is}
 use borrow.Rule.Slice.PartMut.{mid_len}
 use mathlib.Core.Path.{◌∙◌}
-use borrow.Author.Rules.{rules}
 use Rattle.spare.proofs.rehead.Goals as goal
 
 pub slice_bounds-turn_head-end : goal.slice_bounds-turn_head-end

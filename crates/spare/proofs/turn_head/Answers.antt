@@ -1,7 +1,6 @@
 -- `spare::turn_head` meets its contract: three numbers, and the map put into its part of the block.
 use Rattle.spare.proofs.Heading.{head-turned}
 use mathlib.Core.Path.{refl}
-use borrow.Author.Rules.{rules}
 use Rattle.spare.proofs.turn_head.Goals as goal
 
 pub returns : goal.returns

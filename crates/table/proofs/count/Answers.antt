@@ -7,12 +7,6 @@ use Rattle.table.proofs.Answering.{count-short, count-broken, count-whole, told-
 use borrow.Author.Rules.{rules}
 use Rattle.table.proofs.count.Goals as goal
 
-sized-requires : tie.Need-sized-requires
-sized-requires c κs = search rules
-
-plain-answer-requires : tie.Need-plain-answer-requires
-plain-answer-requires c κs = search rules
-
 pub returns-then-not-sized : goal.returns-then-not-sized
 returns-then-not-sized c = count-short _ _ (sym c.sized.ensures ∙ c.if-not-sized.true) c.plain_answer.ensures
 
@@ -23,13 +17,10 @@ count_table-all-requires c =
 pub returns-then-not-all : goal.returns-then-not-all
 returns-then-not-all c =
     let counted = counted-as c.everything-everything.ensures c.count_table-all.ensures in
-    count-broken _ _ (sym c.sized.ensures ∙ c.if-not-sized.false) (told-broken _ _ _ counted.ok c.if-not-all.true) c.plain_answer-then-not-all.ensures
-
-cast-t10 : tie.Need-overflow-cast-t10
-cast-t10 c = search rules
+    count-broken _ _ (sym c.sized.ensures ∙ c.if-not-sized.false) (told-broken _ _ _ counted.ok (not-true _ c.if-not-all.true)) c.plain_answer-then-not-all.ensures
 
 pub returns : goal.returns
 returns c =
     let counted = counted-as c.everything-everything.ensures c.count_table-all.ensures in
-    let ok = c.if-not-all.false in
+    let ok = (not-false _ c.if-not-all.false) in
     count-whole _ _ (sym c.sized.ensures ∙ c.if-not-sized.false) (told-whole _ _ _ counted.ok ok) (ap (answer 0) (counted.spots ok))

@@ -43,7 +43,7 @@ returns-then-not-all c =
     (omega (arith, c.if-read_map-ne512.false))
     (counted-as (query-same _ _ _ _ _ _ _ (to_z-of_z w32 _ fits.x1) (to_z-of_z w32 _ fits.x2) (to_z-of_z w32 _ fits.y) refl) c.size-all.ensures.0)
     _
-    c.if-not-all.true
+    (not-true _ c.if-not-all.true)
     c.plain_answer-then-not-all.ensures
 
 pub returns-then-output-all : goal.returns-then-output-all
@@ -54,13 +54,13 @@ returns-then-output-all c =
     (omega (arith, c.if-read_map-ne512.false))
     (counted-as (query-same _ _ _ _ _ _ _ (to_z-of_z w32 _ fits.x1) (to_z-of_z w32 _ fits.x2) (to_z-of_z w32 _ fits.y) refl) c.size-all.ensures.0)
     _
-    c.if-not-all.false
+    (not-false _ c.if-not-all.false)
     (omega (arith, c.if-output-all.true))
     refl
 
 pub give-requires : goal.give-requires
 give-requires c =
-    let ok : c.size-all.result.ok ≡ true = c.if-not-all.false in
+    let ok : c.size-all.result.ok ≡ true = (not-false _ c.if-not-all.false) in
     let counted = c.size-all.ensures.0 in
     record {
       walk =
@@ -85,7 +85,7 @@ returns c =
     _
     _
     _
-    c.if-not-all.false
+    (not-false _ c.if-not-all.false)
     (omega (arith, c.if-output-all.false))
     refl
     (rw (to_z-of_z w32 _ fits.x1, to_z-of_z w32 _ fits.x2, to_z-of_z w32 _ fits.y) at c.give.ensures)

@@ -1,7 +1,7 @@
 use Rattle.table.proofs.Answering.{told-whole}
 use mathlib.Core.Path.{refl}
 use mathlib.Core.Bool.{true≢false, false≢true}
-use borrow.Author.Tests.{not-false}
+use borrow.Author.Tests.{not-false, not-true}
 use Rattle.top.proofs.Sweeps.{zeroed}
 use Rattle.table.proofs.Sizing.{count_gives}
 use borrow.Author.Rules.{rules}
@@ -28,7 +28,7 @@ returns-then-not-found c =
 -- all are no more than k
 pub returns-then-n-k : goal.returns-then-n-k
 returns-then-n-k c =
-    let ok = c.if-not-found.false in
+    let ok = (not-false _ c.if-not-found.false) in
     let all = c.count_table-found.ensures in
     record {
       gives = λ x1 x2 a h. count_gives _ _ _ _ _ _ all.ok ok (all.spots ok) (omega arith) x1 x2 a;
@@ -40,7 +40,7 @@ returns-then-n-k c =
 -- there are more
 pub returns : goal.returns
 returns c =
-    let ok = c.if-not-found.false in
+    let ok = (not-false _ c.if-not-found.false) in
     let all = c.count_table-found.ensures in
     record {
       gives = λ x1 x2 a h. count_gives _ _ _ _ _ _ all.ok ok (all.spots ok) (omega arith) x1 x2 a;

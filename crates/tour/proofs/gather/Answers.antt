@@ -18,23 +18,21 @@ use Rattle.catalogue.proofs.Facts.{entry_of}
 use Rattle.tour.specs.Gathering.{Gatherable}
 use Rattle.tour.proofs.Steps.{ReadTo, read-start, read_as, seen-length, read-skip, read-stop, read-gatherable, read_next, read-end}
 use Rattle.tour.proofs.gather.Goals as goal
+use Rattle.tour.proofs.gather.Goals.{then-asks+else-not-tile_ok, else-asks, In-loop-b, At-loop-b, After-asks, After-tile_ok}
 
 pub loop-b-init : goal.loop-b-init
 loop-b-init c = read-start c.args.tour.now c.args.q c.requires
 
 -- what is known in a turn
-module _ (c : tie.In-loop invariant-loop decreases-loop) where
-  abbrev start : tie.Start invariant-loop decreases-loop
-  start = c.before.before.before.before.before
-
+module _ (c : In-loop-b) where
   abbrev tour : List ℕ
-  tour = start.args.tour.now
+  tour = c.args.tour.now
 
   abbrev b : ℕ
-  b = c.before.loop.b
+  b = c.loop-b.b
 
   lengths : Lengths (length tour)
-  lengths = sized-lengths (length tour) start.pre.sized
+  lengths = sized-lengths (length tour) c.requires.sized
 
   more : b < blocks_of (length tour)
   more = omega arith
@@ -46,15 +44,12 @@ module _ (c : tie.In-loop invariant-loop decreases-loop) where
   low = omega (arith, more, lengths.few)
 
 -- and of the block that is asked for
-module _ (c : tie.After-asks invariant-loop decreases-loop) where
-  abbrev turn : tie.In-loop invariant-loop decreases-loop
-  turn = c.before.before.before
+module _ (c : After-asks) where
+  entry : c.read_entry-e.result ≡ tile_entry c.args.tour.now c.loop-b.b
+  entry = c.read_entry-e.ensures.0 ∙ sym (entry_of c.args.tour.now c.loop-b.b)
 
-  entry : c.before.read-entry.result ≡ tile_entry (tour turn) (b turn)
-  entry = c.before.read-entry.ensures.0 ∙ sym (entry_of (tour turn) (b turn))
-
-  facts : LimitedEntry c.before.read-entry.result
-  facts = c.before.read-entry.ensures.1
+  facts : LimitedEntry c.read_entry-e.result
+  facts = c.read_entry-e.ensures.1
 
 pub slice_bounds-read_entry-end : goal.slice_bounds-read_entry-end
 slice_bounds-read_entry-end c = omega (arith, inside (goal.at.slice_bounds-read_entry-end c).In-loop-b)
@@ -71,101 +66,90 @@ read_entry-e-requires c =
     }
 
 pub overflow_mul-from : goal.overflow_mul-from
-overflow_mul-from c = let l = low (turn (goal.at.overflow_mul-from c).After-asks) in omega arith
+overflow_mul-from c = let l = low (goal.at.overflow_mul-from c).In-loop-b in omega arith
 
 pub overflow_add-to : goal.overflow_add-to
-overflow_add-to c = let l = low (turn (goal.at.overflow_add-to c).After-asks) in omega arith
+overflow_add-to c = let l = low (goal.at.overflow_add-to c).In-loop-b in omega arith
 
 pub slice_bounds-tile_ok-end : goal.slice_bounds-tile_ok-end
-slice_bounds-tile_ok-end c = omega (arith, inside (turn (goal.at.slice_bounds-tile_ok-end c).After-asks))
+slice_bounds-tile_ok-end c = omega (arith, inside (goal.at.slice_bounds-tile_ok-end c).In-loop-b)
 
 pub tile_ok-requires : goal.tile_ok-requires
 tile_ok-requires c =
-    ((facts (goal.at.tile_ok-requires c).After-asks).some, (facts (goal.at.tile_ok-requires c).After-asks).few, ap length (part-is (tour (turn (goal.at.tile_ok-requires c).After-asks)) (b (turn (goal.at.tile_ok-requires c).After-asks))) ∙ block-length (tour (turn (goal.at.tile_ok-requires c).After-asks)) (b (turn (goal.at.tile_ok-requires c).After-asks)) (inside (turn (goal.at.tile_ok-requires c).After-asks)))
+    ((facts (goal.at.tile_ok-requires c).After-asks).some, (facts (goal.at.tile_ok-requires c).After-asks).few, ap length (part-is (tour (goal.at.tile_ok-requires c).In-loop-b) (b (goal.at.tile_ok-requires c).In-loop-b)) ∙ block-length (tour (goal.at.tile_ok-requires c).In-loop-b) (b (goal.at.tile_ok-requires c).In-loop-b) (inside (goal.at.tile_ok-requires c).In-loop-b))
 
 -- the lengths of the map and of the buffer
-module _ (c : tie.At-loop invariant-loop decreases-loop) where
-  abbrev at-start : tie.Start invariant-loop decreases-loop
-  at-start = c.before.before.before.before
+module _ (c : At-loop-b) where
+  map-long : length c.loop-b.seen ≡ length c.args.seen.now
+  map-long = seen-length c.args.tour.now c.args.q c.loop-b.invariant ∙ sym (ap length c.requires.blank ∙ length-replicate {A = ℕ} 512 0)
 
-  map-long : length c.loop.seen ≡ length at-start.args.seen.now
-  map-long = seen-length at-start.args.tour.now at-start.args.q c.loop.invariant ∙ sym (ap length at-start.pre.blank ∙ length-replicate {A = ℕ} 512 0)
-
-  buffer-long : length c.loop.found ≡ length at-start.args.found.now
-  buffer-long = c.loop.invariant.buffer ∙ sym at-start.pre.buffer
+  buffer-long : length c.loop-b.found ≡ length c.args.found.now
+  buffer-long = c.loop-b.invariant.buffer ∙ sym c.requires.buffer
 
 pub shape_of-seen-then-not-tile_ok : goal.shape_of-seen-then-not-tile_ok
-shape_of-seen-then-not-tile_ok c = map-long (turn (goal.at.shape_of-seen-then-not-tile_ok c).After-asks).before
+shape_of-seen-then-not-tile_ok c = map-long (goal.at.shape_of-seen-then-not-tile_ok c).At-loop-b
 
 pub shape_of-found-then-not-tile_ok : goal.shape_of-found-then-not-tile_ok
-shape_of-found-then-not-tile_ok c = buffer-long (turn (goal.at.shape_of-found-then-not-tile_ok c).After-asks).before
+shape_of-found-then-not-tile_ok c = buffer-long (goal.at.shape_of-found-then-not-tile_ok c).At-loop-b
 
 -- a block that is asked for, and whether it is in order
-module _ (c : tie.After-tile-ok invariant-loop decreases-loop) where
-  abbrev asked : tie.After-asks invariant-loop decreases-loop
-  asked = c.before.before.before
-
-  fine-is : c.tile-ok.result ≡ tile_fine (blocks_of (length (tour (turn asked)))) (b (turn asked)) asked.before.read-entry.result (block (tour (turn asked)) (b (turn asked)))
-  fine-is = c.tile-ok.ensures ∙ ap (tile_fine (blocks_of (length (tour (turn asked)))) (b (turn asked)) asked.before.read-entry.result) (part-is (tour (turn asked)) (b (turn asked)))
+module _ (c : After-tile_ok) where
+  fine-is : c.tile_ok.result ≡ tile_fine (blocks_of (length c.args.tour.now)) c.loop-b.b c.read_entry-e.result (block c.args.tour.now c.loop-b.b)
+  fine-is = c.tile_ok.ensures ∙ ap (tile_fine (blocks_of (length c.args.tour.now)) c.loop-b.b c.read_entry-e.result) (part-is c.args.tour.now c.loop-b.b)
 
 pub returns-then-not-tile_ok : goal.returns-then-not-tile_ok
 returns-then-not-tile_ok c =
-    let a = asked (goal.at.returns-then-not-tile_ok c).After-tile_ok in
-    let v = turn a in
-    read-stop (tour v) (start v).args.q v.before.loop.inv (more v) (entry a) (sym a.asks.ensures ∙ c.if-asks.true)
+    read-stop (tour (goal.at.returns-then-not-tile_ok c).In-loop-b) c.args.q c.loop-b.invariant (more (goal.at.returns-then-not-tile_ok c).In-loop-b) (entry (goal.at.returns-then-not-tile_ok c).After-asks) (sym c.asks.ensures ∙ c.if-asks.true)
     (sym (fine-is (goal.at.returns-then-not-tile_ok c).After-tile_ok) ∙ c.if-not-tile_ok.true) refl refl
 
 pub set_bit-requires : goal.set_bit-requires
 set_bit-requires c =
-    let v = turn (asked (goal.at.set_bit-requires c).After-tile_ok) in
-    omega (arith, low v, seen-length (tour v) (start v).args.q v.before.loop.inv)
+    omega (arith, low (goal.at.set_bit-requires c).In-loop-b, seen-length (tour (goal.at.set_bit-requires c).In-loop-b) c.args.q c.loop-b.invariant)
 
 pub slice_bounds-gather_tile-end : goal.slice_bounds-gather_tile-end
-slice_bounds-gather_tile-end c = omega (arith, inside (turn (asked (goal.at.slice_bounds-gather_tile-end c).After-tile_ok)))
+slice_bounds-gather_tile-end c = omega (arith, inside (goal.at.slice_bounds-gather_tile-end c).In-loop-b)
 
 pub gather_tile-n-requires : goal.gather_tile-n-requires
 gather_tile-n-requires c =
-    let a = asked (goal.at.gather_tile-n-requires c).After-tile_ok in
-    let v = turn a in
-    let e = a.before.read-entry.result in
-    subst (λ (s : List ℕ). Gatherable s e v.before.loop.found v.before.loop.n) (sym (part-is (tour v) (b v)))
-    (read-gatherable (tour v) (start v).args.q v.before.loop.inv (more v) (entry a) (sym a.asks.ensures ∙ c.if-asks.true)
-    (sym (fine-is (goal.at.gather_tile-n-requires c).After-tile_ok) ∙ c.if-not-tile_ok.false) (start v).pre.sized (facts a))
+    let e = c.read_entry-e.result in
+    subst (λ (s : List ℕ). Gatherable s e c.loop-b.found c.loop-b.n) (sym (part-is (tour (goal.at.gather_tile-n-requires c).In-loop-b) (b (goal.at.gather_tile-n-requires c).In-loop-b)))
+    (read-gatherable (tour (goal.at.gather_tile-n-requires c).In-loop-b) c.args.q c.loop-b.invariant (more (goal.at.gather_tile-n-requires c).In-loop-b) (entry (goal.at.gather_tile-n-requires c).After-asks) (sym c.asks.ensures ∙ c.if-asks.true)
+    (sym (fine-is (goal.at.gather_tile-n-requires c).After-tile_ok) ∙ c.if-not-tile_ok.false) c.requires.sized (facts (goal.at.gather_tile-n-requires c).After-asks))
 
 pub overflow_add-n : goal.overflow_add-n
 overflow_add-n c =
-    let v = turn (asked (goal.at.overflow_add-n c).After-tile_ok) in
-    let l = low v in
-    let f = v.before.loop.inv.few in
+    let l = low (goal.at.overflow_add-n c).In-loop-b in
+    let f = c.loop-b.invariant.few in
     let g = c.gather_tile-n.ensures.1 in
     omega arith
 
 pub overflow_add-b : goal.overflow_add-b
-overflow_add-b c = let l = low (turn (goal.at.overflow_add-b c).After-asks) in omega arith
+overflow_add-b c = let l = low (goal.at.overflow_add-b c).In-loop-b in omega arith
 
 pub loop-b-smaller : goal.loop-b-smaller
-loop-b-smaller c = let l = more (turn (goal.at.loop-b-smaller c).After-asks) in omega arith
+loop-b-smaller c = let l = more (goal.at.loop-b-smaller c).In-loop-b in omega arith
 
 pub loop-b-preserved : goal.loop-b-preserved
 loop-b-preserved c =
-    let v = turn (goal.at.loop-b-preserved c).After-asks in
-    let l = v.before.loop in
-    let t = tour v in
-    let q = (start v).args.q in
-    ⊎_elim
-    (λ w.
-    let yes : asks q (blocks_of (length t)) (b v) c.read_entry-e.result ≡ true = sym c.asks.ensures ∙ w.0.taken in
-    let good : tile_fine (blocks_of (length t)) (b v) c.read_entry-e.result (block t (b v)) ≡ true =
-    sym (w.2.ensures ∙ ap (tile_fine (blocks_of (length t)) (b v) c.read_entry-e.result) (part-is t (b v))) ∙ not-false _ w.3.left
-    in
-    read_as t q w.13 w.14 w.15
-    (read_next t q l.inv (more v) (entry (goal.at.loop-b-preserved c).After-asks) yes good w.5.ensures (rw (part-is t (b v)) at w.10.ensures)))
-    (λ w. read_as t q w.1 w.2 w.3 (read-skip t q l.inv (more v) (entry (goal.at.loop-b-preserved c).After-asks) (sym c.asks.ensures ∙ w.0.left)))
-    c.if-asks.branch
+    let at-loop = (goal.at.loop-b-preserved c).In-loop-b in
+    let at-asks = (goal.at.loop-b-preserved c).After-asks in
+    let l = c.loop-b in
+    let t = c.args.tour.now in
+    let q = c.args.q in
+    elim c.if-asks.branch [
+      then-asks+else-not-tile_ok w ↦
+          let yes : asks q (blocks_of (length t)) l.b c.read_entry-e.result ≡ true = sym c.asks.ensures ∙ w.if-asks.true in
+          let good : tile_fine (blocks_of (length t)) l.b c.read_entry-e.result (block t l.b) ≡ true =
+          sym (w.tile_ok.ensures ∙ ap (tile_fine (blocks_of (length t)) l.b c.read_entry-e.result) (part-is t l.b)) ∙ w.if-not-tile_ok.false
+          in
+          read_as t q w.seen-is w.found-is w.n-is
+          (read_next t q l.invariant (more at-loop) (entry at-asks) yes good w.set_bit.ensures (rw (part-is t l.b) at w.gather_tile-n.ensures))
+      | else-asks w ↦ read_as t q w.seen-is w.found-is w.n-is (read-skip t q l.invariant (more at-loop) (entry at-asks) (sym c.asks.ensures ∙ w.if-asks.false))
+    ]
 
 pub set_bit-requires-2 : goal.set_bit-requires-2
 set_bit-requires-2 c =
-    omega (arith, seen-length (at-start (goal.at.set_bit-requires-2 c).At-loop-b).args.tour.now (at-start (goal.at.set_bit-requires-2 c).At-loop-b).args.q c.loop-b.invariant)
+    omega (arith, seen-length c.args.tour.now c.args.q c.loop-b.invariant)
 
 pub shape_of-seen : goal.shape_of-seen
 shape_of-seen c =
@@ -176,6 +160,5 @@ shape_of-found c = buffer-long (goal.at.shape_of-found c).At-loop-b
 
 pub returns : goal.returns
 returns c =
-    let s = at-start (goal.at.returns c).At-loop-b in
-    let ended : blocks_of (length s.args.tour.now) ≤ c.loop-b.b = omega arith in
-    read-end s.args.tour.now s.args.q c.loop-b.invariant s.pre.sized ended c.set_bit-2.ensures refl refl
+    let ended : blocks_of (length c.args.tour.now) ≤ c.loop-b.b = omega arith in
+    read-end c.args.tour.now c.args.q c.loop-b.invariant c.requires.sized ended c.set_bit-2.ensures refl refl
