@@ -49,7 +49,7 @@ overflow_mul-at c =
 
 pub overflow_add-at : goal.overflow_add-at
 overflow_add-at c =
-    omega (arith, within (goal.at.overflow_add-at c).In-loop-i, c.loop-i.invariant.sized, c.well-formed)
+    omega (arith, within (goal.at.overflow_add-at c).In-loop-i, c.loop-i.invariant.sized, c.well_formed)
 
 pub loop-i-preserved : goal.loop-i-preserved
 loop-i-preserved c =

@@ -52,11 +52,11 @@ returns-then-not-header_ok c =
 answerable : (c : Else-not-header_ok) (few : List ℕ) → 1536 * c.args.b.n ≤ length few
     → Answerable c.args.b c.args.table.now few c.args.counts.now c.args.read_map.now
 answerable c few room =
-    let k = (let args = c.args in let lengths = lengths-right args.read_map.now args.counts.now args.b.n c.if-read_map-counts.false in record { sized = sym c.sized.ensures ∙ c.if-not-sized.false; mapped = lengths.0; matched = lengths.1 }) in
+    let lengths = lengths-right c.args.read_map.now c.args.counts.now c.args.b.n c.if-read_map-counts.false in
     record {
-      sized = k.sized;
-      mapped = k.mapped;
-      matched = k.matched;
+      sized = sym c.sized.ensures ∙ c.if-not-sized.false;
+      mapped = lengths.0;
+      matched = lengths.1;
       many = omega (arith, c.if-b-gt64.false);
       header = sym c.header_ok.ensures ∙ c.if-not-header_ok.false;
       buffer = room;
