@@ -1,4 +1,3 @@
-pub mod Lent
 pub mod Unions
 pub mod Slots
 pub mod Counting
