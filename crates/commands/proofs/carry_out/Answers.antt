@@ -1,6 +1,7 @@
 -- `commands::carry_out` meets its contract, by that of the call which the command names.
+use mathlib.Core.Path.{◌≡◌}
 use mir.Syntax.{w32}
-use mir.ValLaws.{to_z-of_z}
+use mir.Val.{to_z, of_z}
 use borrow.Author.Rules.{rules}
 use Rattle.table.proofs.Given.{report-inside, top-inside}
 use Rattle.commands.proofs.Telling.{inside-shown, told_add, told-withdraw, told-report, told-top, told-bad}
@@ -9,24 +10,22 @@ use Rattle.commands.proofs.carry_out.Goals as goal
 pub returns-in-Add : goal.returns-in-Add
 returns-in-Add c =
     let add = c.add-a in
-    let f = c.in-Add.known_told-1-own.given in
-    let g = c.c-1.given in
-    let x = g.0.0 in
-    let y = g.0.1.0 in
-    let ex = to_z-of_z w32 x (record { sfits = f.0.1 }) in
-    let ey = to_z-of_z w32 y (record { sfits = f.1.0.1 }) in
-    told_add _ _ _ _ _ _ _ _ add.result x y _ _ _ _ _ g.1 ex ey c.requires.refusal add.ensures c.tell.ensures
+    let g = c.in-Add in
+    let x = g.place in
+    let y = g.rank in
+    let ex : to_z w32 (of_z w32 x) ≡ x = search rules in
+    let ey : to_z w32 (of_z w32 y) ≡ y = search rules in
+    told_add _ _ _ _ _ _ _ _ add.result x y _ _ _ _ _ g.is ex ey c.requires.refusal add.ensures c.tell.ensures
 
 pub returns-in-Withdraw : goal.returns-in-Withdraw
 returns-in-Withdraw c =
     let withdraw = c.withdraw-a in
-    let f = c.in-Withdraw.known_told-in-Withdraw-1-own.given in
-    let g = c.c-in-Withdraw-1.given in
-    let x = g.0.0 in
-    let y = g.0.1.0 in
-    let ex = to_z-of_z w32 x (record { sfits = f.0.1 }) in
-    let ey = to_z-of_z w32 y (record { sfits = f.1.0.1 }) in
-    told-withdraw _ _ _ _ _ _ _ _ withdraw.result x y _ _ _ _ g.1 ex ey c.requires.refusal withdraw.ensures c.tell-in-Withdraw.ensures
+    let g = c.in-Withdraw in
+    let x = g.place in
+    let y = g.rank in
+    let ex : to_z w32 (of_z w32 x) ≡ x = search rules in
+    let ey : to_z w32 (of_z w32 y) ≡ y = search rules in
+    told-withdraw _ _ _ _ _ _ _ _ withdraw.result x y _ _ _ _ g.is ex ey c.requires.refusal withdraw.ensures c.tell-in-Withdraw.ensures
 
 pub show-requires : goal.show-requires
 show-requires c =
@@ -36,15 +35,14 @@ show-requires c =
 pub returns-in-Report : goal.returns-in-Report
 returns-in-Report c =
     let report = c.report-a in
-    let f = c.in-Report.known_told-in-Report-1-own.given in
-    let g = c.c-in-Report-1.given in
-    let x = g.0.0 in
-    let y = g.0.1.0 in
-    let z = g.0.1.1.0 in
-    let ex = to_z-of_z w32 x (record { sfits = f.0.1 }) in
-    let ey = to_z-of_z w32 y (record { sfits = f.1.0.1 }) in
-    let ez = to_z-of_z w32 z (record { sfits = f.1.1.0.1 }) in
-    told-report _ _ _ _ _ _ _ _ report.result x y z _ _ _ _ _ g.1 ex ey ez report.ensures c.show.ensures
+    let g = c.in-Report in
+    let x = g.x1 in
+    let y = g.x2 in
+    let z = g.y in
+    let ex : to_z w32 (of_z w32 x) ≡ x = search rules in
+    let ey : to_z w32 (of_z w32 y) ≡ y = search rules in
+    let ez : to_z w32 (of_z w32 z) ≡ z = search rules in
+    told-report _ _ _ _ _ _ _ _ report.result x y z _ _ _ _ _ g.is ex ey ez report.ensures c.show.ensures
 
 pub show-requires-in-Top : goal.show-requires-in-Top
 show-requires-in-Top c =
@@ -54,13 +52,12 @@ show-requires-in-Top c =
 pub returns-in-Top : goal.returns-in-Top
 returns-in-Top c =
     let top = c.top-a in
-    let f = c.in-Top.known_told-in-Top-1-own.given in
-    let g = c.c-in-Top-1.given in
-    let x = g.0.0 in
-    let y = g.0.1.0 in
-    let ex = to_z-of_z w32 x (record { sfits = f.0.1 }) in
-    let ey = to_z-of_z w32 y (record { sfits = f.1.0.1 }) in
-    told-top _ _ _ _ _ _ _ _ top.result x y _ _ _ _ _ g.1 ex ey top.ensures c.show-in-Top.ensures
+    let g = c.in-Top in
+    let x = g.x1 in
+    let y = g.x2 in
+    let ex : to_z w32 (of_z w32 x) ≡ x = search rules in
+    let ey : to_z w32 (of_z w32 y) ≡ y = search rules in
+    told-top _ _ _ _ _ _ _ _ top.result x y _ _ _ _ _ g.is ex ey top.ensures c.show-in-Top.ensures
 
 pub returns-in-Bad : goal.returns-in-Bad
 returns-in-Bad c =

@@ -19,22 +19,22 @@ row c =
 pub returns-then-op-eq3 : goal.returns-then-op-eq3
 returns-then-op-eq3 c =
     let z = c.read_i32-y in
-    made-report (row (goal.at.returns-then-op-eq3 c).After-read_i32-b) _ _ _ _ _ _ _ _ c.plain.ensures z.result _ _ c.if-op-eq3.true z.ensures c.report.ensures
+    made-report (row (goal.at.returns-then-op-eq3 c).After-read32-c) _ _ _ _ _ _ _ _ c.plain.ensures z.result _ _ c.if-op-eq3.true z.ensures c.report.ensures
 
 pub returns-then-op-eq4 : goal.returns-then-op-eq4
 returns-then-op-eq4 c =
-    made-top (row (goal.at.returns-then-op-eq4 c).After-read_i32-b) _ _ _ _ _ _ _ _ c.plain-then-op-eq4.ensures _ _ c.if-op-eq4.true c.top.ensures
+    made-top (row (goal.at.returns-then-op-eq4 c).After-read32-c) _ _ _ _ _ _ _ _ c.plain-then-op-eq4.ensures _ _ c.if-op-eq4.true c.top.ensures
 
 pub returns-then-op-eq8 : goal.returns-then-op-eq8
 returns-then-op-eq8 c =
     let n = c.read32-n in
     let from = c.read32-from in
-    made-many (row (goal.at.returns-then-op-eq8 c).After-read_i32-b) c.args.handed.now _ _ _ _ _ _ _ c.plain-then-op-eq8.ensures from.result n.result c.ranges_from-batch.result _ _ _
+    made-many (row (goal.at.returns-then-op-eq8 c).After-read32-c) c.args.handed.now _ _ _ _ _ _ _ c.plain-then-op-eq8.ensures from.result n.result c.ranges_from-batch.result _ _ _
     (λ i. (c.shared_slice_known-2-1.given i).fits) c.if-op-eq8.true from.ensures.0 n.ensures.0 c.ranges_from-batch.ensures c.report_batch.ensures
 
 pub returns-then-op-eq9 : goal.returns-then-op-eq9
 returns-then-op-eq9 c =
-    made-within (row (goal.at.returns-then-op-eq9 c).After-read_i32-b) _ _ _ _ _ _ _ c.read32-d.result _ _ c.if-op-eq9.true c.read32-d.ensures.0 c.say.ensures
+    made-within (row (goal.at.returns-then-op-eq9 c).After-read32-c) _ _ _ _ _ _ _ c.read32-d.result _ _ c.if-op-eq9.true c.read32-d.ensures.0 c.say.ensures
 
 pub returns-then-op-gt9 : goal.returns-then-op-gt9
 returns-then-op-gt9 c =

@@ -28,10 +28,10 @@ returns-then-op-eq2 c =
     made-withdraw (row (goal.at.returns-then-op-eq2 c).After-read32-c) _ _ _ _ _ c.if-op-eq2.true c.withdraw.ensures
 
 pub returns-then-op-eq5 : goal.returns-then-op-eq5
-returns-then-op-eq5 c = made-count (row (goal.at.returns-then-op-eq5 c).After-read_i32-b) _ _ _ c.if-op-eq5.true c.count.ensures
+returns-then-op-eq5 c = made-count (row (goal.at.returns-then-op-eq5 c).After-read32-c) _ _ _ c.if-op-eq5.true c.count.ensures
 
 pub returns-then-op-eq6 : goal.returns-then-op-eq6
-returns-then-op-eq6 c = made-check (row (goal.at.returns-then-op-eq6 c).After-read_i32-b) _ _ _ c.if-op-eq6.true c.check.ensures
+returns-then-op-eq6 c = made-check (row (goal.at.returns-then-op-eq6 c).After-read32-c) _ _ _ c.if-op-eq6.true c.check.ensures
 
 pub returns : goal.returns
 returns c =

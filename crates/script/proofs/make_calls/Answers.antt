@@ -43,13 +43,12 @@ loop-i-preserved c =
     let more : q.i + 1 ≤ c.args.n = omega (arith, c.loop-i-test.true) in
     let place : q.at + part ≡ part * (q.i + 1) = omega (arith, q.invariant.1) in
     let p = turn.new.part in
-    let kept = turn.auto.? in
-    let same = kept.1.1.1.1.0 in (
+    let same = turn.auto.part in (
       more,
       place,
       same_len_mid q.at k q.log p same ∙ q.invariant.2,
-      next _ _ _ _ _ _ _ _ _ _ _ q.invariant.3 k size fits _ _ _ _ p turn.ensures (q.at + part) end same kept.0 kept.1.0 kept.1.1.0
-          kept.1.1.1.0,
+      next _ _ _ _ _ _ _ _ _ _ _ q.invariant.3 k size fits _ _ _ _ p turn.ensures (q.at + part) end same turn.auto.table turn.auto.scratch turn.auto.read_map
+          turn.auto.counts,
     )
 
 pub returns : goal.returns

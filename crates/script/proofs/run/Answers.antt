@@ -24,6 +24,5 @@ returns c =
     let format = c.format in
     let made = c.make_calls in
     let sized = sym c.sized.ensures ∙ c.if-not-sized.false in
-    let kept = made.auto.? in
     says-run _ _ _ _ _ _ _ _ _ _ _ _ sized part.result format.new.table part.ensures (omega (arith, c.if-part-lt12.false)) format.ensures.written made.ensures
-    (record { table = kept.0 ∙ format.auto.table; scratch = kept.1.0; read_map = kept.1.1.0; counts = kept.1.1.1.0; log = kept.1.1.1.1.0 })
+    (record { table = made.auto.table ∙ format.auto.table; scratch = made.auto.scratch; read_map = made.auto.read_map; counts = made.auto.counts; log = made.auto.log })

@@ -34,16 +34,14 @@ returns c =
     let i = c.smaller-c in
     let j = c.smaller-b in
     let k = c.smaller-a in
-    let last = call.new.? in
-    let kept = call.auto.? in
-    lent _ a.script.now a.at _ w m v o call.result _ last.0 last.1.0 last.1.1.0 last.1.1.1.0 i.result j.result c.smaller-d.result
+    lent _ a.script.now a.at _ w m v o call.result _ call.new.scratch call.new.read_map call.new.counts call.new.output i.result j.result c.smaller-d.result
     k.result
     (i.ensures ∙ ap (λ (n : ℕ). min n (length w)) c.read32-3.ensures.0)
     (j.ensures ∙ ap (λ (n : ℕ). min n (length m)) c.read32-2.ensures.0)
     (c.smaller-d.ensures ∙ ap (λ (n : ℕ). min n (length v)) c.read32-4.ensures.0)
     (k.ensures ∙ ap (λ (n : ℕ). min n (length o)) c.read32.ensures.0)
-    kept.0
-    kept.1.0
-    kept.1.1.0
-    kept.1.1.1.0
+    call.auto.scratch
+    call.auto.read_map
+    call.auto.counts
+    call.auto.output
     call.ensures

@@ -22,10 +22,8 @@ write32-requires-3 c =
 pub returns : goal.returns
 returns c =
     let v = c.write32-2 in
-    let last = c.step-said.new.? in
-    let kept = c.step-said.auto.? in
     let said = c.step-said.result in
-    turned (step_at c.args.handed.now c.args.script.now c.args.at) _ _ _ _ _ said _ _ _ _ last.0 c.write32.new.s v.new.s _ c.requires.1 kept.0 c.step-said.ensures c.write32.ensures
+    turned (step_at c.args.handed.now c.args.script.now c.args.at) _ _ _ _ _ said _ _ _ _ c.step-said.new.output c.write32.new.s v.new.s _ c.requires.1 c.step-said.auto.output c.step-said.ensures c.write32.ensures
     v.ensures
     (c.write32-3.ensures
     ∙ ap (λ (n : ℕ). put_be 4 v.new.s 8 n)

@@ -137,7 +137,7 @@ loop-b-preserved c =
     let t = c.args.tour.now in
     let q = c.args.q in
     elim c.if-asks.branch [
-      then-asks+else-not-tile_ok w ↦
+      | then-asks+else-not-tile_ok w ↦
           let yes : asks q (blocks_of (length t)) l.b c.read_entry-e.result ≡ true = sym c.asks.ensures ∙ w.if-asks.true in
           let good : tile_fine (blocks_of (length t)) l.b c.read_entry-e.result (block t l.b) ≡ true =
           sym (w.tile_ok.ensures ∙ ap (tile_fine (blocks_of (length t)) l.b c.read_entry-e.result) (part-is t l.b)) ∙ w.if-not-tile_ok.false
