@@ -7,8 +7,8 @@ use native.Mathlib.Omega.{arith}
 use Rattle.bench.proofs.take_all.Given as goal
 
 abbrev pub invariant-loop-turns : goal.invariant-loop-turns
-invariant-loop-turns l =
+invariant-loop-turns g l =
     (l.used ≤ 64) × (length l.table ≡ length l.initial.table) × (length l.scratch ≡ length l.initial.scratch) × (length l.line ≡ 64)
 
 abbrev pub decreases-loop-turns : goal.decreases-loop-turns
-decreases-loop-turns l = l.turns
+decreases-loop-turns g l = l.turns

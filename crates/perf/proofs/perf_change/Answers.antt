@@ -1,12 +1,10 @@
 -- `perf::perf_change` meets its contract: the node that was loaded stays one that may be stored.
 use Rattle.std.proofs.Common.{◌≡◌, ℕ, ◌<◌, true, sym, ◌∙◌, arith, rules}
 use mathlib.Core.Path.{subst⁻¹}
-use borrow.Author.Tests.{not-false}
 use Rattle.block.specs.declared.Asked.TheVariants.{Root}
 use Rattle.block.specs.NodeRules.{zero_first, lows}
 use Rattle.node.specs.Memory.{entries_of, EntriesFit}
 use Rattle.node.specs.declared.Entries.{Entries}
-use Rattle.perf.proofs.perf_change.Lts as lts
 use Rattle.perf.proofs.perf_change.Goals as goal
 
 pub load-n-requires : goal.load-n-requires

@@ -3,7 +3,6 @@ use Rattle.std.proofs.Common.{◌≡◌, ℕ, ◌+◌, ◌-◌, ◌*◌, ◌/◌
 use Rattle.spot.specs.Keys.{limited}
 use Rattle.spot.specs.Spots.{key_at}
 use Rattle.spot.proofs.Limits.{limited-each}
-use Rattle.perf.proofs.perf_sum_keys.Lts as lts
 use Rattle.perf.proofs.perf_sum_keys.Given as goal
 
 abbrev pub invariant-loop-i : goal.invariant-loop-i

@@ -1,6 +1,6 @@
 -- `vectors::allowances::show_blocks` is safe and ends.
 -- Assumes nothing.
-use Rattle.std.proofs.Common.{◌-◌, arith, rules}
+use Rattle.std.proofs.Common.{◌-◌}
 use Rattle.vectors.proofs.allowances.show_blocks.Given as goal
 
 abbrev pub invariant-loop-b : goal.invariant-loop-b

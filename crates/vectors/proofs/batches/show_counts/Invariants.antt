@@ -1,6 +1,6 @@
 -- `vectors::batches::show_counts` is safe and ends.
 -- Assumes nothing.
-use Rattle.std.proofs.Common.{◌-◌, arith, rules}
+use Rattle.std.proofs.Common.{◌-◌}
 use Rattle.vectors.proofs.batches.show_counts.Given as goal
 
 abbrev pub invariant-loop-i : goal.invariant-loop-i

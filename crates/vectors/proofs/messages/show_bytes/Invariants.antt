@@ -1,6 +1,6 @@
 -- `vectors::messages::show_bytes` is safe and ends.
 -- Assumes nothing.
-use Rattle.std.proofs.Common.{◌-◌, arith, rules}
+use Rattle.std.proofs.Common.{◌-◌}
 use Rattle.vectors.proofs.messages.show_bytes.Given as goal
 
 abbrev pub invariant-loop-i : goal.invariant-loop-i
