@@ -1,4 +1,4 @@
-# make                     the archive target/libspot_table.a (runs `rt staticlib cabi` where it is missing or older than crates/)
+# make                     the archive target/libspot_table.a (runs `rt lib` in crates/cabi where it is missing or older than crates/)
 # make TARGET=NAME         the same proved module for another processor: target/NAME/libspot_table.a, for wasm32 spot_table.wasm, too; cross/targets has the names
 # make install PREFIX=..   header, archive and pkg-config file; with TARGET=NAME the latter two in lib/NAME, for wasm32 spot_table.wasm, too
 # make uninstall PREFIX=.. removes them; with TARGET=NAME the header stays
@@ -9,7 +9,7 @@ DESTDIR ?=
 TARGET ?=
 prefix := $(abspath $(PREFIX))
 VERSION := $(shell sed -n 's/^.define SPOT_VERSION_\(MAJOR\|MINOR\|PATCH\) //p' include/spot_table.h | paste -sd.)
-SOURCES := crates.txt $(shell find crates -type f)
+SOURCES := crates.txt $(shell find crates -type f -not -path '*/out/*')
 TARGETS := $(shell sed -n 's/^\([a-z0-9-]*\);.*/\1/p' cross/targets)
 ifneq ($(filter-out $(TARGETS),$(TARGET)),)
 $(error no target $(TARGET): cross/targets has $(TARGETS), and no other is tested)
@@ -20,10 +20,11 @@ wasm := $(if $(filter wasm32,$(TARGET)),spot_table.wasm)
 
 all: $(archive)
 
-# rt writes the archive only where something changed, so it is touched
+# rt writes its archive only where something changed, so it is copied
 target/staticlib/libcabi.a: $(SOURCES)
-	rt staticlib cabi
-	touch $@
+	cd crates/cabi && rt lib
+	mkdir -p $(@D)
+	cp crates/cabi/out/libcabi.a $@
 
 target/libspot_table.a: target/staticlib/libcabi.a
 	cp $< $@
