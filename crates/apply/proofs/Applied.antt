@@ -1,7 +1,7 @@
 -- The promise of an application: one law for each way that it ends.
 -- Assumes nothing.
 use mathlib.Core.Path.{◌≡◌, refl, ap, sym, ◌∙◌}
-use mathlib.Core.Logic.{◌⊎◌, ⊎_elim, ◌≢◌}
+use mathlib.Core.Logic.{⊎_elim, ◌≢◌}
 use mathlib.Core.Bool.{Bool, true, false, cond}
 use mathlib.Core.List.{List, ◌++◌}
 use mathlib.Core.Option.{Option, none, some}
@@ -44,18 +44,6 @@ alone-is m = go (read_message m)
     go : (o : Option (List Change)) → Alone (changes_answer (λ _. true) o)
     go none = wrong refl
     go (some cs) = inside (all_limited cs) (first_outside cs)
-
--- one that decides nothing is in order
-pub message-right : (m : List ℕ) {r : Answer} → r ≡ message_answer m → r.number ≡ 0 → message_answer m ≡ answer 0 0
-message-right m {r} e z = go (alone-is m)
-  where
-    zero_is : (message_answer m).number ≡ 0
-    zero_is = sym (ap (λ (x : Answer). x.number) e) ∙ z
-
-    go : Alone (message_answer m) → message_answer m ≡ answer 0 0
-    go (right h) = h
-    go (wrong h) = let no : ⊥ = omega (arith, ap (λ (x : Answer). x.number) h, zero_is) in absurd no
-    go (outside i h) = let no : ⊥ = omega (arith, ap (λ (x : Answer). x.number) h, zero_is) in absurd no
 
 module _ (m t w : List ℕ) (r : Answer) where
   abbrev due : Answer

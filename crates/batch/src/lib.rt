@@ -1,7 +1,7 @@
 // A batch of changes at one node in memory: taken in, handed down to a child, and the node cut in two.
 #![tactic(auto)]
 
-ghost use Rattle.std.specs.Prelude.{◌≡◌, true, cond, ◌⊎◌, [], ◌∷◌, ◌+◌, ◌/◌, ◌≤◌, ◌<◌, drop, leb};
+ghost use Rattle.std.specs.Prelude.{◌≡◌, true, ◌⊎◌, ◌∷◌, option_to_list, ◌+◌, ◌/◌, ◌≤◌, ◌<◌, drop, leb};
 ghost use Rattle.octets.specs.Lists.{rest, rising};
 ghost use Rattle.octets.specs.Sets.{Apart};
 ghost use Rattle.spot.specs.Spots.{keys};
@@ -63,10 +63,7 @@ fn pick_inserts(n: node::NodeValue) -> Picked
     requires { Tidy n × (0 < n.entries.n) × (n.entries.n ≤ 8) × (rising (rest (lows (entries_of n.entries))) ≡ true) × (64 < n.inserts.n) }
     ensures { Picking n result }
 {
-    let level = n.level;
     let entries = n.entries;
-    let points = n.points;
-    let deletes = n.deletes;
     let waiting = n.inserts;
     let child = choose::fullest(entries, waiting);
     let start = choose::start_of(entries, waiting, child);
@@ -74,14 +71,8 @@ fn pick_inserts(n: node::NodeValue) -> Picked
     let stop = part_end(start, end, (waiting.n + 7) / 8);
     let down = buffer::between(waiting, start, stop);
     let inserts = buffer::outside(waiting, start, stop);
-    let none = buffer::empty_keys();
-    let node = node::NodeValue {
-        level,
-        entries,
-        points,
-        inserts,
-        deletes,
-    };
+    let none = buffer::empty();
+    let node = node::NodeValue { inserts, ..n };
     Picked {
         child,
         node,
@@ -91,29 +82,21 @@ fn pick_inserts(n: node::NodeValue) -> Picked
 }
 
 // The same of deletes.
+// Stays: the two part different lists of the node and leave the other one of what goes down empty; what they share they call.
 fn pick_deletes(n: node::NodeValue) -> Picked
     requires { Tidy n × (0 < n.entries.n) × (n.entries.n ≤ 8) × (rising (rest (lows (entries_of n.entries))) ≡ true) × (n.inserts.n ≤ 64) }
     ensures { Picking n result }
 {
-    let level = n.level;
     let entries = n.entries;
-    let points = n.points;
-    let inserts = n.inserts;
     let waiting = n.deletes;
-    let child = choose::fullest_keys(entries, waiting);
-    let start = choose::keys_start_of(entries, waiting, child);
-    let end = choose::keys_end_of(entries, waiting, child + 1);
+    let child = choose::fullest(entries, waiting);
+    let start = choose::start_of(entries, waiting, child);
+    let end = choose::end_of(entries, waiting, child + 1);
     let stop = part_end(start, end, (waiting.n + 7) / 8);
-    let down = buffer::keys_between(waiting, start, stop);
-    let deletes = buffer::keys_outside(waiting, start, stop);
+    let down = buffer::between(waiting, start, stop);
+    let deletes = buffer::outside(waiting, start, stop);
     let none = buffer::empty();
-    let node = node::NodeValue {
-        level,
-        entries,
-        points,
-        inserts,
-        deletes,
-    };
+    let node = node::NodeValue { deletes, ..n };
     Picked {
         child,
         node,
@@ -138,41 +121,31 @@ pub fn pick(n: node::NodeValue) -> Picked
 fn entries_back(
     es: node::Entries,
     c: usize,
-    two: bool,
     first: block::Entry,
-    second: block::Entry,
+    second: Option<block::Entry>,
 ) -> node::Entries
     requires { (c < es.n) × (es.n < 8) }
-    ensures { EntriesBack es c (cond two (first ∷ second ∷ []) (first ∷ [])) result }
+    ensures { EntriesBack es c (first ∷ option_to_list second) result }
 {
-    if two {
-        return node::replace_two(es, c, first, second);
+    match second {
+        Some(x) => node::replace_two(es, c, first, x),
+        None => node::replace(es, c, first),
     }
-    node::replace(es, c, first)
 }
 
 // The node with one or two entries in the place of its c-th.
 pub fn put_back(
     n: node::NodeValue,
     c: usize,
-    two: bool,
     first: block::Entry,
-    second: block::Entry,
+    second: Option<block::Entry>,
 ) -> node::NodeValue
     requires { (c < n.entries.n) × (n.entries.n < 8) }
-    ensures { PutBack n c (cond two (first ∷ second ∷ []) (first ∷ [])) result }
+    ensures { PutBack n c (first ∷ option_to_list second) result }
 {
-    let entries = entries_back(n.entries, c, two, first, second);
-    let points = n.points;
-    let inserts = n.inserts;
-    let deletes = n.deletes;
-    let level = n.level;
     node::NodeValue {
-        level,
-        entries,
-        points,
-        inserts,
-        deletes,
+        entries: entries_back(n.entries, c, first, second),
+        ..n
     }
 }
 
@@ -181,17 +154,14 @@ fn upper_leaf(n: node::NodeValue, sep: u64) -> node::NodeValue
     requires { Tidy n × (n.entries.n ≡ 0) }
     ensures { Half n result (λ j. leb sep j) (first_open (drop 0 (entries_of n.entries))) }
 {
-    let level = n.level;
-    let entries = n.entries;
     let points = buffer::from_key(n.points, sep);
     let inserts = buffer::from_key(n.inserts, sep);
-    let deletes = buffer::keys_from(n.deletes, sep);
+    let deletes = buffer::from_key(n.deletes, sep);
     node::NodeValue {
-        level,
-        entries,
         points,
         inserts,
         deletes,
+        ..n
     }
 }
 
@@ -210,6 +180,7 @@ pub fn cut_key(n: node::NodeValue) -> u64
 }
 
 // The keys below the separating key, with the first half of the entries; or the others. Two calls, since a function called once would lie in the caller's frame.
+// Stays: a flag, since two functions would each be called once.
 pub fn half(n: node::NodeValue, sep: u64, upper: bool) -> node::NodeValue
     requires { Tidy n × (((n.entries.n ≡ 0) × (2 ≤ n.points.n)) ⊎ (n.entries.n ≡ 8)) }
     ensures { HalfOf n sep upper result }

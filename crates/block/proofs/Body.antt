@@ -1,14 +1,15 @@
 -- The parts of a block's body put together.
 -- Assumes nothing.
-use mathlib.Core.Path.{◌≡◌, ap, ap₂, ◌∙◌}
-use mathlib.Core.Bool.{Bool, true, ◌&&◌}
+use mathlib.Core.Path.{◌≡◌, sym, ap, ap₂, ◌∙◌}
+use mathlib.Core.Bool.{Bool, true, false, ◌&&◌}
 use mathlib.Core.List.{List}
 use Prim.Native.Nat.{ℕ}
 use native.Mathlib.Omega.{arith}
 use lib.ListN.{drop}
+use Rattle.std.specs.Prelude.{Some, None}
 use Rattle.octets.specs.Lists.{every, rising_from, rising}
 use Rattle.spot.specs.Keys.{end_key}
-use Rattle.block.specs.declared.Points.{Points}
+use Rattle.block.specs.declared.Extent.{Extent}
 use Rattle.block.specs.declared.Front.{Front}
 use Rattle.block.specs.declared.Asked.{Asked}
 use Rattle.block.specs.NodeRules.{stands_in}
@@ -18,14 +19,20 @@ use Rattle.octets.proofs.Rising.{rising-lower}
 use Rattle.block.proofs.Shut.{fst, snd}
 
 module _ (s : List ℕ) (blocks : ℕ) (a : Asked) (h : Front) where
-  pub lists-are : {floor : ℕ} {q : Points} {r r' : Bool} → floor ≡ start_of a → PointsAre floor (keys_p s h) q
-      → r ≡ rises_under floor q.low (keys_i s h) → r' ≡ rises_under floor q.low (keys_d s h) → (q.ok && r) && r' ≡ lists_fine s a h
+  pub lists-stop : {floor : ℕ} → floor ≡ start_of a → PointsAre floor (keys_p s h) None → false ≡ lists_fine s a h
+  unfolding lists_fine ◌and◌
+  lists-stop e p =
+      ap (λ (x : Bool). (x && rises_under (start_of a) (low_rank s h) (keys_i s h)) && rises_under (start_of a) (low_rank s h) (keys_d s h))
+      (sym p ∙ ap (λ (f : ℕ). rises_inside f (keys_p s h)) e)
+
+  pub lists-are : {floor : ℕ} {q : Extent} {r r' : Bool} → floor ≡ start_of a → PointsAre floor (keys_p s h) (Some q)
+      → r ≡ rises_under floor q.low (keys_i s h) → r' ≡ rises_under floor q.low (keys_d s h) → r && r' ≡ lists_fine s a h
   unfolding lists_fine ◌and◌
   lists-are {q = q} e p u v =
       ap₂ (λ (x y : Bool). x && y)
-      (ap₂ (λ (x y : Bool). x && y) (p.rise ∙ ap (λ (f : ℕ). rises_inside f (keys_p s h)) e)
-      (u ∙ ap₂ (λ (f l : ℕ). rises_under f l (keys_i s h)) e p.least))
-      (v ∙ ap₂ (λ (f l : ℕ). rises_under f l (keys_d s h)) e p.least)
+      (ap₂ (λ (x y : Bool). x && y) (sym p.0 ∙ ap (λ (f : ℕ). rises_inside f (keys_p s h)) e)
+      (u ∙ ap₂ (λ (f l : ℕ). rises_under f l (keys_i s h)) e p.1.least))
+      (v ∙ ap₂ (λ (f l : ℕ). rises_under f l (keys_d s h)) e p.1.least)
 
   both-rise : (low : ℕ) (ks : List ℕ) → rises_under (start_of a) low ks ≡ true → rising ks ≡ true
   both-rise low ks p = rising-lower 0 (start_of a) ks (omega arith) (and_left (rising_from (start_of a) ks) (every (comes_before end_key) ks) (and_left (rises_inside (start_of a) ks) (every (ranks_under low) ks) p))
@@ -38,7 +45,7 @@ module _ (s : List ℕ) (blocks : ℕ) (a : Asked) (h : Front) where
   unfolding lists_fine
   deletes-rise p = both-rise (low_rank s h) (keys_d s h) (snd _ _ p)
 
-  pub rest-is : {q : Points} {floor own low : ℕ} {r0 r1 r2 r3 r4 : Bool} → PointsAre floor (keys_p s h) q → floor ≡ start_of a → own ≡ stands_in a
+  pub rest-is : {q : Extent} {floor own low : ℕ} {r0 r1 r2 r3 r4 : Bool} → PointsAre floor (keys_p s h) (Some q) → floor ≡ start_of a → own ≡ stands_in a
       → low ≡ above_tops h.p q.low
       → r0 ≡ apart (keys_i s h) (keys_d s h) → r1 ≡ every is_zero (drop h.used s)
       → r2 ≡ entries_fine s h.c blocks own low floor
@@ -49,6 +56,6 @@ module _ (s : List ℕ) (blocks : ℕ) (a : Asked) (h : Front) where
       (ap₂ (λ (x y : Bool). x && y)
       (ap₂ (λ (x y : Bool). x && y) (ap₂ (λ (x y : Bool). x && y) e0 e1)
       (e2 ∙ ap (λ (o : ℕ). entries_fine s h.c blocks o low floor) eo
-      ∙ ap₂ (λ (l f : ℕ). entries_fine s h.c blocks (stands_in a) l f) (el ∙ ap (above_tops h.p) p.least) ef))
+      ∙ ap₂ (λ (l f : ℕ). entries_fine s h.c blocks (stands_in a) l f) (el ∙ ap (above_tops h.p) p.1.least) ef))
       e3)
-      (e4 ∙ ap₂ (λ (l m : ℕ). agrees_fine a h.p l m) p.least p.most)
+      (e4 ∙ ap₂ (λ (l m : ℕ). agrees_fine a h.p l m) p.1.least p.1.most)

@@ -1,3 +1,4 @@
+pub mod Answers
 pub mod Shut
 pub mod Inside
 pub mod Passes

@@ -12,7 +12,8 @@ use lib.ListN.{length, get_or, drop}
 use lib.Seq.{drop-cons, drop-length}
 use native.Mathlib.Numerals.{add-one}
 use borrow.Author.Tests.{le-leb, lt-leb, leb-true, eq-eqb, eqb-true, ne_eqb}
-use Rattle.octets.specs.Lists.{every, records, rising_from, rising, all, maximum, minimum}
+use Rattle.std.specs.Prelude.{Some, None}
+use Rattle.octets.specs.Lists.{every, records, rising_from, all, maximum, minimum}
 use Rattle.octets.specs.Bytes.{be}
 use Rattle.octets.proofs.Order.{less-or-not}
 use Rattle.octets.proofs.Tests.{bool-ext}
@@ -20,7 +21,7 @@ use Rattle.spot.specs.Keys.{rank_key, end_key}
 use Rattle.spot.specs.Spots.{key_at, keys_from}
 use Rattle.spot.proofs.Card.{key_at-lt}
 use Rattle.spot.proofs.Halves.{rank-small}
-use Rattle.block.specs.declared.Points.{Points}
+use Rattle.block.specs.declared.Extent.{Extent}
 use Rattle.block.specs.Checks.{◌and◌, is_zero, ranks_under, rises_inside, rises_under, last_key, PointsAre, entry_fine, from_at, next_at, entry_shows, first_fine, entries_fine}
 use Rattle.octets.proofs.Records.{left, left-all, left-cons, left-none, left-first, none_left}
 use Rattle.block.proofs.Shut.{shuffle}
@@ -130,14 +131,15 @@ module _ (s : List ℕ) (n at floor : ℕ) where
     pub most : maximum (map rank_key (keys_from s 12 n at)) ≡ max high (maximum (map rank_key (left (key_at s) 12 n at i)))
     pub fits : low ≤ last_key
 
-  pub points_none : {r : Points} → n ≡ 0 → r.ok ≡ true → r.low ≡ last_key → r.high ≡ 0 → PointsAre floor (keys_from s 12 n at) r
-  points_none e p q h =
-      let g : keys_from s 12 n at ≡ [] = none_left (key_at s) 12 n at e in
-      record {
-        rise = p ∙ sym (ap (rises_inside floor) g);
-        least = q ∙ sym (ap (λ (l : List ℕ). minimum last_key (map rank_key l)) g);
-        most = h ∙ sym (ap (λ (l : List ℕ). maximum (map rank_key l)) g);
-      }
+  pub points_none : {r : Extent} → n ≡ 0 → r.low ≡ last_key → r.high ≡ 0 → PointsAre floor (keys_from s 12 n at) (Some r)
+  points_none e q h =
+      let g : keys_from s 12 n at ≡ [] = none_left (key_at s) 12 n at e in (
+        ap (rises_inside floor) g,
+        record {
+          least = q ∙ sym (ap (λ (l : List ℕ). minimum last_key (map rank_key l)) g);
+          most = h ∙ sym (ap (λ (l : List ℕ). maximum (map rank_key l)) g);
+        },
+      )
 
   pub points-start : {prev low : ℕ} → 0 < n → prev ≡ key_at s at → low ≡ rank_key prev → PointsInv (leb floor prev) prev low low 1
   points-start {prev} {low} h e g =
@@ -180,18 +182,22 @@ module _ (s : List ℕ) (n at floor : ℕ) where
       max-swap : (a b c : ℕ) → max a (max b c) ≡ max (max a b) c
       max-swap a b c = omega arith
 
-  pub points-end : {r : Points} (ok : Bool) (prev low high i : ℕ) → PointsInv ok prev low high i → n ≤ i → r.ok ≡ ok && ltb prev end_key → r.low ≡ low → r.high ≡ high
-      → PointsAre floor (keys_from s 12 n at) r
-  points-end ok prev low high i p h eo el eh =
+  pub points-out : (ok : Bool) (prev low high i : ℕ) → PointsInv ok prev low high i → n ≤ i → ok && ltb prev end_key ≡ false → PointsAre floor (keys_from s 12 n at) None
+  points-out ok prev low high i p h eo = sym (inside-end s 12 n at floor ok prev i p.rise h) ∙ eo
+
+  pub points-in : {r : Extent} (ok : Bool) (prev low high i : ℕ) → PointsInv ok prev low high i → n ≤ i → ok && ltb prev end_key ≡ true → r.low ≡ low → r.high ≡ high
+      → PointsAre floor (keys_from s 12 n at) (Some r)
+  points-in ok prev low high i p h eo el eh =
       let e : left (key_at s) 12 n at i ≡ [] = left-none (key_at s) 12 n at i h in
       let f = p.fits in
       let lo : min low last_key ≡ low = omega arith in
-      let hi : max high 0 ≡ high = omega arith in
-      record {
-        rise = eo ∙ inside-end s 12 n at floor ok prev i p.rise h;
-        least = el ∙ sym (p.least ∙ ap (λ (l : List ℕ). min low (minimum last_key (map rank_key l))) e ∙ lo);
-        most = eh ∙ sym (p.most ∙ ap (λ (l : List ℕ). max high (maximum (map rank_key l))) e ∙ hi);
-      }
+      let hi : max high 0 ≡ high = omega arith in (
+        sym (inside-end s 12 n at floor ok prev i p.rise h) ∙ eo,
+        record {
+          least = el ∙ sym (p.least ∙ ap (λ (l : List ℕ). min low (minimum last_key (map rank_key l))) e ∙ lo);
+          most = eh ∙ sym (p.most ∙ ap (λ (l : List ℕ). max high (maximum (map rank_key l))) e ∙ hi);
+        },
+      )
 
 -- ---- tests at every record
 

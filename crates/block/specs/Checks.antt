@@ -1,12 +1,12 @@
 -- What each part of the validation of a block computes.
 -- Assumes nothing.
-use Rattle.std.specs.Prelude.{ℕ, ◌+◌, ◌-◌, ◌*◌, ◌≤◌, ◌<◌, max, ◌≡◌, Bool, true, not, cond, ◌&&◌, ◌||◌, List, map, ltb, leb, eqb, drop, set}
+use Rattle.std.specs.Prelude.{ℕ, ◌+◌, ◌-◌, ◌*◌, ◌≤◌, ◌<◌, max, ◌≡◌, Bool, true, false, not, cond, ◌&&◌, ◌||◌, List, Option, Some, None, map, ltb, leb, eqb, drop, set}
 use Rattle.octets.specs.Lists.{all, every, records, rising_from, has, maximum, minimum, up_to}
 use Rattle.octets.specs.Bitmap.{bit}
 use Rattle.octets.specs.Bytes.{be}
 use Rattle.spot.specs.Keys.{rank_key, start_key, end_key}
 use Rattle.spot.specs.Spots.{key_at, keys_from}
-use Rattle.block.specs.declared.Points.{Points}
+use Rattle.block.specs.declared.Extent.{Extent}
 use Rattle.block.specs.declared.Front.{Front}
 use Rattle.block.specs.declared.Asked.{Asked}
 use Rattle.block.specs.declared.Asked.TheVariants.{Root, Child}
@@ -42,11 +42,15 @@ rises_under floor low ks = rises_inside floor ks && every (ranks_under low) ks
 abbrev pub last_key : ℕ
 last_key = 18446744073709551615
 
--- a pass over P: whether it rises from floor on inside the limits, its lowest and its highest in rank order
-pub record PointsAre (floor : ℕ) (ks : List ℕ) (r : Points) : Type 0 where
-  pub rise : r.ok ≡ rises_inside floor ks
+-- a pass over P: its lowest and its highest in rank order
+pub record ExtentIs (ks : List ℕ) (r : Extent) : Type 0 where
   pub least : r.low ≡ minimum last_key (map rank_key ks)
   pub most : r.high ≡ maximum (map rank_key ks)
+
+-- these, exactly where it rises from floor on inside the limits
+abbrev pub PointsAre : ℕ → List ℕ → Option Extent → Type 0
+PointsAre floor ks None = rises_inside floor ks ≡ false
+PointsAre floor ks (Some r) = (rises_inside floor ks ≡ true) × ExtentIs ks r
 
 -- r is the first of n spots, not before the one at from, whose key is at least k
 pub record Past (s : List ℕ) (at n from k r : ℕ) : Type 0 where

@@ -12,7 +12,7 @@ ghost use Rattle.block.specs.Node.{node_of, store_of, points_from, inserts_from,
 ghost use Rattle.block.specs.NodeRules.{node_ok, ValidBytes, fewest, stands_in};
 ghost use Rattle.block.specs.HeaderRules.{header_ok};
 ghost use Rattle.block.specs.Fresh.{formatted};
-ghost use Rattle.block.specs.Answers.{answer};
+ghost use Rattle.block.specs.Answers.{answer, refused, answer_of, told, yes_or_no};
 ghost use Rattle.block.specs.Access.{front_of, Small, used_of, EntryIs};
 ghost use Rattle.block.specs.Checks.{is_zero, start_of, rises_under, PointsAre, Past, apart, in_fine, credible_fine, entry_fine, entries_fine, fresh_fine, blocks_fine, above_tops, count_fine, sizes_fine, leaf_fine, front_fine, entry_keyed, agrees_fine, body_fine, map_fine, numbers_fine, fresh_marks};
 
@@ -56,6 +56,55 @@ pub struct Answer {
     pub detail: u32,
 }
 
+// Why a call is refused.
+#[derive(Clone, Copy, Debug, PartialEq, Eq)]
+pub enum Refusal {
+    // No table or tour has this length.
+    TableLength,
+    // What else is lent has a wrong length.
+    LentLength,
+    // A block that was read breaks a rule.
+    Broken,
+    // No room for one spot more; of a message, the position of the change.
+    Full(u32),
+    // The output is too short; how many spots there are.
+    Output(u32),
+    TooManyRanges,
+    NotPressable,
+    NotAMessage,
+    // A place is outside the limits; of changes, the position of the first such one.
+    PlaceOutside(u32),
+}
+
+impl From<Refusal> for Answer {
+    ghost from_gives = { λ r a. a ≡ refused r };
+
+    fn from(r: Refusal) -> Answer {
+        let (number, detail) = match r {
+            Refusal::TableLength => (1, 0),
+            Refusal::LentLength => (2, 0),
+            Refusal::Broken => (3, 0),
+            Refusal::Full(at) => (4, at),
+            Refusal::Output(spots) => (5, spots),
+            Refusal::TooManyRanges => (6, 0),
+            Refusal::NotPressable => (7, 0),
+            Refusal::NotAMessage => (8, 0),
+            Refusal::PlaceOutside(at) => (9, at),
+        };
+        Answer { number, detail }
+    }
+}
+
+// The answer to a call that was carried out, with its detail, or refused.
+pub fn answer_of(done: Result<u32, Refusal>) -> Answer
+    ensures { result ≡ answer_of done }
+{
+    match done {
+        Ok(detail) => Answer { number: 0, detail },
+        Err(r) => Answer::from(r),
+    }
+}
+
 // A child entry: the child's block, the size of its points, the lowest key of its range, and the highest and the lowest key of its points in rank order.
 #[derive(Clone, Copy)]
 pub struct Entry {
@@ -65,6 +114,41 @@ pub struct Entry {
     pub top: u64,
     pub bottom: u64,
 }
+
+// The same where there is no detail.
+pub fn told(done: Result<(), Refusal>) -> Answer
+    ensures { result ≡ told done }
+{
+    match done {
+        Ok(()) => Answer {
+            number: 0,
+            detail: 0,
+        },
+        Err(refusal) => Answer::from(refusal),
+    }
+}
+
+// The same of a question: the detail is 1 or 0.
+pub fn yes_or_no(done: Result<bool, Refusal>) -> Answer
+    ensures { result ≡ yes_or_no done }
+{
+    match done {
+        Ok(yes) => Answer {
+            number: 0,
+            detail: yes as u32,
+        },
+        Err(why) => Answer::from(why),
+    }
+}
+
+// The entry of no child, where an array has none yet.
+pub const NO_ENTRY: Entry = Entry {
+    block: 0,
+    size: 0,
+    low: 0,
+    top: 0,
+    bottom: 0,
+};
 
 // What leads to a node: block 0 to the root, which stands in the block that it names, and an entry of its parent to any other.
 #[derive(Clone, Copy)]
@@ -85,10 +169,9 @@ pub struct Front {
     pub c: usize,
 }
 
-// What a pass over the points finds: whether they rise, and the lowest and the highest rank key.
+// The lowest and the highest rank key of a node's points.
 #[derive(Clone, Copy)]
-pub struct Points {
-    pub ok: bool,
+pub struct Extent {
     pub low: u64,
     pub high: u64,
 }
@@ -220,10 +303,8 @@ pub fn zeros(s: &[u8], at: usize) -> bool
     ensures { result ≡ every is_zero (drop at s.now) }
 {
     let mut ok = true;
-    let mut i = at;
-    while i < s.len() {
+    for i in at..s.len() {
         ok = ok & (s[i] == 0);
-        i += 1;
     }
     ok
 }
@@ -238,12 +319,10 @@ pub fn rises(s: &[u8], at: usize, w: usize, n: usize, floor: u64) -> bool
     }
     let mut prev = spot::raw_key(s, at);
     let mut ok = floor <= prev;
-    let mut i = 1;
-    while i < n {
+    for i in 1..n {
         let k = spot::raw_key(s, at + w * i);
         ok = ok & (prev < k);
         prev = k;
-        i += 1;
     }
     ok
 }
@@ -258,59 +337,41 @@ fn rises_under(s: &[u8], at: usize, w: usize, n: usize, floor: u64, low: u64) ->
     }
     let mut prev = spot::raw_key(s, at);
     let mut ok = (floor <= prev) & (spot::rank_key(prev) < low);
-    let mut i = 1;
-    while i < n {
+    for i in 1..n {
         let k = spot::raw_key(s, at + w * i);
         ok = ok & ((prev < k) & (spot::rank_key(k) < low));
         prev = k;
-        i += 1;
     }
     ok & (prev < spot::END_KEY)
 }
 
-fn smaller(a: u64, b: u64) -> u64
-    ensures { result ≡ min a b }
-{
-    if a < b { a } else { b }
-}
-
-fn greater(a: u64, b: u64) -> u64
-    ensures { result ≡ max a b }
-{
-    if a < b { b } else { a }
-}
-
-// One pass over P: whether it rises from floor on inside the limits, and its lowest and highest in rank order.
-fn points_of(s: &[u8], at: usize, n: usize, floor: u64) -> Points
+// One pass over P: its lowest and highest in rank order, if it rises from floor on inside the limits.
+fn points_of(s: &[u8], at: usize, n: usize, floor: u64) -> Option<Extent>
     requires { at + 12 * n ≤ length s.now }
     ensures { PointsAre floor (keys_from s.now 12 n at) result }
 {
     if n == 0 {
-        return Points {
-            ok: true,
+        return Some(Extent {
             low: 18446744073709551615,
             high: 0,
-        };
+        });
     }
     let mut prev = spot::raw_key(s, at);
     let mut ok = floor <= prev;
     let mut low = spot::rank_key(prev);
     let mut high = low;
-    let mut i = 1;
-    while i < n {
+    for i in 1..n {
         let k = spot::raw_key(s, at + spot::SPOT_BYTES * i);
         let r = spot::rank_key(k);
         ok = ok & (prev < k);
-        low = smaller(low, r);
-        high = greater(high, r);
+        low = low.min(r);
+        high = high.max(r);
         prev = k;
-        i += 1;
     }
-    Points {
-        ok: ok & (prev < spot::END_KEY),
-        low,
-        high,
+    if ok & (prev < spot::END_KEY) {
+        return Some(Extent { low, high });
     }
+    None
 }
 
 // The first of the n spots from at on, not before the one at from, whose key is at least k.
@@ -318,14 +379,12 @@ fn past(s: &[u8], at: usize, n: usize, from: usize, k: u64) -> usize
     requires { (at + 12 * n ≤ length s.now) × (from ≤ n) }
     ensures { Past s.now at n from k result }
 {
-    let mut i = from;
-    while i < n {
+    for i in from..n {
         if k <= spot::raw_key(s, at + spot::SPOT_BYTES * i) {
             return i;
         }
-        i += 1;
     }
-    i
+    n
 }
 
 // No key of the n spots from at on is one of the d identities from ad on; both rise.
@@ -334,8 +393,7 @@ fn apart_ok(s: &[u8], at: usize, n: usize, ad: usize, d: usize) -> bool
     ensures { result ≡ apart (keys_from s.now 12 n at) (keys_from s.now 8 d ad) }
 {
     let mut i = 0;
-    let mut j = 0;
-    while j < d {
+    for j in 0..d {
         let b = spot::raw_key(s, ad + spot::KEY_BYTES * j);
         i = past(s, at, n, i, b);
         if n <= i {
@@ -344,7 +402,6 @@ fn apart_ok(s: &[u8], at: usize, n: usize, ad: usize, d: usize) -> bool
         if spot::raw_key(s, at + spot::SPOT_BYTES * i) == b {
             return false;
         }
-        j += 1;
     }
     true
 }
@@ -393,8 +450,7 @@ fn entries_ok(s: &[u8], c: usize, blocks: usize, own: usize, low: u64, floor: u6
     }
     let mut ok = true;
     let mut next = spot::END_KEY;
-    let mut i = c - 1;
-    while 0 < i {
+    for i in (1..c).rev() {
         let from = spot::raw_key(s, 12 + ENTRY_BYTES * i);
         ok = ok
             & (from < next)
@@ -408,7 +464,6 @@ fn entries_ok(s: &[u8], c: usize, blocks: usize, own: usize, low: u64, floor: u6
                 next,
             );
         next = from;
-        i -= 1;
     }
     ok & (octets::read64(s, 12) == 0)
         & ((c == 1) | (floor <= next))
@@ -422,10 +477,8 @@ fn fresh_ok(s: &[u8], j: usize) -> bool
 {
     let b = octets::read16(s, FRONT_BYTES + ENTRY_BYTES * j);
     let mut ok = true;
-    let mut i = 0;
-    while i < j {
+    for i in 0..j {
         ok = ok & (b != octets::read16(s, FRONT_BYTES + ENTRY_BYTES * i));
-        i += 1;
     }
     ok
 }
@@ -439,10 +492,8 @@ fn blocks_ok(s: &[u8], c: usize) -> bool
         return true;
     }
     let mut ok = true;
-    let mut j = 0;
-    while j < 8 {
+    for j in 0..8 {
         ok = ok & ((c <= j) | fresh_ok(s, j));
-        j += 1;
     }
     ok
 }
@@ -493,7 +544,7 @@ fn floor_of(a: Asked) -> u64
 {
     match a {
         Asked::Root(_) => spot::START_KEY,
-        Asked::Child(e) => greater(e.low, spot::START_KEY),
+        Asked::Child(e) => e.low.max(spot::START_KEY),
     }
 }
 
@@ -549,10 +600,11 @@ fn body_ok(s: &[u8], blocks: usize, a: Asked, h: Front) -> bool
     let ai = at + spot::SPOT_BYTES * h.p;
     let ad = at + spot::SPOT_BYTES * (h.p + h.i);
     let floor = floor_of(a);
-    let q = points_of(s, at, h.p, floor);
-    let low = q.low;
-    if !(q.ok
-        & rises_under(s, ai, spot::SPOT_BYTES, h.i, floor, low)
+    let Some(points) = points_of(s, at, h.p, floor) else {
+        return false;
+    };
+    let low = points.low;
+    if !(rises_under(s, ai, spot::SPOT_BYTES, h.i, floor, low)
         & rises_under(s, ad, spot::KEY_BYTES, h.d, floor, low))
     {
         return false;
@@ -561,7 +613,7 @@ fn body_ok(s: &[u8], blocks: usize, a: Asked, h: Front) -> bool
         & zeros(s, h.used)
         & entries_ok(s, h.c, blocks, own_of(a), above_tops(h.p, low), floor)
         & blocks_ok(s, h.c)
-        & agrees_ok(a, h.p, low, q.high)
+        & agrees_ok(a, h.p, low, points.high)
 }
 
 // All that a node block, read at this level, and the entry leading to it can show.
@@ -664,22 +716,16 @@ fn write_fresh(t: &mut [u8])
 }
 
 // The empty table: one leaf and one level.
-pub fn format(table: &mut [u8]) -> Answer
-    ensures answered { result ≡ cond (table_sized (length table.old)) (answer 0 0) (answer 1 0) }
+pub fn format(table: &mut [u8]) -> Result<(), Refusal>
+    ensures answered { told result ≡ cond (table_sized (length table.old)) (answer 0 0) (answer 1 0) }
     ensures written { table.new ≡ cond (table_sized (length table.old)) (formatted (length table.old)) table.old }
 {
     let n = table.len();
     if !sized(n) {
-        return Answer {
-            number: 1,
-            detail: 0,
-        };
+        return Err(Refusal::TableLength);
     }
     octets::zero(table, n);
     octets::write32(table, 0, n as u64);
     write_fresh(table);
-    Answer {
-        number: 0,
-        detail: 0,
-    }
+    Ok(())
 }

@@ -6,7 +6,7 @@ use mathlib.Core.List.{List, [], ◌∷◌, ◌++◌, append-nil, Memᴰ}
 use Prim.Native.Nat.{ℕ, suc, ◌+◌, ◌≤◌, ◌<◌}
 use native.Mathlib.Numerals.{add-one}
 use native.Mathlib.Omega.{arith}
-use lib.ListN.{length, take, drop, get_or, take-append-drop, drop_of_length-le}
+use lib.ListN.{length, take, drop, get_or, take-append-drop}
 use lib.Seq.{split_at, take-suc, drop-cons, length-take-le}
 use lib.Dec.{ltb, leb}
 use borrow.Author.Tests.{ltb-true, leb-true, lt-ltb, le-ltb, le-leb}
@@ -59,31 +59,6 @@ module _ (ks : List ℕ) (up : rising ks ≡ true) (m : ℕ) (l : m < length ks)
       (and_both (leb k (get_or ks m 0)) (every (leb k) (drop (suc m) ks)) (le-leb k (get_or ks m 0) h)
       (every-imp (leb (suc (get_or ks m 0))) (leb k) (drop (suc m) ks) (λ j e. le-leb k j (omega (arith, leb-true (suc (get_or ks m 0)) j e)))
       (rising-from (suc (get_or ks m 0)) (drop (suc m) ks) after)))
-
--- lo and hi bracket the count: those before lo are below k, and those from hi on are not
-pub record Bracket (k : ℕ) (ks : List ℕ) (lo hi : ℕ) : Type 0 where
-  pub lo-le : lo ≤ hi
-  pub hi-le : hi ≤ length ks
-  pub low : every (under k) (take lo ks) ≡ true
-  pub high : every (leb k) (drop hi ks) ≡ true
-
-none_after : (f : ℕ → Bool) (ks : List ℕ) (n : ℕ) → length ks ≤ n → every f (drop n ks) ≡ true
-none_after f ks n h = rw (drop_of_length-le ks h)
-
-pub bracket-start : (k : ℕ) (ks : List ℕ) (n : ℕ) → n ≡ length ks → Bracket k ks 0 n
-bracket-start k ks n e = record { lo-le = omega arith; hi-le = omega arith; low = refl; high = none_after (leb k) ks n (omega arith) }
-
-pub bracket-end : (k : ℕ) (ks : List ℕ) (lo hi : ℕ) → Bracket k ks lo hi → hi ≤ lo → lo ≡ below k ks
-bracket-end k ks lo hi b h =
-    let e : hi ≡ lo = omega (arith, b.lo-le) in
-    below-is k ks lo (omega (arith, b.hi-le)) b.low (rw e at b.high)
-
-module _ (k : ℕ) (ks : List ℕ) (lo hi : ℕ) (up : rising ks ≡ true) (b : Bracket k ks lo hi) (m : ℕ) (lm : lo ≤ m) (mh : m < hi) where
-  pub bracket-up : get_or ks m 0 < k → Bracket k ks (m + 1) hi
-  bracket-up h = record { lo-le = omega arith; hi-le = b.hi-le; low = before-all ks up m (omega (arith, b.hi-le)) k h; high = b.high }
-
-  pub bracket-down : k ≤ get_or ks m 0 → Bracket k ks lo m
-  bracket-down h = record { lo-le = lm; hi-le = omega (arith, b.hi-le); low = b.low; high = after-all ks up m (omega (arith, b.hi-le)) k h }
 
 pub below-le : (k : ℕ) (ks : List ℕ) → below k ks ≤ length ks
 below-le k ks = keep-length (under k) ks

@@ -2,27 +2,24 @@
 -- Assumes nothing.
 use mathlib.Core.Path.{◌≡◌, refl, sym, ap, ap₂, subst, ◌∙◌}
 use mathlib.Core.Logic.{⊎_elim}
-use mathlib.Core.Bool.{Bool, true, false, cond, not, ◌&&◌, and-false}
-use mathlib.Core.List.{List, [], ◌∷◌, ◌++◌, append_assoc, Memᴰ}
+use mathlib.Core.Bool.{Bool, true, false, not, ◌&&◌, and-false}
+use mathlib.Core.List.{List, [], ◌∷◌, ◌++◌, append_assoc}
 use Prim.Native.Nat.{ℕ, zero, suc, ◌+◌, ◌-◌, ◌≤◌, ◌<◌}
 use native.Mathlib.Omega.{arith}
 use lib.ListN.{length, take, drop, get_or, length-append, length-drop, take-append-drop}
 use lib.Seq.{take_at, drop_at, take_all, drop-drop, append_snoc, length-take-le, get_or-take}
 use lib.Dec.{ltb, leb, eqb}
 use borrow.Author.Tests.{lt-ltb, le-ltb, le-leb, lt-leb, eq-eqb, ne_eqb}
-use Rattle.octets.specs.Lists.{keep, has, rising, rising_from}
+use Rattle.octets.specs.Lists.{has, rising_from}
 use Rattle.octets.proofs.Order.{same_or_not, less-or-not}
 use Rattle.octets.proofs.Tests.{keep_append, keep-keep, keep_same}
 use Rattle.octets.proofs.Sets.{not-has-mem}
 use Rattle.octets.proofs.Rising.{rising-first, rising-rest, rising-make, rising-left, rising-right, keep-rises}
-use Rattle.spot.specs.declared.Spot.{Spot}
 use Rattle.spot.specs.Keys.{within}
-use Rattle.spot.specs.Spots.{keys, put}
-use Rattle.spot.specs.Sorted.{insert_key, but}
+use Rattle.spot.specs.Sorted.{but}
 use Rattle.spot.proofs.Places.{within-yes, within_low, within-high}
-use Rattle.spot.proofs.Buffers.{keys_length, keys-append, keys-only, put_up}
-use Rattle.spot.proofs.Sorted.{insert_key-rises}
 use Rattle.buffer.specs.Buffer.{below}
+pub use Rattle.buffer.specs.Keyed.{Keyed, spots, plain, having}
 
 -- ---- the tests of a range
 
@@ -68,61 +65,17 @@ rising-skip a [] ys zs h = rising-right a ys zs h
 rising-skip a (x ∷ xs) ys zs h =
     rising-make a x (xs ++ zs) (rising-first a x (xs ++ (ys ++ zs)) h) (rising-skip (suc x) xs ys zs (rising-rest a x (xs ++ (ys ++ zs)) h))
 
--- elements by their keys: the keys of a list, and an element put in before the first whose key is not below its own
-pub record Keyed (A : Type 0) : Type 0 where
-  pub key : A → ℕ
-  pub named : List A → List ℕ
-  pub insert : A → List A → List A
-  pub named-cons : (x : A) (l : List A) → named (x ∷ l) ≡ key x ∷ named l
-  pub named-length : (l : List A) → length (named l) ≡ length l
-  pub named-append : (l m : List A) → named (l ++ m) ≡ named l ++ named m
-  pub named_keep : (g : ℕ → Bool) (l : List A) → named (keep (λ (x : A). g (key x)) l) ≡ keep g (named l)
-  pub insert-nil : (x : A) → insert x [] ≡ x ∷ []
-  pub insert-cons : (x y : A) (l : List A) → insert x (y ∷ l) ≡ cond (leb (key x) (key y)) (x ∷ y ∷ l) (y ∷ insert x l)
-  pub insert-up : (x : A) (l : List A) → rising (named l) ≡ true → (Memᴰ (key x) (named l) → ⊥) → rising (named (insert x l)) ≡ true
-
-abbrev pub spots : Keyed Spot
-spots = record {
-  key = λ s. s.key;
-  named = keys;
-  insert = put;
-  named-cons = λ x l. refl;
-  named-length = keys_length;
-  named-append = keys-append;
-  named_keep = keys-only;
-  insert-nil = λ x. refl;
-  insert-cons = λ x y l. refl;
-  insert-up = put_up;
-}
-
-abbrev pub plain : Keyed ℕ
-plain = record {
-  key = λ k. k;
-  named = λ l. l;
-  insert = insert_key;
-  named-cons = λ x l. refl;
-  named-length = λ l. refl;
-  named-append = λ l m. refl;
-  named_keep = λ g l. refl;
-  insert-nil = λ x. refl;
-  insert-cons = λ x y l. refl;
-  insert-up = λ x l h n. insert_key-rises 0 x l (omega arith) h n;
-}
-
 module _ {A : Type 0} (K : Keyed A) where
   -- in order, from a on
   abbrev pub Up : ℕ → List A → Type 0
   Up a l = rising_from a (K.named l) ≡ true
 
-  -- the elements whose keys pass a test; those below k, and those from k on
-  abbrev pub having : (ℕ → Bool) → List A → List A
-  having g l = keep (λ (x : A). g (K.key x)) l
-
+  -- the elements whose keys are below k, and those from k on
   abbrev pub lows : ℕ → List A → List A
-  lows k l = having (λ j. ltb j k) l
+  lows k l = having K (λ j. ltb j k) l
 
   abbrev pub highs : ℕ → List A → List A
-  highs k l = having (λ j. leb k j) l
+  highs k l = having K (λ j. leb k j) l
 
   up_first : (a : ℕ) (x : A) (l : List A) → Up a (x ∷ l) → a ≤ K.key x
   up_first a x l h = rising-first a (K.key x) (K.named l) (rw (K.named-cons x l) at h)
@@ -179,7 +132,7 @@ module _ {A : Type 0} (K : Keyed A) where
 
   -- ---- a range: the elements from lo up to, and without, cut
   abbrev pub among : ℕ → ℕ → List A → List A
-  among lo cut l = having (within lo cut) l
+  among lo cut l = having K (within lo cut) l
 
   module _ (lo cut a : ℕ) (l : List A) (h : lo ≤ cut) (u : Up a l) where
     lows-cut : lows cut l ≡ lows lo l ++ among lo cut l
@@ -204,20 +157,20 @@ module _ {A : Type 0} (K : Keyed A) where
           ∙ ap (take (t - f)) (drop_at (lows lo l) (among lo cut l ++ highs cut l) f (lows-length lo l ∙ sym ef))
           ∙ take_at (among lo cut l) (highs cut l) (t - f) (let e = range_length in omega arith)
 
-      pub apart-is : take f l ++ drop t l ≡ having (λ j. not (within lo cut j)) l
+      pub apart-is : take f l ++ drop t l ≡ having K (λ j. not (within lo cut j)) l
       apart-is =
           ap₂ (λ (m n : List A). m ++ n)
           (ap (λ (z : ℕ). take z l) ef ∙ take_below lo a l u ∙ keep-keep (λ (x : A). ltb (K.key x) cut) (λ x. not (within lo cut (K.key x))) (λ x. ltb (K.key x) lo) (λ x. low-apart lo cut (K.key x) h) l)
           (ap (λ (z : ℕ). drop z l) et ∙ drop-below cut a l u ∙ keep-keep (λ (x : A). leb cut (K.key x)) (λ x. not (within lo cut (K.key x))) (λ x. leb cut (K.key x)) (λ x. high-apart lo cut (K.key x)) l)
           ∙ sym (keep_append (λ (x : A). not (within lo cut (K.key x))) (lows cut l) (highs cut l))
-          ∙ sym (ap (having (λ j. not (within lo cut j))) (split cut a l u))
+          ∙ sym (ap (having K (λ j. not (within lo cut j))) (split cut a l u))
 
   -- every key but one
-  pub but-is : (k : ℕ) (l : List A) → having (λ j. not (within k (suc k) j)) l ≡ having (but k) l
+  pub but-is : (k : ℕ) (l : List A) → having K (λ j. not (within k (suc k) j)) l ≡ having K (but k) l
   but-is k l = keep_same (λ (x : A). not (within k (suc k) (K.key x))) (λ x. but k (K.key x)) l (λ x i. ap not (within-one k (K.key x)))
 
   -- ---- a list in order, of which a part is taken or taken out
-  pub up-keep : (g : ℕ → Bool) (l : List A) → Up 0 l → Up 0 (having g l)
+  pub up-keep : (g : ℕ → Bool) (l : List A) → Up 0 l → Up 0 (having K g l)
   up-keep g l u = rw (K.named_keep g l) (keep-rises g 0 (K.named l) u)
 
   named-two : (n : ℕ) (l : List A) → K.named (take n l) ++ K.named (drop n l) ≡ K.named l
@@ -273,7 +226,7 @@ module _ {A : Type 0} (K : Keyed A) where
       pub high_is : (n : ℕ) {o : List A} → length l ≤ n → o ≡ take (n - p) (drop p l) → o ≡ highs k l
       high_is n g a = a ∙ rest-is l p n g ∙ ap (λ (z : ℕ). drop z l) e ∙ drop-below k 0 l u
 
-      pub without_is : (q : ℕ) {o : List A} → q ≡ below (suc k) (K.named l) → o ≡ take p l ++ drop q l → o ≡ having (but k) l
+      pub without_is : (q : ℕ) {o : List A} → q ≡ below (suc k) (K.named l) → o ≡ take p l ++ drop q l → o ≡ having K (but k) l
       without_is q f a = a ∙ apart-is k (suc k) 0 l (omega arith) u p q e f ∙ but-is k l
 
   -- ---- the first n of an array

@@ -5,3 +5,4 @@ pub mod Finds
 pub mod Best
 pub mod Merged
 pub mod Laws
+mod Search

@@ -23,20 +23,25 @@ use Rattle.buffer.specs.declared.SpotBuffer.{SpotBuffer}
 use Rattle.buffer.specs.Buffer.{held, Ordered}
 use Rattle.octets.proofs.Lists.{take-push}
 use Rattle.build.specs.Building.{limit_of, Segment, Cut}
-use Rattle.build.specs.declared.Limit.{Limit}
+use Rattle.std.specs.Prelude.{Some, None, unwrap_or}
+use Rattle.std.specs.Prelude as maybe
 
 -- the test of a rank key against a cut and a limit
-pub test-is : (c : ℕ) (l : Limit) (r : ℕ) → (leb c r && (l.some && leb r l.last)) ≡ within c (limit_of l) r
+pub test-some : (c last r : ℕ) → (leb c r && leb r last) ≡ within c (limit_of (Some last)) r
 unfolding within all
-test-is c l r = go l.some (leb c r)
+test-some c last r = ap (λ (b : Bool). leb c r && b) (end (leb r last) ∙ ap (λ (b : Bool). b && true) (sym (leb-suc-suc r last)))
   where
     end : (b : Bool) → b ≡ (b && true)
     end true = refl
     end false = refl
 
-    go : (s a : Bool) → (a && (s && leb r l.last)) ≡ (a && (ltb r (cond s (suc l.last) 0) && true))
-    go true a = ap (λ (b : Bool). a && b) (end (leb r l.last) ∙ ap (λ (b : Bool). b && true) (sym (leb-suc-suc r l.last)))
-    go false a = ap (λ (b : Bool). a && (b && true)) (sym (leb-suc-zero r))
+pub test-none : (c r : ℕ) → false ≡ within c (limit_of None) r
+unfolding within all
+test-none c r = go (leb c r)
+  where
+    go : (a : Bool) → false ≡ (a && (ltb r 0 && true))
+    go true = ap (λ (b : Bool). b && true) (sym (leb-suc-zero r))
+    go false = refl
 
 -- ---- one spot after the other
 
@@ -158,7 +163,7 @@ module _ (list : List ℕ) (from n c t : ℕ) where
 
 -- ---- a cut between two
 
-module _ (list : List ℕ) (from n : ℕ) (limit : Limit) where
+module _ (list : List ℕ) (from n : ℕ) (limit : maybe.Option ℕ) where
   abbrev taken : ℕ → ℕ
   taken c = length (band c (limit_of limit) (spots_from list from n))
 
@@ -168,9 +173,9 @@ module _ (list : List ℕ) (from n : ℕ) (limit : Limit) where
     pub short : taken hi < 32
     pub order : lo < hi
     pub under : hi ≤ limit_of limit
-    pub near : hi ≤ limit.last
+    pub near : hi ≤ unwrap_or limit 0
 
-module _ (list : List ℕ) (from n : ℕ) (limit : Limit) (seg : Segment list from n) where
+module _ (list : List ℕ) (from n : ℕ) (limit : maybe.Option ℕ) (seg : Segment list from n) where
   keyed : every (within 0 all_keys) (keys (spots_from list from n)) ≡ true
   keyed = spots-within list 12 n (12 * from)
 
@@ -183,26 +188,6 @@ module _ (list : List ℕ) (from n : ℕ) (limit : Limit) (seg : Segment list fr
     where
       past : limit_of limit ≤ c → c ≤ limit_of limit
       past a = let z = ap length (band-none c (limit_of limit) a (spots_from list from n)) in let q : ⊥ = omega arith in absurd q
-
-  pub between_first : {r : ℕ} → r ≡ taken list from n limit 0 → 64 < r → Between list from n limit 0 limit.last
-  between_first {r} e h = go limit.some refl
-    where
-      go : (b : Bool) → limit.some ≡ b → Between list from n limit 0 limit.last
-      go false f =
-          let z : limit_of limit ≡ 0 = ap (λ (b : Bool). cond b (suc limit.last) 0) f in
-          let g = ap (λ (t : ℕ). length (band 0 t (spots_from list from n))) z ∙ ap length (band-none 0 0 (omega arith) (spots_from list from n)) in
-          let q : ⊥ = omega arith in
-          absurd q
-      go true f =
-          let t = limit_of limit in
-          let z : t ≡ suc limit.last = ap (λ (b : Bool). cond b (suc limit.last) 0) f in
-          let s = band-step limit.last t 0 (spots_from list from n) keyed seg.rises in
-          let g = ap (λ (x : ℕ). length (band (suc limit.last) x (spots_from list from n))) z ∙ ap length (band-none (suc limit.last) (suc limit.last) (omega arith) (spots_from list from n)) in
-          let few : taken list from n limit limit.last ≤ 1 = omega arith in
-          record { over = omega arith; short = omega arith; order = positive few; under = omega arith; near = omega arith }
-        where
-          positive : taken list from n limit limit.last ≤ 1 → 0 < limit.last
-          positive few = ⊎_elim (λ (q : limit.last ≡ 0). let w = ap (taken list from n limit) q in let y : ⊥ = omega arith in absurd y) (λ (q : limit.last ≡ 0 → ⊥). omega (arith, q)) (same_or_not limit.last 0)
 
   module _ {lo hi : ℕ} (b : Between list from n limit lo hi) where
     apart : suc lo < hi
@@ -229,3 +214,17 @@ module _ (list : List ℕ) (from n : ℕ) (limit : Limit) (seg : Segment list fr
         let q = between-high in
         let u = b.under in
         record { most = omega arith; least = inl (omega arith); under = omega arith }
+
+pub between_first : (list : List ℕ) (from n : ℕ) (limit : maybe.Option ℕ) → Segment list from n → {r : ℕ} → r ≡ taken list from n limit 0 → 64 < r → Between list from n limit 0 (unwrap_or limit 0)
+between_first list from n None seg {r} e h =
+    let g = ap length (band-none 0 0 (omega arith) (spots_from list from n)) in
+    let q : ⊥ = omega arith in
+    absurd q
+between_first list from n (Some last) seg {r} e h =
+    let s = band-step last (suc last) 0 (spots_from list from n) (keyed list from n (Some last) seg) seg.rises in
+    let g = ap length (band-none (suc last) (suc last) (omega arith) (spots_from list from n)) in
+    let few : taken list from n (Some last) last ≤ 1 = omega arith in
+    record { over = omega arith; short = omega arith; order = positive few; under = omega arith; near = omega arith }
+  where
+    positive : taken list from n (Some last) last ≤ 1 → 0 < last
+    positive few = ⊎_elim (λ (q : last ≡ 0). let w = ap (taken list from n (Some last)) q in let y : ⊥ = omega arith in absurd y) (λ (q : last ≡ 0 → ⊥). omega (arith, q)) (same_or_not last 0)

@@ -21,7 +21,7 @@ use Rattle.node.specs.Memory.{entries_of, EntryFits, EntriesFit}
 use Rattle.rebuild_theory.specs.Build.{leaves, nodes, fans_ok, shape_of, band, built_node, first_spot_key, Built, BuildPost}
 use Rattle.rebuild_theory.proofs.Built.{nodes-some}
 use Rattle.rebuild_theory.proofs.Steps.{band-length, leaf-built, node-built}
-use Rattle.build.specs.declared.Limit.{Limit}
+use Rattle.std.specs.Prelude as maybe
 use Rattle.build.specs.Building.{limit_of, Cut, Buildable, Own, OwnPut}
 use Rattle.build.proofs.Segments.{shape-step, shape-leaf, shape-length, Under, under}
 use Rattle.build.proofs.Children.{Children, children-shares}
@@ -114,7 +114,7 @@ module _ {t list : List ℕ} {from n f g h b : ℕ} (r : Buildable t list from n
         (subst (λ (s : List ℕ). b + nodes s ≤ blocks_of (length t)) shape_is r.last)
         r.blocks
 
-    pub inner-ready : (l : Limit) (c : ℕ) → x ≡ limit_of l → Cut list from n l c → {t₁ : List ℕ} {es : Entries} {left j : ℕ} → Children list from n f b c fs t t₁ es left j → Own t₁ list from n c x h es b
+    pub inner-ready : (l : maybe.Option ℕ) (c : ℕ) → x ≡ limit_of l → Cut list from n l c → {t₁ : List ℕ} {es : Entries} {left j : ℕ} → Children list from n f b c fs t t₁ es left j → Own t₁ list from n c x h es b
     inner-ready l c e cut {t₁} {es} k =
         let m = own_room in
         let z = k.sized in
@@ -131,7 +131,7 @@ module _ {t list : List ℕ} {from n f g h b : ℕ} (r : Buildable t list from n
           near = m.1;
         }
 
-    pub inner-post : (l : Limit) (c : ℕ) → x ≡ limit_of l → Cut list from n l c → {t₁ : List ℕ} {es : Entries} {left j : ℕ} → Children list from n f b c fs t t₁ es left j → f ≤ j
+    pub inner-post : (l : maybe.Option ℕ) (c : ℕ) → x ≡ limit_of l → Cut list from n l c → {t₁ : List ℕ} {es : Entries} {left j : ℕ} → Children list from n f b c fs t t₁ es left j → f ≤ j
         → {u : List ℕ} {e : Entry} → OwnPut t₁ u b h (entries_of es) (band c x ys) (first_spot_key ys) e
         → BuildPost (blocks_of (length t)) (shape_of f g h) b ys x t u e × EntryFits e
     inner-post l c q cut {t₁} {es} {left} {j} k done {u} {e} p =

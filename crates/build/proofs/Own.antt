@@ -8,7 +8,7 @@ use native.Mathlib.Omega.{arith}
 use lib.ListN.{length, take, get_or, set}
 use Rattle.octets.proofs.Lists.{mem-same}
 use Rattle.spot.specs.declared.Spot.{Spot}
-use Rattle.spot.specs.Spots.{keys, key_at, spot_at, spots_from}
+use Rattle.spot.specs.Spots.{key_at, spot_at, spots_from}
 use Rattle.spot.proofs.Buffers.{find-mem}
 use Rattle.buffer.specs.declared.SpotBuffer.{SpotBuffer}
 use Rattle.buffer.specs.declared.KeyBuffer.{KeyBuffer}

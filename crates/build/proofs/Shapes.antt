@@ -4,7 +4,7 @@ use mathlib.Core.Path.{◌≡◌, refl, ap, sym, ◌∙◌}
 use mathlib.Core.Logic.{⊎_elim}
 use mathlib.Core.Bool.{Bool, true, cond}
 use mathlib.Core.List.{List, [], ◌∷◌, map}
-use Prim.Native.Nat.{ℕ, zero, suc, ◌+◌, ◌-◌, ◌*◌, ◌/◌, ◌%◌, ◌^◌, ◌≤◌, ◌<◌}
+use Prim.Native.Nat.{ℕ, zero, suc, ◌+◌, ◌-◌, ◌*◌, ◌^◌, ◌≤◌, ◌<◌}
 use native.Mathlib.Nat.{pow-suc, mul-le-mul}
 use native.Mathlib.Omega.{arith}
 use lib.ListN.{length, get_or, drop, get_or-map}
@@ -54,21 +54,28 @@ nodes-room f h r d p b = omega (arith, nodes-few f h r d p.0 b, small h p.1)
 
 -- ---- the table
 
-unfoldable pub rows : List ℕ
+-- a row: leaves, the fan-out of the root, that of its children, levels below the root
+abbrev pub Row : Type 0
+Row = ℕ × ℕ × ℕ × ℕ
+
+unfoldable pub rows : List Row
 rows =
-    1000 ∷ 2261 ∷ 3361 ∷ 4461 ∷ 6661 ∷ 8861 ∷ 10252 ∷ 12262 ∷ 15352 ∷ 18362 ∷ 24462 ∷ 30562 ∷ 36662 ∷ 48862 ∷ 60253 ∷ 72263 ∷ 90353 ∷ 108363 ∷ 144463 ∷ 180563 ∷ 216663 ∷ 288863 ∷ 360254 ∷ 432264 ∷ 540354 ∷ 648364 ∷ 864464 ∷ 1080564 ∷ 1296664 ∷ 1728864 ∷ 2160255 ∷ []
+    (1, 0, 0, 0) ∷ (2, 2, 6, 1) ∷ (3, 3, 6, 1) ∷ (4, 4, 6, 1) ∷ (6, 6, 6, 1) ∷ (8, 8, 6, 1) ∷ (10, 2, 5, 2) ∷ (12, 2, 6, 2) ∷ (15, 3, 5, 2) ∷ (18, 3, 6, 2) ∷ (24, 4, 6, 2) ∷ (30, 5, 6, 2) ∷ (36, 6, 6, 2) ∷ (48, 8, 6, 2) ∷ (60, 2, 5, 3) ∷ (72, 2, 6, 3) ∷ (90, 3, 5, 3) ∷ (108, 3, 6, 3) ∷ (144, 4, 6, 3) ∷ (180, 5, 6, 3) ∷ (216, 6, 6, 3) ∷ (288, 8, 6, 3) ∷ (360, 2, 5, 4) ∷ (432, 2, 6, 4) ∷ (540, 3, 5, 4) ∷ (648, 3, 6, 4) ∷ (864, 4, 6, 4) ∷ (1080, 5, 6, 4) ∷ (1296, 6, 6, 4) ∷ (1728, 8, 6, 4) ∷ (2160, 2, 5, 5) ∷ []
+
+abbrev no_row : Row
+no_row = (0, 0, 0, 0)
 
 -- the shape of a row
-unfoldable shape_in : ℕ → List ℕ
-shape_in r = shape_of (r / 100 % 10) (r / 10 % 10) (r % 10)
+unfoldable shape_in : Row → List ℕ
+shape_in r = shape_of r.1 r.2 r.3
 
 table_is : map shape_in rows ≡ shapes
 unfolding shape_in rows
 table_is = refl
 
 -- the rule of a row
-unfoldable right : ℕ → Bool
-right r = all (eqb (leaves (shape_in r)) (r / 1000) ∷ leb (r / 100 % 10) 8 ∷ leb (r / 10 % 10) 8 ∷ leb (r % 10) 5 ∷ leb (r / 1000) 2160 ∷ [])
+unfoldable right : Row → Bool
+right r = all (eqb (leaves (shape_in r)) r.0 ∷ leb r.1 8 ∷ leb r.2 8 ∷ leb r.3 5 ∷ leb r.0 2160 ∷ [])
 
 rows_right : every right rows ≡ true
 unfolding right rows shape_in all
@@ -78,18 +85,18 @@ long : (length rows ≡ 31) × (length shapes ≡ 31)
 unfolding rows
 long = (refl, refl)
 
-right-at : (i : ℕ) → i < 31 → right (get_or rows i 0) ≡ true
-right-at i h = every-at right rows 0 rows_right i (omega (arith, long.0))
+right-at : (i : ℕ) → i < 31 → right (get_or rows i no_row) ≡ true
+right-at i h = every-at right rows no_row rows_right i (omega (arith, long.0))
 
-row_is : (i : ℕ) → get_or shapes i [] ≡ shape_in (get_or rows i 0)
+row_is : (i : ℕ) → get_or shapes i [] ≡ shape_in (get_or rows i no_row)
 unfolding shape_in
-row_is i = ap (λ (l : List (List ℕ)). get_or l i []) (sym table_is) ∙ get_or-map shape_in rows i 0
+row_is i = ap (λ (l : List (List ℕ)). get_or l i []) (sym table_is) ∙ get_or-map shape_in rows i no_row
 
-pub count_small : (i : ℕ) → i ≤ 30 → get_or rows i 0 / 1000 ≤ 2160
+pub count_small : (i : ℕ) → i ≤ 30 → (get_or rows i (0, 0, 0, 0)).0 ≤ 2160
 unfolding right
 count_small i h = leb-true _ _ (all-at _ (right-at i (omega arith)) 4)
 
-last-count : get_or rows 30 0 / 1000 ≡ 2160
+last-count : (get_or rows 30 no_row).0 ≡ 2160
 unfolding rows
 last-count = refl
 
@@ -107,31 +114,31 @@ module _ (n i : ℕ) (few : n ≤ 65520) (s : Sought n i) where
   here : i < 31
   here = omega (arith, s.inside)
 
-  pub sought-inside : 32 * (get_or rows i 0 / 1000) < n → i < 30
+  pub sought-inside : 32 * ((get_or rows i (0, 0, 0, 0)).0) < n → i < 30
   sought-inside h =
       let m = s.inside in
-      ⊎_elim (λ (e : i ≡ 30). let g = ap (λ (k : ℕ). get_or rows k 0 / 1000) e ∙ last-count in let z : ⊥ = omega arith in absurd z) (λ (d : i ≡ 30 → ⊥). omega (arith, d))
+      ⊎_elim (λ (e : i ≡ 30). let g = ap (λ (k : ℕ). (get_or rows k (0, 0, 0, 0)).0) e ∙ last-count in let z : ⊥ = omega arith in absurd z) (λ (d : i ≡ 30 → ⊥). omega (arith, d))
       (same_or_not i 30)
 
-  row_count : leaves (get_or shapes i []) ≡ get_or rows i 0 / 1000
+  row_count : leaves (get_or shapes i []) ≡ (get_or rows i (0, 0, 0, 0)).0
   unfolding right
   row_count = ap leaves (row_is i) ∙ eqb-true _ _ (all-at _ (right-at i here) 0)
 
-  picks : shape n ≡ cond (leb n (32 * (get_or rows i 0 / 1000))) (get_or shapes i []) (first_for n (drop (i + 1) shapes))
+  picks : shape n ≡ cond (leb n (32 * ((get_or rows i (0, 0, 0, 0)).0))) (get_or shapes i []) (first_for n (drop (i + 1) shapes))
   picks =
       let cut : drop i shapes ≡ get_or shapes i [] ∷ drop (i + 1) shapes = drop-next shapes i [] (omega (arith, long.1, here)) in
       s.same ∙ ap (first_for n) cut
       ∙ ap (λ (k : ℕ). cond (leb n (32 * k)) (get_or shapes i []) (first_for n (drop (i + 1) shapes))) row_count
 
-  pub sought-next : 32 * (get_or rows i 0 / 1000) < n → Sought n (i + 1)
-  sought-next h = record { inside = omega (arith, sought-inside h); same = picks ∙ rw (lt-leb n (32 * (get_or rows i 0 / 1000)) h) }
+  pub sought-next : 32 * ((get_or rows i (0, 0, 0, 0)).0) < n → Sought n (i + 1)
+  sought-next h = record { inside = omega (arith, sought-inside h); same = picks ∙ rw (lt-leb n (32 * ((get_or rows i (0, 0, 0, 0)).0)) h) }
 
-  pub sought-found : n ≤ 32 * (get_or rows i 0 / 1000)
-      → ShapeIs n (record { fan = get_or rows i 0 / 100 % 10; next = get_or rows i 0 / 10 % 10; height = get_or rows i 0 % 10 })
+  pub sought-found : n ≤ 32 * ((get_or rows i (0, 0, 0, 0)).0)
+      → ShapeIs n (record { fan = (get_or rows i (0, 0, 0, 0)).1; next = (get_or rows i (0, 0, 0, 0)).2; height = (get_or rows i (0, 0, 0, 0)).3 })
   unfolding right shape_in
   sought-found h =
       record {
-        is = rw (picks, le-leb n (32 * (get_or rows i 0 / 1000)) h) (sym (row_is i));
+        is = rw (picks, le-leb n (32 * ((get_or rows i (0, 0, 0, 0)).0)) h) (sym (row_is i));
         fan = leb-true _ _ (all-at _ (right-at i here) 1);
         next = leb-true _ _ (all-at _ (right-at i here) 2);
         high = leb-true _ _ (all-at _ (right-at i here) 3);

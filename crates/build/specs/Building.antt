@@ -1,6 +1,7 @@
 -- What the functions that build a tree are handed and hand back. The list of spots stands in bytes, 12 a spot, in place order.
 -- Assumes nothing.
-use Rattle.std.specs.Prelude.{◌≡◌, ◌⊎◌, ℕ, suc, ◌+◌, ◌*◌, ◌≤◌, ◌<◌, max, true, cond, ◌||◌, List, length, drop, replicate, leb}
+use Rattle.std.specs.Prelude.{◌≡◌, ◌⊎◌, ℕ, suc, ◌+◌, ◌*◌, ◌≤◌, ◌<◌, max, true, ◌||◌, List, length, drop, replicate, leb, Some, None}
+use Rattle.std.specs.Prelude as maybe
 use Rattle.octets.specs.Lists.{rising}
 use Rattle.octets.specs.Bytes.{be}
 use Rattle.octets.specs.Bitmap.{bit}
@@ -16,12 +17,12 @@ use Rattle.block.specs.declared.Asked.TheVariants.{Child}
 use Rattle.node.specs.declared.Entries.{Entries}
 use Rattle.node.specs.Memory.{EntryFits, EntriesFit}
 use Rattle.rebuild_theory.specs.Build.{leaves, nodes, fans_ok, shape_of, shape, band, built_node}
-use Rattle.build.specs.declared.Limit.{Limit}
 use Rattle.build.specs.declared.Fans.{Fans}
 
 -- a limit above every key it admits: 0 admits none, 2^64 admits all
-abbrev pub limit_of : Limit → ℕ
-limit_of l = cond l.some (suc l.last) 0
+abbrev pub limit_of : maybe.Option ℕ → ℕ
+limit_of None = 0
+limit_of (Some last) = suc last
 
 -- a part of the list of rising spots
 pub record Segment (list : List ℕ) (from n : ℕ) : Type 0 where
@@ -31,7 +32,7 @@ pub record Segment (list : List ℕ) (from n : ℕ) : Type 0 where
   pub limits : limited_from list 12 n (12 * from) ≡ true
 
 -- a rank key from which on a node takes 32 to 64 of the spots under the limit, or all of them
-pub record Cut (list : List ℕ) (from n : ℕ) (limit : Limit) (c : ℕ) : Type 0 where
+pub record Cut (list : List ℕ) (from n : ℕ) (limit : maybe.Option ℕ) (c : ℕ) : Type 0 where
   pub most : length (band c (limit_of limit) (spots_from list from n)) ≤ 64
   pub least : (32 ≤ length (band c (limit_of limit) (spots_from list from n))) ⊎ (c ≡ 0)
   pub under : c ≤ limit_of limit

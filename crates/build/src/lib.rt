@@ -12,13 +12,6 @@ ghost use Rattle.node.specs.Memory.{entries_of, EntryFits};
 ghost use Rattle.rebuild_theory.specs.Build.{nodes, shape_of, band, first_spot_key, BuildPost, Rebuilt};
 ghost use Rattle.build.specs.Building.{limit_of, Segment, Cut, Buildable, HeaderFits, HeaderWritten, ShapeIs, NumbersAre, HeadSays, FirstMarked, EntryOfPoints, Own, OwnPut};
 
-// A limit of rank keys: all up to `last`, or none.
-#[derive(Clone, Copy)]
-pub struct Limit {
-    pub some: bool,
-    pub last: u64,
-}
-
 // The fan-outs of a tree: the root has `fan` children, each of those `next`, every other inner node 6; `height` levels lie below the root.
 #[derive(Clone, Copy)]
 pub struct Fans {
@@ -27,27 +20,28 @@ pub struct Fans {
     pub height: usize,
 }
 
-// The key's rank key is at least the cut and under the limit.
-pub fn in_band(k: u64, cut: u64, limit: Limit) -> bool
+// The key's rank key is at least the cut and under the limit. A limit is the last rank key that it admits, or none.
+pub fn in_band(k: u64, cut: u64, limit: Option<u64>) -> bool
     ensures { result ≡ within cut (limit_of limit) (rank_key k) }
 {
     let r = spot::rank_key(k);
-    (cut <= r) & (limit.some & (r <= limit.last))
+    match limit {
+        None => false,
+        Some(last) => (cut <= r) & (r <= last),
+    }
 }
 
 // How many of the n spots from `from` on lie in the band.
-pub fn count_band(list: &[u8], from: usize, n: usize, cut: u64, limit: Limit) -> usize
+pub fn count_band(list: &[u8], from: usize, n: usize, cut: u64, limit: Option<u64>) -> usize
     requires { Segment list.now from n }
     ensures { (result ≡ length (band cut (limit_of limit) (spots_from list.now from n))) × (result ≤ n) }
 {
     let mut sum = 0;
-    let mut i = 0;
-    while i < n {
+    for i in 0..n {
         let k = spot::read_key(list, spot::SPOT_BYTES * (from + i));
         if in_band(k, cut, limit) {
             sum += 1;
         }
-        i += 1;
     }
     sum
 }
@@ -60,33 +54,29 @@ fn admit(top: &mut [u64], r: u64)
     if r <= top[0] {
         return;
     }
-    let mut j = 0;
-    while j < 47 {
+    for j in 0..47 {
         let next = top[j + 1];
         if r <= next {
             top[j] = r;
             return;
         }
         top[j] = next;
-        j += 1;
     }
     top[47] = r;
 }
 
 // The 48th of the rank keys under the limit from the highest down, or 0 where they are 64 at most. Only a proposal: no proof rests on it.
-fn likely_cut(list: &[u8], from: usize, n: usize, limit: Limit) -> u64
+fn likely_cut(list: &[u8], from: usize, n: usize, limit: Option<u64>) -> u64
     requires { Segment list.now from n }
 {
     let mut top = [0u64; 48];
     let mut all: usize = 0;
-    let mut i = 0;
-    while i < n {
+    for i in 0..n {
         let k = spot::read_key(list, spot::SPOT_BYTES * (from + i));
         if in_band(k, 0, limit) {
             all += 1;
             admit(&mut top, spot::rank_key(k));
         }
-        i += 1;
     }
     if all <= block::POINTS_MOST {
         return 0;
@@ -95,7 +85,7 @@ fn likely_cut(list: &[u8], from: usize, n: usize, limit: Limit) -> u64
 }
 
 // Whether the cut is one by which the node takes 32 to 64 spots, or all.
-fn cut_fits(list: &[u8], from: usize, n: usize, limit: Limit, cut: u64) -> bool
+fn cut_fits(list: &[u8], from: usize, n: usize, limit: Option<u64>, cut: u64) -> bool
     requires { Segment list.now from n }
     ensures { result ≡ true → Cut list.now from n limit cut }
 {
@@ -110,15 +100,15 @@ fn cut_fits(list: &[u8], from: usize, n: usize, limit: Limit, cut: u64) -> bool
 }
 
 // Such a cut found by halving, in as many passes as a rank key has bits at most.
-fn halved_cut(list: &[u8], from: usize, n: usize, limit: Limit) -> u64
+fn halved_cut(list: &[u8], from: usize, n: usize, limit: Option<u64>) -> u64
     requires { Segment list.now from n }
     ensures { Cut list.now from n limit result }
 {
     if count_band(list, from, n, 0, limit) <= block::POINTS_MOST {
         return 0;
     }
-    let mut lo = 0;
-    let mut hi = limit.last;
+    let mut lo = 0; // Stays: a halving, which has no range to run over.
+    let mut hi = limit.unwrap_or(0);
     while lo < hi {
         let mid = lo + (hi - lo) / 2;
         let taken = count_band(list, from, n, mid, limit);
@@ -135,7 +125,7 @@ fn halved_cut(list: &[u8], from: usize, n: usize, limit: Limit) -> u64
 }
 
 // A cut by which the node takes 32 to 64 spots, or all. The likely one fits always; that it does is not proved but tested, which costs one pass.
-pub fn choose_cut(list: &[u8], from: usize, n: usize, limit: Limit) -> u64
+pub fn choose_cut(list: &[u8], from: usize, n: usize, limit: Option<u64>) -> u64
     requires { Segment list.now from n }
     ensures { Cut list.now from n limit result }
 {
@@ -147,20 +137,24 @@ pub fn choose_cut(list: &[u8], from: usize, n: usize, limit: Limit) -> u64
 }
 
 // The spots of the band, in place order.
-pub fn take_band(list: &[u8], from: usize, n: usize, cut: u64, limit: Limit) -> buffer::SpotBuffer
+pub fn take_band(
+    list: &[u8],
+    from: usize,
+    n: usize,
+    cut: u64,
+    limit: Option<u64>,
+) -> buffer::SpotBuffer
     requires { Segment list.now from n × (length (band cut (limit_of limit) (spots_from list.now from n)) ≤ 64) }
     ensures { Ordered result × (held result ≡ band cut (limit_of limit) (spots_from list.now from n)) × (result.n ≤ 64) }
 {
-    let mut out = buffer::empty();
-    let mut i = 0;
-    while i < n {
+    let mut out: buffer::SpotBuffer = buffer::empty();
+    for i in 0..n {
         let s = spot::read_spot(list, spot::SPOT_BYTES * (from + i));
         if in_band(s.key, cut, limit) {
             let at = out.n;
             out.spots[at] = s;
             out.n = at + 1;
         }
-        i += 1;
     }
     out
 }
@@ -176,12 +170,39 @@ pub fn nodes_of(fan: usize, next: usize, height: usize) -> usize
     1 + fan * nodes_of(next, 6, height - 1)
 }
 
-// The shapes used, in rising order. The last three digits are the fan-out of the root, that of its children, and the levels below the root; the digits
-// before them are the number of leaves.
-const SHAPES: [usize; 31] = [
-    1000, 2261, 3361, 4461, 6661, 8861, 10252, 12262, 15352, 18362, 24462, 30562, 36662, 48862,
-    60253, 72263, 90353, 108363, 144463, 180563, 216663, 288863, 360254, 432264, 540354, 648364,
-    864464, 1080564, 1296664, 1728864, 2160255,
+// The shapes used, in rising order: the number of leaves, the fan-out of the root, that of its children, and the levels below the root.
+const SHAPES: [(usize, usize, usize, usize); 31] = [
+    (1, 0, 0, 0),
+    (2, 2, 6, 1),
+    (3, 3, 6, 1),
+    (4, 4, 6, 1),
+    (6, 6, 6, 1),
+    (8, 8, 6, 1),
+    (10, 2, 5, 2),
+    (12, 2, 6, 2),
+    (15, 3, 5, 2),
+    (18, 3, 6, 2),
+    (24, 4, 6, 2),
+    (30, 5, 6, 2),
+    (36, 6, 6, 2),
+    (48, 8, 6, 2),
+    (60, 2, 5, 3),
+    (72, 2, 6, 3),
+    (90, 3, 5, 3),
+    (108, 3, 6, 3),
+    (144, 4, 6, 3),
+    (180, 5, 6, 3),
+    (216, 6, 6, 3),
+    (288, 8, 6, 3),
+    (360, 2, 5, 4),
+    (432, 2, 6, 4),
+    (540, 3, 5, 4),
+    (648, 3, 6, 4),
+    (864, 4, 6, 4),
+    (1080, 5, 6, 4),
+    (1296, 6, 6, 4),
+    (1728, 8, 6, 4),
+    (2160, 2, 5, 5),
 ];
 
 // The shape for n spots: the first with room for them at 32 a leaf.
@@ -189,16 +210,12 @@ pub fn shape_of(n: usize) -> Fans
     requires { n ≤ 65520 }
     ensures { ShapeIs n result }
 {
-    let mut i = 0;
-    while block::POINTS_LEAST * (SHAPES[i] / 1000) < n {
+    let mut i = 0; // Stays: the search ends inside the table, as is proved; a range would need an answer behind its end.
+    while block::POINTS_LEAST * SHAPES[i].0 < n {
         i += 1;
     }
-    let r = SHAPES[i];
-    Fans {
-        fan: r / 100 % 10,
-        next: r / 10 % 10,
-        height: r % 10,
-    }
+    let (_, fan, next, height) = SHAPES[i];
+    Fans { fan, next, height }
 }
 
 // The numbers of block 0, and zeros in the rest of it.
@@ -219,10 +236,8 @@ fn mark_to(map: &mut [u8], last: usize)
     requires { (last < 8 * length map.old) × (length map.old ≤ 512) }
     ensures { FirstMarked map.old map.new last }
 {
-    let mut i = 0;
-    while i <= last {
+    for i in 0..=last {
         octets::set_bit(map, i);
-        i += 1;
     }
 }
 
@@ -343,7 +358,7 @@ fn put_own(
     from: usize,
     n: usize,
     cut: u64,
-    limit: Limit,
+    limit: Option<u64>,
     level: usize,
     es: node::Entries,
     b: usize,
@@ -354,7 +369,7 @@ fn put_own(
     let points = take_band(list, from, n, cut, limit);
     let entries = open_first(es);
     let inserts = buffer::empty();
-    let deletes = buffer::empty_keys();
+    let deletes = buffer::empty();
     let own = node::NodeValue {
         level,
         entries,
@@ -370,19 +385,10 @@ fn put_own(
 // ---- the tree
 
 // The limit that admits what lies under a cut.
-fn limit_at(cut: u64) -> Limit
+fn limit_at(cut: u64) -> Option<u64>
     ensures { limit_of result ≡ cut }
 {
-    if cut == 0 {
-        return Limit {
-            some: false,
-            last: 0,
-        };
-    }
-    Limit {
-        some: true,
-        last: cut - 1,
-    }
+    cut.checked_sub(1)
 }
 
 // Builds the tree of a segment of the list from block b on: the spots under the limit. The node takes those from a cut on; the children share the segment
@@ -392,7 +398,7 @@ pub fn build(
     list: &[u8],
     from: usize,
     n: usize,
-    limit: Limit,
+    limit: Option<u64>,
     fans: Fans,
     b: usize,
 ) -> block::Entry
@@ -414,15 +420,13 @@ pub fn build(
     };
     let width = nodes_of(fans.next, 6, height - 1);
     let mut left = n;
-    let mut j = 0;
-    while j < fan {
+    for j in 0..fan {
         let share = left / (fan - j);
         let start = from + (n - left);
         let at = b + 1 + j * width;
         let e = build(t, list, start, share, under, below, at);
         es = add_entry(es, e);
         left -= share;
-        j += 1;
     }
     put_own(t, list, from, n, cut, limit, height, es, b)
 }
@@ -433,11 +437,7 @@ pub fn build_table(t: &mut [u8], list: &[u8], n: usize)
     ensures { Rebuilt t.new (spots_from list.now 0 n) × (length t.new ≡ length t.old) }
 {
     let fans = shape_of(n);
-    let all = Limit {
-        some: true,
-        last: 18446744073709551615,
-    };
-    let _root = build(t, list, 0, n, all, fans, 1);
+    let _root = build(t, list, 0, n, Some(u64::MAX), fans, 1);
     let last = nodes_of(fans.fan, fans.next, fans.height);
     write_header(t, fans.height + 1, n, last);
 }

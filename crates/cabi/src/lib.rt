@@ -9,6 +9,7 @@ ghost use Rattle.press.specs.Press.{PressPost};
 ghost use Rattle.tour.specs.Tour.{TourPost};
 ghost use Rattle.cabi.specs.Packed.{Packed};
 
+// Stays: a From may not be written here, where neither of its types is declared.
 fn pack(a: block::Answer) -> u64
     ensures { result ≡ a.number * 4294967296 + a.detail }
 {
@@ -19,21 +20,21 @@ fn pack(a: block::Answer) -> u64
 pub extern "C" fn spot_format(table: &mut [u8]) -> u64
     ensures { Packed result (λ a. FormatPost table.old a table.new) }
 {
-    pack(table::format(table))
+    pack(block::told(table::format(table)))
 }
 
 #[unsafe(no_mangle)]
 pub extern "C" fn spot_count(table: &[u8]) -> u64
     ensures { Packed result (CountPost table.now) }
 {
-    pack(table::count(table))
+    pack(block::answer_of(table::count(table)))
 }
 
 #[unsafe(no_mangle)]
 pub extern "C" fn spot_check(table: &[u8]) -> u64
     ensures { Packed result (CheckPost table.now) }
 {
-    pack(table::check(table))
+    pack(block::yes_or_no(table::check(table)))
 }
 
 #[unsafe(no_mangle)]
@@ -47,7 +48,7 @@ pub extern "C" fn spot_report(
 ) -> u64
     ensures { Packed result (λ a. ReportPost x1 x2 y table.now output.old read_map.old a output.new read_map.new) }
 {
-    pack(table::report(table, x1, x2, y, output, read_map))
+    pack(block::answer_of(table::report(table, x1, x2, y, output, read_map)))
 }
 
 #[unsafe(no_mangle)]
@@ -61,7 +62,7 @@ pub extern "C" fn spot_top(
 ) -> u64
     ensures { Packed result (λ a. TopPost x1 x2 k table.now output.old read_map.old a output.new read_map.new) }
 {
-    pack(table::top(table, x1, x2, k, output, read_map))
+    pack(block::answer_of(table::top(table, x1, x2, k, output, read_map)))
 }
 
 #[unsafe(no_mangle)]
@@ -74,42 +75,42 @@ pub extern "C" fn spot_add(
 ) -> u64
     ensures { Packed result (λ a. AddPost place rank track table.old scratch.old a table.new scratch.new) }
 {
-    pack(table::add(table, scratch, place, rank, track))
+    pack(block::told(table::add(table, scratch, place, rank, track)))
 }
 
 #[unsafe(no_mangle)]
 pub extern "C" fn spot_withdraw(table: &mut [u8], scratch: &mut [u8], place: i32, rank: i32) -> u64
     ensures { Packed result (λ a. WithdrawPost place rank table.old scratch.old a table.new scratch.new) }
 {
-    pack(table::withdraw(table, scratch, place, rank))
+    pack(block::told(table::withdraw(table, scratch, place, rank)))
 }
 
 #[unsafe(no_mangle)]
 pub extern "C" fn spot_rebuild(table: &mut [u8], scratch: &mut [u8]) -> u64
     ensures { Packed result (λ a. RebuildPost table.old scratch.old a table.new scratch.new) }
 {
-    pack(table::rebuild(table, scratch))
+    pack(block::told(table::rebuild(table, scratch)))
 }
 
 #[unsafe(no_mangle)]
 pub extern "C" fn spot_apply(table: &mut [u8], scratch: &mut [u8], message: &[u8]) -> u64
     ensures { Packed result (λ a. ApplyPost message.now table.old scratch.old a table.new scratch.new) }
 {
-    pack(apply::apply(table, scratch, message))
+    pack(block::told(apply::apply(table, scratch, message)))
 }
 
 #[unsafe(no_mangle)]
 pub extern "C" fn spot_write_message(changes: &[u8], message: &mut [u8]) -> u64
     ensures { Packed result (λ a. WritePost changes.now message.old a message.new) }
 {
-    pack(message::write_message(changes, message))
+    pack(block::told(message::write_message(changes, message)))
 }
 
 #[unsafe(no_mangle)]
 pub extern "C" fn spot_read_message(message: &[u8], changes: &mut [u8]) -> u64
     ensures { Packed result (λ a. ReadPost message.now changes.old a changes.new) }
 {
-    pack(message::read_message(message, changes))
+    pack(block::told(message::read_message(message, changes)))
 }
 
 #[unsafe(no_mangle)]
@@ -122,7 +123,7 @@ pub extern "C" fn spot_report_many(
 ) -> u64
     ensures { Packed result (λ a. ManyPost ranges.now table.now counts.old output.old read_map.old a counts.new output.new read_map.new) }
 {
-    pack(many::report_many(table, ranges, counts, output, read_map))
+    pack(block::answer_of(many::report_many(table, ranges, counts, output, read_map)))
 }
 
 #[unsafe(no_mangle)]
@@ -138,21 +139,23 @@ pub extern "C" fn spot_top_within(
 ) -> u64
     ensures { Packed result (λ a. TopWithinPost x1 x2 k allowance table.now output.old read_map.old a output.new read_map.new ceiling.new) }
 {
-    pack(within::top_within(table, x1, x2, k, allowance, output, read_map, ceiling))
+    pack(block::answer_of(within::top_within(
+        table, x1, x2, k, allowance, output, read_map, ceiling,
+    )))
 }
 
 #[unsafe(no_mangle)]
 pub extern "C" fn spot_blocks_read(read_map: &[u8]) -> u64
     ensures { Packed result (BlocksReadPost read_map.now) }
 {
-    pack(table::blocks_read(read_map))
+    pack(block::answer_of(table::blocks_read(read_map)))
 }
 
 #[unsafe(no_mangle)]
 pub extern "C" fn spot_press(spots: &[u8], tour: &mut [u8]) -> u64
     ensures { Packed result (λ a. PressPost spots.now tour.old a tour.new) }
 {
-    pack(press::press(spots, tour))
+    pack(block::told(press::press(spots, tour)))
 }
 
 #[unsafe(no_mangle)]
@@ -166,5 +169,5 @@ pub extern "C" fn spot_tour_report(
 ) -> u64
     ensures { Packed result (λ a. TourPost x1 x2 y tour.now output.old read_map.old a output.new read_map.new) }
 {
-    pack(tour::tour_report(tour, x1, x2, y, output, read_map))
+    pack(block::answer_of(tour::tour_report(tour, x1, x2, y, output, read_map)))
 }

@@ -22,14 +22,14 @@ use Rattle.block.specs.Table.{capacity}
 use Rattle.block.proofs.Making.{blocks-least, blocks-most}
 use Rattle.tree.specs.Walk.{walk_table, live_spots}
 use Rattle.tree.proofs.Tables.{live-walk}
-use Rattle.query.specs.declared.Sum.{Sum}
 use Rattle.rebuild_theory.specs.Build.{Rebuilt}
 use Rattle.build.specs.Building.{Segment}
 use Rattle.renew.specs.Renewed.{Gathered}
 use Rattle.renew.proofs.Laying.{laid-rises, laid-sound}
 use Rattle.renew.proofs.Renewing.{renew-few, renew-amendable}
+use Rattle.std.specs.Prelude.{Option, Some, None}
+use Rattle.rows.specs.declared.Row.{Row}
 use Rattle.rows.specs.Rows.{merged_rows}
-use Rattle.merge.specs.declared.Merged.{Merged}
 use Rattle.merge.specs.Merging.{MergeReady, MergedAt}
 use Rattle.revise.specs.Revising.{Lent}
 use Rattle.carry.specs.Carrying.{RowsCarried}
@@ -46,8 +46,8 @@ pub part-wide : (a b : ℕ) → a + b - a ≡ b
 part-wide a b = omega arith
 
 -- nothing gathered
-pub carried-broken : (rows : List (List ℕ)) {t w w₁ : List ℕ} {r : Sum} → Gathered t w w₁ r → r.ok ≡ false → RowsCarried rows t t w w₁ false
-carried-broken rows {t} g f =
+pub carried-broken : (rows : List Row) {t w w₁ : List ℕ} → Gathered t w w₁ None → RowsCarried rows t t w w₁ false
+carried-broken rows {t} g =
     record {
       sized = refl;
       lent_length = g.lent;
@@ -55,24 +55,24 @@ carried-broken rows {t} g f =
       kept = λ h. refl;
       built = λ h. absurd (false≢true h);
       laid = λ h. absurd (false≢true h);
-      fits = λ s h. absurd (false≢true (sym f ∙ g.ok ∙ laid-sound t s));
+      fits = λ s h. absurd (false≢true (g.ok ∙ laid-sound t s));
     }
 
-module _ {t w w₁ : List ℕ} {r : Sum} (l : Lent t w) (g : Gathered t w w₁ r) (ok : r.ok ≡ true) where
-  few : r.tally.spots ≤ capacity (length t)
-  few = renew-few l.sized l.room g ok
+module _ {t w w₁ : List ℕ} {live : ℕ} (l : Lent t w) (g : Gathered t w w₁ (Some live)) where
+  few : live ≤ capacity (length t)
+  few = renew-few l.sized l.room g
 
   pub live-rising : rising (keys (live_spots t)) ≡ true
   live-rising =
-      sym (ap (λ (x : List Spot). rising (keys x)) (live-walk t)) ∙ laid-rises (length t) (walk_table t everything) (sym g.ok ∙ ok)
+      sym (ap (λ (x : List Spot). rising (keys x)) (live-walk t)) ∙ laid-rises (length t) (walk_table t everything) (sym g.ok)
 
   -- room for both lists
   both : 12 * capacity (length t) + 12 * capacity (length t) ≤ length t
   both = omega (arith, blocks-least (length t) l.sized)
 
-  pub carried-mergeable : (to most : ℕ) → to ≡ 12 * most → most ≡ capacity (length t) → MergeReady w₁ r.tally.spots to most
+  pub carried-mergeable : (to most : ℕ) → to ≡ 12 * most → most ≡ capacity (length t) → MergeReady w₁ live to most
   carried-mergeable to most e f =
-      let m = renew-amendable l.sized l.room g ok in
+      let m = renew-amendable l.sized l.room g in
       record {
         few = m.few;
         front = omega (arith, few);
@@ -81,7 +81,7 @@ module _ {t w w₁ : List ℕ} {r : Sum} (l : Lent t w) (g : Gathered t w w₁ r
         limits = m.limits;
       }
 
-  module _ {rows : List (List ℕ)} {n to most : ℕ} {w₂ : List ℕ} {m : Merged} (e : to ≡ 12 * most) (f : most ≡ capacity (length t)) (a : MergedAt rows n w₁ w₂ r.tally.spots to most m) where
+  module _ {rows : List Row} {n to most : ℕ} {w₂ : List ℕ} {m : Option ℕ} (e : to ≡ 12 * most) (f : most ≡ capacity (length t)) (a : MergedAt rows n w₁ w₂ live to most m) where
     lent_is : length w₂ ≡ length w
     lent_is = a.sized ∙ g.lent
 
@@ -91,48 +91,50 @@ module _ {t w w₁ : List ℕ} {r : Sum} (l : Lent t w) (g : Gathered t w w₁ r
     abbrev after : List Spot
     after = merged_rows (take n rows) (live_spots t)
 
-    after_is : merged_rows (take n rows) (spots_in w₁ r.tally.spots) ≡ after
-    after_is = ap (merged_rows (take n rows)) (g.holds ok)
+    after_is : merged_rows (take n rows) (spots_in w₁ live) ≡ after
+    after_is = ap (merged_rows (take n rows)) g.holds
 
+  module _ {rows : List Row} {n to most : ℕ} {w₂ : List ℕ} (e : to ≡ 12 * most) (f : most ≡ capacity (length t)) where
     -- too many
-    pub carried-over : m.ok ≡ false → RowsCarried (take n rows) t t w w₂ false
-    carried-over f₁ =
-        let over = a.over f₁ in
+    pub carried-over : MergedAt rows n w₁ w₂ live to most None → RowsCarried (take n rows) t t w w₂ false
+    carried-over a =
         record {
           sized = refl;
-          lent_length = lent_is;
-          rest = rest-is;
+          lent_length = lent_is e f a;
+          rest = rest-is e f a;
           kept = λ h. refl;
           built = λ h. absurd (false≢true h);
           laid = λ h. absurd (false≢true h);
-          fits = λ s h. let no : ⊥ = omega (arith, over, ap length after_is, h) in absurd no;
+          fits = λ s h. let no : ⊥ = omega (arith, a.over, ap length (after_is e f a), h) in absurd no;
         }
 
-    pub carried-inside : m.ok ≡ true → to + 12 * m.spots ≤ length w₂
-    carried-inside fits = omega (arith, a.few fits, both, lent_is, l.room)
-
     -- they fit, and are laid out
-    module _ (fits : m.ok ≡ true) (k : ℕ) (wide : k ≡ 12 * m.spots) where
-      part-is : spots_from (mid_of to k w₂) 0 m.spots ≡ after
-      part-is = spots-part w₂ to k m.spots (omega arith) ∙ a.fits fits ∙ after_is
+    module _ {spots : ℕ} (a : MergedAt rows n w₁ w₂ live to most (Some spots)) where
+      pub carried-inside : to + 12 * spots ≤ length w₂
+      carried-inside = omega (arith, a.few, both, lent_is e f a, l.room)
 
-      pub carried-segment : rising (keys after) ≡ true → every limited (keys after) ≡ true → Segment (mid_of to k w₂) 0 m.spots
-      carried-segment up inside =
-          record {
-            inside = omega (arith, length-take-le k (drop to w₂) (omega (arith, length-drop to w₂, a.few fits, both, lent_is, l.room)));
-            few = omega (arith, a.few fits, blocks-most (length t) l.sized);
-            rises = ap (λ (x : List Spot). rising (keys x)) part-is ∙ up;
-            limits = limited-spots (mid_of to k w₂) m.spots 0 ∙ ap (λ (x : List Spot). every limited (keys x)) part-is ∙ inside;
-          }
+      module _ (k : ℕ) (wide : k ≡ 12 * spots) where
+        part-is : spots_from (mid_of to k w₂) 0 spots ≡ merged_rows (take n rows) (live_spots t)
+        part-is = spots-part w₂ to k spots (omega arith) ∙ a.fits ∙ after_is e f a
 
-      pub carried-built : {t' : List ℕ} → Rebuilt t' (spots_from (mid_of to k w₂) 0 m.spots) × (length t' ≡ length t) → RowsCarried (take n rows) t t' w w₂ true
-      carried-built {t'} h =
-          record {
-            sized = h.1;
-            lent_length = lent_is;
-            rest = rest-is;
-            kept = λ x. absurd (true≢false x);
-            built = λ x. subst (Rebuilt t') part-is h.0;
-            laid = λ x. sym g.ok ∙ ok;
-            fits = λ s x. refl;
-          }
+        pub carried-segment : rising (keys (merged_rows (take n rows) (live_spots t))) ≡ true → every limited (keys (merged_rows (take n rows) (live_spots t))) ≡ true
+            → Segment (mid_of to k w₂) 0 spots
+        carried-segment up inside =
+            record {
+              inside = omega (arith, length-take-le k (drop to w₂) (omega (arith, length-drop to w₂, a.few, both, lent_is e f a, l.room)));
+              few = omega (arith, a.few, blocks-most (length t) l.sized);
+              rises = ap (λ (x : List Spot). rising (keys x)) part-is ∙ up;
+              limits = limited-spots (mid_of to k w₂) spots 0 ∙ ap (λ (x : List Spot). every limited (keys x)) part-is ∙ inside;
+            }
+
+        pub carried-built : {t' : List ℕ} → Rebuilt t' (spots_from (mid_of to k w₂) 0 spots) × (length t' ≡ length t) → RowsCarried (take n rows) t t' w w₂ true
+        carried-built {t'} h =
+            record {
+              sized = h.1;
+              lent_length = lent_is e f a;
+              rest = rest-is e f a;
+              kept = λ x. absurd (true≢false x);
+              built = λ x. subst (Rebuilt t') part-is h.0;
+              laid = λ x. sym g.ok;
+              fits = λ s x. refl;
+            }

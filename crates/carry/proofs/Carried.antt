@@ -1,22 +1,24 @@
 -- A message carried out: one law for each way that this ends.
 -- Assumes nothing.
 use mathlib.Core.Path.{◌≡◌, refl, ap, sym, subst, ◌∙◌}
-use mathlib.Core.Logic.{◌≢◌, ⊎_elim}
+use mathlib.Core.Logic.{◌⊎◌, inl, inr, ⊎_elim}
 use mathlib.Core.Bool.{Bool, true, false, cond, not, ◌&&◌, ◌||◌, true≢false, false≢true}
 use mathlib.Core.List.{List, [], ◌∷◌}
 use mathlib.Core.Option.{Option, none, some}
 use Prim.Native.Nat.{ℕ, ◌≤◌}
 use native.Mathlib.Omega.{arith}
-use borrow.Author.Tests.{ne_eqb}
+use borrow.Author.Tests.{eqb-true}
 use lib.Dec.{leb, eqb}
 use lib.ListN.{length, take}
 use Rattle.octets.specs.Lists.{has, rising}
+use Rattle.octets.proofs.Tests.{or-either}
 use Rattle.spot.specs.Query.{everything}
 use Rattle.spot.specs.Spots.{keys, find}
 use Rattle.spot.specs.declared.Spot.{Spot}
 use Rattle.spot.proofs.Canon.{find-without}
 use Rattle.block.specs.declared.Answer.{Answer}
-use Rattle.block.specs.Answers.{answer}
+use Rattle.block.specs.declared.Refusal.{Refusal}
+use Rattle.block.specs.Answers.{answer, refused}
 use Rattle.block.specs.Table.{capacity}
 use Rattle.block.specs.Header.{head_of}
 use Rattle.block.specs.HeaderRules.{header_ok}
@@ -32,6 +34,8 @@ use Rattle.message.specs.Changes.{change_key, changes_of}
 use Rattle.message.specs.Messages.{read_message}
 use Rattle.message.specs.Effects.{after_change, after_all, turns_down, applied_answer}
 use Rattle.message.proofs.Effects.{applied-fits}
+use Rattle.std.specs.Prelude.{Ok, Err}
+use Rattle.rows.specs.declared.Row.{Row}
 use Rattle.rows.specs.Rows.{merged_rows}
 use Rattle.rows.proofs.Merged.{merged-after}
 use Rattle.lookup.specs.Answers.{looked_up}
@@ -39,9 +43,7 @@ use Rattle.renew.specs.Layable.{layable}
 use Rattle.renew.proofs.Laying.{laid-few, laid-rises, laid-sound}
 use Rattle.revise.specs.Numbers.{add_number, Full}
 use Rattle.revise.specs.Revising.{Revised}
-use Rattle.revise.proofs.Calls.{two_ways}
 use Rattle.revise.proofs.Counts.{live-are}
-use Rattle.verdict.specs.declared.Ruling.{Ruling}
 use Rattle.verdict.specs.Verdicts.{Tried}
 use Rattle.carry.specs.Carrying.{RowsCarried, Carried, OneCarried, ManyCarried, CarriedOr}
 
@@ -143,13 +145,9 @@ carried-withdraw m t w j {n = n} g =
         go false true c e = refl
         go false false c e = absurd (false≢true e)
 
--- of the numbers 0, 3 and 4
-three-left : (n : ℕ) → has n (0 ∷ 3 ∷ 4 ∷ []) ≡ true → n ≢ 0 → n ≢ 4 → n ≡ 3
-three-left n h z f = ⊎_elim (λ (e : n ≡ 0). absurd (z e)) (λ (e : n ≡ 3). e) (two_ways n (rw (ne_eqb n 4 f) at h))
-
 -- several changes: turned down, or a rule is broken
-pub carried-refused : (m t w : List ℕ) {rows rows' : List (List ℕ)} {v : Ruling} → Tried t m rows rows' v → v.answer.number ≢ 0 → ManyCarried m t t w w v.answer
-carried-refused m t w {v = v} g h =
+pub carried-refused : (m t w : List ℕ) {rows rows' : List Row} {e : Refusal} → Tried t m rows rows' (Err e) → ManyCarried m t t w w (refused e)
+carried-refused m t w {e = e} g =
     record {
       carried =
           record {
@@ -158,36 +156,48 @@ carried-refused m t w {v = v} g h =
             rest = refl;
             kept = λ x. refl;
             untouched = λ x. refl;
-            numbers = g.numbers;
+            numbers = wider (eqb (refused e).number 0) g.numbers;
             detail = g.detail;
             position = g.position;
             answered = g.judged;
             stays_sound = λ s. s;
-            live_after = λ s x. absurd (h x);
+            live_after = λ s x. absurd (none x);
             exact = λ s x. x;
           };
-      broken = λ b. three-left v.answer.number g.numbers h (λ f. true≢false (sym (laid-sound t (g.full f)) ∙ b));
-      anew = λ x. absurd (h x);
+      broken = λ b. three-left (λ f. true≢false (sym (laid-sound t (g.full f)) ∙ b));
+      anew = λ x. absurd (none x);
       full = g.full;
     }
+  where
+    three-or-four : ((refused e).number ≡ 3) ⊎ ((refused e).number ≡ 4)
+    three-or-four =
+        ⊎_elim (λ x. inl (eqb-true (refused e).number 3 x)) (λ m. ⊎_elim (λ x. inr (eqb-true (refused e).number 4 x)) (λ (f : false ≡ true). absurd (false≢true f)) (or-either (eqb (refused e).number 4) false m))
+        (or-either (eqb (refused e).number 3) (has (refused e).number (4 ∷ [])) g.numbers)
+
+    wider : (b : Bool) → has (refused e).number (3 ∷ 4 ∷ []) ≡ true → b || has (refused e).number (3 ∷ 4 ∷ []) ≡ true
+    wider true h = refl
+    wider false h = h
+
+    none : (refused e).number ≡ 0 → ⊥
+    none x = ⊎_elim (λ (y : (refused e).number ≡ 3). omega (arith, y, x)) (λ (y : (refused e).number ≡ 4). omega (arith, y, x)) three-or-four
+
+    three-left : ((refused e).number ≡ 4 → ⊥) → (refused e).number ≡ 3
+    three-left f = ⊎_elim (λ (y : (refused e).number ≡ 3). y) (λ (y : (refused e).number ≡ 4). absurd (f y)) three-or-four
 
 -- or none is: they are carried out, unless a rule is broken
-module _ (m t w : List ℕ) {rows rows' : List (List ℕ)} {v : Ruling} (g : Tried t m rows rows' v) (z : v.answer.number ≡ 0) {t' w' : List ℕ} {b : Bool}
-    (o : RowsCarried (take v.rows rows') t t' w w' b) where
+module _ (m t w : List ℕ) {rows rows' : List Row} {n : ℕ} (g : Tried t m rows rows' (Ok n)) {t' w' : List ℕ} {b : Bool}
+    (o : RowsCarried (take n rows') t t' w w' b) where
   abbrev cs : List Change
   cs = changes_of (read_message m)
 
-  zero_is : v.answer ≡ answer 0 0
-  zero_is i = record { number = z i; detail = g.detail (λ x. omega (arith, z, x)) i }
-
-  same : layable (length t) (walk_table t everything) ≡ true → merged_rows (take v.rows rows') (live_spots t) ≡ after_all cs (live_spots t)
+  same : layable (length t) (walk_table t everything) ≡ true → merged_rows (take n rows') (live_spots t) ≡ after_all cs (live_spots t)
   same h =
-      ap (λ (l : List (List ℕ)). merged_rows l (live_spots t)) (g.lined z).is
+      ap (λ (l : List Row). merged_rows l (live_spots t)) g.lined.is
       ∙ merged-after cs (live_spots t) (sym (ap (λ (l : List Spot). rising (keys l)) (live-walk t)) ∙ laid-rises (length t) (walk_table t everything) h)
 
   few : sound t ≡ true → length (after_all cs (live_spots t)) ≤ capacity (length t)
   few s =
-      applied-fits (length t) 0 cs (live_spots t) (sym (g.judged s) ∙ zero_is)
+      applied-fits (length t) 0 cs (live_spots t) (sym (g.judged s))
       (subst (λ (l : List Spot). length l ≤ capacity (length t)) (live-walk t) (laid-few (length t) (walk_table t everything) (laid-sound t s)))
       (live-rises t s)
 
@@ -232,7 +242,7 @@ module _ (m t w : List ℕ) {rows rows' : List (List ℕ)} {v : Ruling} (g : Tri
               numbers = ap (λ (x : Answer). has x.number (0 ∷ 3 ∷ 4 ∷ [])) a;
               detail = λ x. detail-of a;
               position = λ x. let no : ⊥ = omega (arith, number_of a, x) in absurd no;
-              answered = λ s. a ∙ sym zero_is ∙ g.judged s;
+              answered = λ s. a ∙ g.judged s;
               stays_sound = λ s. rebuilt-sound t' _ built;
               live_after = λ s x k. rebuilt-live t' _ built k ∙ ap (find k) after;
               exact = λ s x. built.bound ∙ sym (ap length (rebuilt-spots t' _ built)) ∙ sym (live-are t');

@@ -12,20 +12,20 @@ use Rattle.block.specs.HeaderRules.{header_ok}
 use Rattle.tree.specs.Lookup.{live}
 use Rattle.tree.specs.Sound.{sound}
 use Rattle.tree.specs.Walk.{walk_table, live_spots, live_count}
-use Rattle.lookup.specs.Answers.{looked_up}
-use Rattle.lookup.specs.declared.Looked.TheVariants.{Broken}
+use Rattle.lookup.specs.Answers.{looked_up, broken}
 use Rattle.renew.specs.Layable.{layable}
 use Rattle.rebuild_theory.specs.Build.{Rebuilt}
 use Rattle.message.specs.declared.Change.{Change}
 use Rattle.message.specs.Changes.{change_key, changes_of}
 use Rattle.message.specs.Messages.{read_message, message_answer}
 use Rattle.message.specs.Effects.{after_all, applied_answer}
+use Rattle.rows.specs.declared.Row.{Row}
 use Rattle.rows.specs.Rows.{merged_rows}
 use Rattle.revise.specs.Numbers.{Full}
 use Rattle.revise.specs.Revising.{Lent}
 
 -- the live spots of t, with the rows carried out, are laid out anew, where they can be; or the table is as it was
-pub record RowsCarried (rows : List (List ℕ)) (t t' w w' : List ℕ) (r : Bool) : Type 0 where
+pub record RowsCarried (rows : List Row) (t t' w w' : List ℕ) (r : Bool) : Type 0 where
   pub sized : length t' ≡ length t
   pub lent_length : length w' ≡ length w
   pub rest : drop (length t) w' ≡ drop (length t) w
@@ -58,7 +58,7 @@ pub record Carried (m t t' w w' : List ℕ) (r : Answer) : Type 0 where
 -- one change, on every table: 3 and 4 as Add and Withdraw have them
 pub record OneCarried (m t t' w w' : List ℕ) (r : Answer) : Type 0 where
   pub carried : Carried m t t' w w' r
-  pub path : (c : Change) → changes_of (read_message m) ≡ c ∷ [] → looked_up t (change_key c) ≡ Broken → r.number ≡ 3
+  pub path : (c : Change) → changes_of (read_message m) ≡ c ∷ [] → looked_up t (change_key c) ≡ broken → r.number ≡ 3
   pub full : (c : Change) → changes_of (read_message m) ≡ c ∷ [] → r.number ≡ 4 → Full t (change_key c)
 
 -- several, on every table: laid out anew only from a walk of everything that can be, and 4 only where the table is sound

@@ -5,15 +5,15 @@ use mathlib.Core.Logic.{◌⊎◌, inl, inr, ⊎_elim}
 use mathlib.Core.Bool.{Bool, true, false, cond, ◌&&◌, ◌||◌, false≢true}
 use mathlib.Core.List.Memᴰ
 use mathlib.Core.List.{List, [], ◌∷◌, Memᴰ}
-use Prim.Native.Nat.{ℕ, zero, suc, ◌+◌, ◌-◌, ◌/◌, ◌≤◌, ◌<◌}
+use Prim.Native.Nat.{ℕ, zero, suc, ◌+◌, ◌-◌, ◌≤◌, ◌<◌}
 use native.Mathlib.Omega.{arith}
 use lib.Dec.{ltb, leb, eqb}
 use borrow.Author.Tests.{leb-true, ltb-true, eqb-true, lt-leb, ne_eqb}
-use Rattle.octets.specs.Lists.{every, up_to}
+use Rattle.octets.specs.Lists.{up_to}
 use Rattle.octets.proofs.Order.{less-or-not}
 use Rattle.octets.proofs.Tests.{all-at, and_left, and_right, or-either, or_left, every-mem}
 use Rattle.octets.proofs.UpTo.{up_to-in, up_to-from}
-use Rattle.spot.specs.Keys.{rank_key, rank_of, word}
+use Rattle.spot.specs.Keys.{rank_key, rank_of}
 use Rattle.spot.specs.Query.{least_of}
 use Rattle.spot.specs.declared.Query.{Query}
 use Rattle.block.specs.Table.{blocks_of}

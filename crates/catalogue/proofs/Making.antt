@@ -1,16 +1,20 @@
 -- The tests of a catalogue and of a block, from those of their parts.
 -- Assumes nothing.
 use mathlib.Core.Path.{◌≡◌, refl, sym, ap, ap₂, ◌∙◌}
-use mathlib.Core.Bool.{Bool, true, false, ◌&&◌, ◌||◌, and-true, and_assoc}
+use mathlib.Core.Bool.{Bool, true, false, ◌&&◌, ◌||◌, and-true, false≢true}
 use mathlib.Core.List.{List, [], ◌∷◌}
-use Prim.Native.Nat.{ℕ, suc, ◌+◌, ◌-◌, ◌*◌, ◌%◌, ◌<◌, ◌≤◌}
+use Prim.Native.Nat.{ℕ, zero, suc, ◌+◌, ◌-◌, ◌*◌, ◌%◌, ◌<◌}
 use native.Mathlib.Numerals.{add-one}
 use native.Mathlib.Omega.{arith}
 use lib.Dec.{leb, ltb, eqb}
-use lib.ListN.{drop}
-use Rattle.octets.specs.Lists.{all, every, rising, up_to}
+use lib.ListN.{length, get_or, drop}
+use Rattle.std.specs.Bool.{MatchBool}
+use Rattle.std.specs.List.{AllWithin, HoldsAt, range_with_len}
+use Rattle.std.proofs.lemmas.List.FromFn.{length-range_with_len, get_or-range_with_len}
+use Rattle.octets.proofs.Tests.{every-mem, refuted}
+use Rattle.octets.proofs.UpTo.{every-up_to, up_to-in}
+use Rattle.octets.specs.Lists.{all, every, records, rising, up_to}
 use Rattle.octets.specs.Bytes.{be}
-use Rattle.octets.proofs.Records.{left, left-all, left-cons, left-none}
 use Rattle.spot.specs.Keys.{word, all_keys, limited, rank_key}
 use Rattle.spot.specs.Query.{least_of}
 use Rattle.spot.specs.Spots.{key_at, keys_from}
@@ -48,22 +52,23 @@ entry-made m b e {s} {p} {l} {h} {x} {y} ps pp pl ph px py =
 
 -- ---- the blocks one after the other
 
-module _ (f : ℕ → Bool) (a m : ℕ) where
-  -- those from a on before b have passed if ok is true; those from b on, before m, are left
-  abbrev pub EachInv : Bool → ℕ → Type 0
-  EachInv ok b = every f (up_to a (m - a)) ≡ ok && every f (up_to b (m - b))
-
-  pub each_next : (ok : Bool) {r : Bool} (b : ℕ) → EachInv ok b → b < m → r ≡ f b → EachInv (ok && r) (b + 1)
-  each_next ok {r} b p h e =
-      let n : m - b ≡ suc (m - (b + 1)) = omega arith in
-      p ∙ ap (λ (k : ℕ). ok && every f (up_to b k)) n
-      ∙ ap₂ (λ (t : Bool) (k : ℕ). ok && (t && every f (up_to k (m - (b + 1))))) (sym e) (sym (add-one b))
-      ∙ sym (and_assoc ok r (every f (up_to (b + 1) (m - (b + 1)))))
-
-  pub each-end : (ok : Bool) (b : ℕ) → EachInv ok b → m ≤ b → ok ≡ every f (up_to a (m - a))
-  each-end ok b p h =
-      let n : m - b ≡ 0 = omega arith in
-      sym (p ∙ ap (λ (k : ℕ). ok && every f (up_to b k)) n ∙ and-true ok)
+-- what `all` says of the n numbers from a on, as the test of each
+pub each-of : (f : ℕ → Bool) (a n : ℕ) (r : Bool)
+    → MatchBool r (AllWithin (λ b. f b ≡ true) (range_with_len a n) 0 (length (range_with_len a n))) ((k : ℕ) × (k < length (range_with_len a n)) × HoldsAt (λ b. f b ≡ false) (range_with_len a n) k)
+    → r ≡ every f (up_to a n)
+each-of f a n true h =
+    sym
+    (every-up_to f a n
+    (λ j low high.
+    let long = length-range_with_len a n in
+    let at : get_or (range_with_len a n) (j - a) 0 ≡ a + (j - a) = get_or-range_with_len a n (j - a) 0 (omega arith) in
+    let same : a + (j - a) ≡ j = omega arith in
+    ap f (sym (at ∙ same)) ∙ h (j - a) 0 (omega arith) (omega (arith, long))))
+each-of f a n false h =
+    let long = length-range_with_len a n in
+    let k = h.0 in
+    let at : get_or (range_with_len a n) k 0 ≡ a + k = get_or-range_with_len a n k 0 (omega (arith, long, h.1)) in
+    sym (refuted (every f (up_to a n)) (λ e. false≢true (sym (h.2 0) ∙ ap f at ∙ every-mem f (up_to a n) e (up_to-in a n (a + k) (omega arith) (omega (arith, long, h.1))))))
 
 -- ---- the entries beside each other
 
@@ -99,32 +104,17 @@ unfolding tile_fine
 tile-made m b e s {rise} {tail} {above} {first} {last} pr pf pl pt pa =
     five rise (eqb first e.low) (eqb last e.high) tail above ∙ rw (pr, pf, pl, pt, pa) refl
 
--- the keys of a block one after the other: those before the i-th have passed if ok is true
-module _ (unmade : Bool) (maker : ℕ) (s : List ℕ) (n : ℕ) where
-  abbrev over : ℕ → Bool
-  over k = unmade || ltb maker (rank_key k)
+-- the test of each key of a block by its place
+each-key : (g : ℕ → Bool) (s : List ℕ) (n i : ℕ) → every g (records (key_at s) 12 n (12 * i)) ≡ every (λ j. g (key_at s (12 * j))) (up_to i n)
+each-key g s zero i = refl
+each-key g s (suc n) i =
+    let e : 12 * i + 12 ≡ 12 * suc i = omega arith in
+    ap (λ (a : ℕ). g (key_at s (12 * i)) && every g (records (key_at s) 12 n a)) e ∙ ap (λ (b : Bool). g (key_at s (12 * i)) && b) (each-key g s n (suc i))
 
-  abbrev pub AboveInv : Bool → ℕ → Type 0
-  AboveInv ok i = every over (keys_from s 12 n 0) ≡ ok && every over (left (key_at s) 12 n 0 i)
-
-  pub above-start : AboveInv true 0
-  above-start = ap (every over) (left-all (key_at s) 12 n 0)
-
-  pub above-next : (ok : Bool) (i : ℕ) {k r : ℕ} → AboveInv ok i → i < n → k ≡ key_at s (12 * i) → r ≡ rank_key k → AboveInv (ok && (unmade || ltb maker r)) (i + 1)
-  above-next ok i {k} {r} v h e f =
-      let rest : Bool = every over (left (key_at s) 12 n 0 (i + 1)) in
-      let z : 0 + 12 * i ≡ 12 * i = omega arith in
-      v ∙ ap (λ (l : List ℕ). ok && every over l) (left-cons (key_at s) 12 n 0 i h)
-      ∙ ap (λ (x : ℕ). ok && ((unmade || ltb maker x) && rest)) (ap (λ (x : ℕ). rank_key (key_at s x)) z ∙ ap rank_key (sym e) ∙ sym f)
-      ∙ sym (and_assoc ok (unmade || ltb maker r) rest)
-
-pub above-end : (m b : ℕ) (e : Entry) (maker : ℕ) (s : List ℕ) (ok : Bool) (i : ℕ) → AboveInv (leb b (places_of m)) maker s e.size ok i → e.size ≤ i → maker ≡ rank_key e.made
-    → ok ≡ every (above_maker m b e) (keys_from s 12 e.size 0)
+pub above-each : (m b : ℕ) (e : Entry) (s : List ℕ)
+    → every (λ i. leb b (places_of m) || ltb (rank_key e.made) (rank_key (key_at s (12 * i)))) (up_to 0 e.size) ≡ every (above_maker m b e) (keys_from s 12 e.size 0)
 unfolding above_maker
-above-end m b e maker s ok i v h p =
-    let test : ℕ → ℕ → Bool = λ r k. leb b (places_of m) || ltb r (rank_key k) in
-    sym (v ∙ ap (λ (l : List ℕ). ok && every (test maker) l) (left-none (key_at s) 12 e.size 0 i h) ∙ and-true ok)
-    ∙ ap (λ (r : ℕ). every (test r) (keys_from s 12 e.size 0)) p
+above-each m b e s = sym (each-key (λ k. leb b (places_of m) || ltb (rank_key e.made) (rank_key k)) s e.size 0)
 
 -- ---- a block that stands
 

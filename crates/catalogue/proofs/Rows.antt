@@ -2,17 +2,18 @@
 -- Assumes nothing.
 use mathlib.Core.Path.{◌≡◌, refl, sym, ap, ap₂, subst, ◌∙◌}
 use mathlib.Core.Logic.{⊎_elim}
-use mathlib.Core.Bool.{Bool, true, false, cond, ◌&&◌, false≢true}
+use mathlib.Core.Bool.{Bool, true, false, cond, ◌&&◌}
 use mathlib.Core.List.{List, [], ◌∷◌, ◌++◌}
 use Prim.Native.Nat.{ℕ, zero, suc, ◌+◌, ◌-◌, ◌≤◌, ◌<◌}
 use native.Mathlib.Nat.{le_of_suc-le-suc, not-suc-le-zero}
 use native.Mathlib.Numerals.{add-one}
 use native.Mathlib.Omega.{arith}
-use lib.ListN.{length, take, drop, get_or, set, length-set, length-drop}
-use lib.Seq.{take-take, get_or-take, get_or-set_same, get_or-set_other, length-take-le, append_snoc}
+use lib.ListN.{length, take, drop, get_or, length-drop, get_or-append}
+use lib.Seq.{take-take, get_or-take, length-take-le, get_or-append_right, get_or-drop}
 use Rattle.octets.specs.Lists.{up_to}
 use Rattle.octets.proofs.Order.{same_or_not, less-or-not}
-use Rattle.octets.proofs.Lists.{take-push, drop-next, over-all}
+use Rattle.octets.proofs.Lists.{drop-next}
+use Rattle.plan.specs.Plans.{closed_up}
 use Rattle.catalogue.specs.declared.Entry.{Entry}
 use Rattle.catalogue.specs.declared.Row.{Row}
 use Rattle.catalogue.specs.Catalogue.{ended_both, fused_fine, joins_from, joins, joined_from, joined_row, joins_all}
@@ -139,16 +140,13 @@ held-length r f = length-take-le r.n r.blocks (omega (arith, f.few, f.room))
 pub held_at : (r : Row) (i : ℕ) → i < r.n → get_or (held r) i 0 ≡ get_or r.blocks i 0
 held_at r i h = get_or-take r.n r.blocks i 0 h
 
--- where the pair of block b stands at i
-module _ (e : ℕ → Entry) (b : ℕ) (r : Row) (f : RowFits r) (i : ℕ) (at : i ≡ pair_at e (e b).made (held r)) where
-  pub joins-short : r.n ≤ i + 1 → joins e b (held r) ≡ false
+module _ (e : ℕ → Entry) (b : ℕ) (r : Row) (f : RowFits r) where
+  -- no two side by side
+  pub joins-short : r.n ≤ pair_at e (e b).made (held r) + 1 → joins e b (held r) ≡ false
   joins-short h = joins-none e b (held r) (omega (arith, held-length r f))
 
-  pub joins-inside : joins e b (held r) ≡ true → i + 1 < r.n
-  joins-inside t =
-      ⊎_elim (λ (h : r.n ≤ i + 1). absurd (false≢true (sym (joins-short h) ∙ t))) (λ (h : i + 1 < r.n). h) (less-or-not r.n (i + 1))
-
-  module _ (h : i + 1 < r.n) where
+  -- where the pair of block b stands at i
+  module _ (i : ℕ) (at : i ≡ pair_at e (e b).made (held r)) (h : i + 1 < r.n) where
     inside : pair_at e (e b).made (held r) + 1 < length (held r)
     inside = omega (arith, held-length r f)
 
@@ -178,56 +176,39 @@ pub first-held : (l : ℕ) → l ≤ 8 → RowFits (record { n = l; blocks = up_
 first-held l h =
     (record { few = h; room = refl; each = λ i k. (omega (arith, at-up_to 1 8 i (omega arith)), omega (arith, at-up_to 1 8 i (omega arith))) }, take-up_to 1 l 8 h)
 
--- ---- two blocks give way to one: the first is stored, those behind the second move up one after the other
+-- ---- two blocks give way to one
 
-pub record Closing (row : Row) (i b j : ℕ) (ys : List ℕ) : Type 0 where
-  pub inside : j + 1 ≤ row.n
-  pub room : length ys ≡ 8
-  pub each : (k : ℕ) → k < row.n → Numbered (get_or ys k 0)
-  pub whole : take j ys ++ drop (j + 1) (held row) ≡ take i (held row) ++ (b ∷ drop (suc (suc i)) (held row))
+module _ (row : Row) (i b : ℕ) (f : RowFits row) (h : i + 1 < row.n) (m : Numbered b) (ys : List ℕ) (e : take (row.n - 1) ys ≡ closed_up row.blocks i row.n b) where
+  front-long : length (take i row.blocks) ≡ i
+  front-long = length-take-le i row.blocks (omega (arith, f.few, f.room))
 
-stored : (ys : List ℕ) (n j x : ℕ) → j < length ys → ((k : ℕ) → k < n → Numbered (get_or ys k 0)) → Numbered x
-    → (k : ℕ) → k < n → Numbered (get_or (set ys j x) k 0)
-stored ys n j x h p q k l =
-    ⊎_elim (λ (s : k ≡ j). subst Numbered (sym (ap (λ (z : ℕ). get_or (set ys j x) z 0) s ∙ get_or-set_same ys j x 0 h)) q)
-    (λ (s : k ≡ j → ⊥). subst Numbered (sym (get_or-set_other ys j k x 0 s)) (p k l))
-    (same_or_not k j)
+  at-closed : (k : ℕ) → k < row.n - 1 → get_or ys k 0 ≡ get_or (closed_up row.blocks i row.n b) k 0
+  at-closed k l = sym (get_or-take (row.n - 1) ys k 0 l) ∙ ap (λ (z : List ℕ). get_or z k 0) e
 
-module _ (row : Row) (i b : ℕ) (f : RowFits row) where
-  pub closing-start : i + 1 < row.n → Numbered b → Closing row i b (i + 1) (set row.blocks i b)
-  closing-start h m =
-      let long : i < length row.blocks = omega (arith, f.few, f.room) in
-      let two : i + 1 + 1 ≡ suc (suc i) = omega arith in
-      record {
-        inside = omega arith;
-        room = simp length-set f.room;
-        each = stored row.blocks row.n i b long f.each m;
-        whole =
-            ap₂ (λ (l : List ℕ) (k : ℕ). l ++ drop k (held row)) (take-push row.blocks i b long) two
-            ∙ append_snoc (take i row.blocks) b (drop (suc (suc i)) (held row))
-            ∙ ap (λ (l : List ℕ). l ++ (b ∷ drop (suc (suc i)) (held row))) (sym (take-take i row.n row.blocks (omega arith)));
-      }
+  before : (k : ℕ) → k < row.n - 1 → k < i → Numbered (get_or ys k 0)
+  before k l a =
+      subst Numbered (sym (at-closed k l ∙ get_or-append (take i row.blocks) _ 0 k (omega (arith, front-long)) ∙ get_or-take i row.blocks k 0 a)) (f.each k (omega arith))
 
-  module _ {j : ℕ} {ys : List ℕ} (c : Closing row i b j ys) where
-    pub closing-turn : j + 1 < row.n → Closing row i b (j + 1) (set ys j (get_or row.blocks (j + 1) 0))
-    closing-turn h =
-        let x = get_or row.blocks (j + 1) 0 in
-        let next : drop (j + 1) (held row) ≡ x ∷ drop (j + 1 + 1) (held row) =
-        drop-next (held row) (j + 1) 0 (omega (arith, held-length row f)) ∙ ap (λ (y : ℕ). y ∷ drop (j + 1 + 1) (held row)) (held_at row (j + 1) h)
-        in
-        let long : j < length ys = omega (arith, f.few, c.room) in
-        record {
-          inside = omega arith;
-          room = simp length-set c.room;
-          each = stored ys row.n j x long c.each (f.each (j + 1) h);
-          whole =
-              ap (λ (l : List ℕ). l ++ drop (j + 1 + 1) (held row)) (take-push ys j x long)
-              ∙ append_snoc (take j ys) x (drop (j + 1 + 1) (held row)) ∙ ap (λ (l : List ℕ). take j ys ++ l) (sym next) ∙ c.whole;
-        }
+  from-here : (k j : ℕ) → k < row.n - 1 → k ≡ i + j → get_or ys k 0 ≡ get_or (b ∷ drop (i + 2) (held row)) j 0
+  from-here k j l a =
+      let d : k - length (take i row.blocks) ≡ j = omega (arith, front-long) in
+      at-closed k l ∙ get_or-append_right (take i row.blocks) _ k 0 (omega (arith, front-long)) ∙ ap (λ (z : ℕ). get_or (b ∷ drop (i + 2) (held row)) z 0) d
 
-    pub closing_end : row.n ≤ j + 1 → RowFits (record { n = row.n - 1; blocks = ys }) × (take (row.n - 1) ys ≡ take i (held row) ++ (b ∷ drop (suc (suc i)) (held row)))
-    closing_end h =
-        let m : row.n - 1 ≡ j = omega (arith, c.inside) in (
-          record { few = omega (arith, f.few); room = c.room; each = λ k l. c.each k (omega arith) },
-          ap (λ (k : ℕ). take k ys) m ∙ sym (over-all (take j ys) (held row) (j + 1) (omega (arith, held-length row f))) ∙ c.whole,
-        )
+  behind : (k j : ℕ) → k < row.n - 1 → k ≡ i + suc j → Numbered (get_or ys k 0)
+  behind k j l a =
+      subst Numbered (sym (from-here k (suc j) l a ∙ get_or-drop (i + 2) (held row) j 0 ∙ held_at row (i + 2 + j) (omega arith))) (f.each (i + 2 + j) (omega arith))
+
+  each-closed : (k : ℕ) → k < row.n - 1 → Numbered (get_or ys k 0)
+  each-closed k l =
+      ⊎_elim
+      (λ (a : k ≤ i).
+      ⊎_elim (λ (s : k ≡ i). subst Numbered (sym (from-here k 0 l (omega arith))) m) (λ (s : k ≡ i → ⊥). before k l (omega arith)) (same_or_not k i))
+      (λ (a : i < k). behind k (k - i - 1) l (omega arith))
+      (less-or-not k i)
+
+  pub joined-fits : length ys ≡ 8 → RowFits (record { n = row.n - 1; blocks = ys }) × (take (row.n - 1) ys ≡ take i (held row) ++ (b ∷ drop (suc (suc i)) (held row)))
+  joined-fits long =
+      let two : i + 2 ≡ suc (suc i) = omega arith in (
+        record { few = omega (arith, f.few); room = long; each = each-closed },
+        e ∙ ap₂ (λ (l : List ℕ) (k : ℕ). l ++ (b ∷ drop k (held row))) (sym (take-take i row.n row.blocks (omega arith))) two,
+      )

@@ -1,7 +1,7 @@
 // The catalogue of a pressed tour and its blocks: what they hold, whether they keep their layout, and which of them a Report reads.
 #![tactic(auto)]
 
-ghost use Rattle.std.specs.Prelude.{◌≡◌, true, ◌∷◌, ◌++◌, suc, ◌+◌, ◌*◌, ◌-◌, ◌≤◌, ◌<◌, length, take, drop, eqb};
+ghost use Rattle.std.specs.Prelude.{◌≡◌, true, ◌∷◌, ◌++◌, suc, ◌+◌, ◌*◌, ◌-◌, ◌≤◌, ◌<◌, MatchOption, length, take, drop, eqb};
 ghost use Rattle.octets.specs.Lists.{every, up_to};
 ghost use Rattle.spot.specs.Keys.{limited};
 ghost use Rattle.spot.specs.Spots.{keys_from};
@@ -9,9 +9,6 @@ ghost use Rattle.sweep.specs.Report.{meets_span};
 ghost use Rattle.catalogue.specs.Catalogue.{tour_sized, tile_entry_at, size_fine, span_fine, made_fine, ended_fine, tile_entry_fine, apart, makers_rise, in_spans, ended_both, fused_fine, joins, joins_all, entries_agree, catalogue_fine, above_maker, tile_fine, stands, asks};
 ghost use Rattle.catalogue.specs.Rows.{Numbered, held, pair_at, RowFits};
 ghost use Rattle.catalogue.specs.Reading.{Listed, LimitedEntry};
-
-// Zero in its eight bytes: stands where no passing made or ended a block. It is also the key of place 0 and rank 0: the block's position decides.
-const NO_KEY: u64 = 9223372039002259456;
 
 // What the catalogue says of a block: its number of spots, the lowest and the highest key, and the keys whose passing made and ended it.
 #[derive(Clone, Copy)]
@@ -24,6 +21,7 @@ pub struct Entry {
 }
 
 // The blocks that stand, from left to right.
+// Stays: memory of a fixed size, with the number of entries beside it, since there is no heap.
 #[derive(Clone, Copy)]
 struct Row {
     n: usize,
@@ -73,7 +71,7 @@ fn made_ok(m: usize, b: usize, k: u64) -> bool
     ensures { result ≡ made_fine m b k }
 {
     if b <= m / 2 {
-        return k == NO_KEY;
+        return k == plan::NO_KEY;
     }
     limited_key(k)
 }
@@ -93,7 +91,7 @@ fn ended_ok(m: usize, b: usize, k: u64) -> bool
     ensures { result ≡ ended_fine m b k }
 {
     if is_last(m, b) {
-        return k == NO_KEY;
+        return k == plan::NO_KEY;
     }
     limited_key(k)
 }
@@ -124,13 +122,7 @@ fn entries_ok(s: &[u8], m: usize) -> bool
     requires { (1 ≤ m) × (m ≤ 16) × (length s.now ≡ 2048) }
     ensures { result ≡ every (λ b. tile_entry_fine m b (tile_entry_at s.now b)) (up_to 1 (m - 1)) }
 {
-    let mut ok = true;
-    let mut b = 1;
-    while b < m {
-        ok = ok & entry_ok(m, b, entry_at(s, b));
-        b += 1;
-    }
-    ok
+    (1..m).all(|b| entry_ok(m, b, entry_at(s, b)))
 }
 
 // ---- what the entries show of each other
@@ -148,13 +140,7 @@ fn apart_all(s: &[u8], l: usize) -> bool
     requires { (l ≤ 8) × (length s.now ≡ 2048) }
     ensures { result ≡ every (apart (tile_entry_at s.now)) (up_to 1 (l - 1)) }
 {
-    let mut ok = true;
-    let mut b = 1;
-    while b < l {
-        ok = ok & apart(s, b);
-        b += 1;
-    }
-    ok
+    (1..l).all(|b| apart(s, b))
 }
 
 // The passing that made block b came before the one that made the next.
@@ -170,13 +156,7 @@ fn makers_rise_all(s: &[u8], l: usize, m: usize) -> bool
     requires { (m ≤ 16) × (l ≤ 8) × (length s.now ≡ 2048) }
     ensures { result ≡ every (makers_rise (tile_entry_at s.now)) (up_to (suc l) (m - l - 2)) }
 {
-    let mut ok = true;
-    let mut b = l + 1;
-    while b + 1 < m {
-        ok = ok & makers_rise(s, b);
-        b += 1;
-    }
-    ok
+    (l + 1..m.saturating_sub(1)).all(|b| makers_rise(s, b))
 }
 
 // The key lies in the span of x or of y.
@@ -205,32 +185,27 @@ fn ended_both(p: u64, x: Entry, y: Entry) -> bool
     (x.ended == p) & (y.ended == p)
 }
 
-// The place of the first of two side by side that the passing of p ended; of the last block if there are none.
-fn pair_at(s: &[u8], row: Row, p: u64) -> usize
+// The place of the first of two side by side that the passing of p ended.
+fn pair_at(s: &[u8], row: Row, p: u64) -> Option<usize>
     requires { RowFits row × (length s.now ≡ 2048) }
-    ensures { (result ≡ pair_at (tile_entry_at s.now) p (held row)) × (result ≤ 8) }
+    ensures { MatchOption result (row.n ≤ pair_at (tile_entry_at s.now) p (held row) + 1) (λ i. (i ≡ pair_at (tile_entry_at s.now) p (held row)) × (i + 1 < row.n)) }
 {
-    let n = row.n;
-    let mut i = 0;
-    while i + 1 < n {
+    let pairs = row.n.saturating_sub(1);
+    for i in 0..pairs {
         let x = entry_at(s, row.blocks[i]);
         let y = entry_at(s, row.blocks[i + 1]);
         if ended_both(p, x, y) {
-            return i;
+            return Some(i);
         }
-        i += 1;
     }
-    i
+    None
 }
 
 // Block b fits the two that its maker ended, the first of which stands at i.
 fn joins(s: &[u8], row: Row, i: usize, b: usize) -> bool
-    requires { RowFits row × Numbered b × (length s.now ≡ 2048) × (i ≤ 8) × (i ≡ pair_at (tile_entry_at s.now) (tile_entry_at s.now b).made (held row)) }
+    requires { RowFits row × Numbered b × (length s.now ≡ 2048) × (i + 1 < row.n) × (i ≡ pair_at (tile_entry_at s.now) (tile_entry_at s.now b).made (held row)) }
     ensures { result ≡ joins (tile_entry_at s.now) b (held row) }
 {
-    if row.n <= i + 1 {
-        return false;
-    }
     let x = entry_at(s, row.blocks[i]);
     let y = entry_at(s, row.blocks[i + 1]);
     fused_ok(entry_at(s, b), x, y)
@@ -241,16 +216,10 @@ fn joined(row: Row, i: usize, b: usize) -> Row
     requires { RowFits row × (i + 1 < row.n) × Numbered b }
     ensures { RowFits result × (held result ≡ take i (held row) ++ (b ∷ drop (suc (suc i)) (held row))) }
 {
-    let n = row.n;
-    let mut next = row;
-    next.blocks[i] = b;
-    let mut j = i + 1;
-    while j + 1 < n {
-        next.blocks[j] = row.blocks[j + 1];
-        j += 1;
+    Row {
+        n: row.n - 1,
+        blocks: plan::closed(row.blocks, i, row.n, b),
     }
-    next.n = n - 1;
-    next
 }
 
 // The first l blocks.
@@ -270,14 +239,14 @@ fn joins_all(s: &[u8], l: usize, m: usize) -> bool
     ensures { result ≡ joins_all (tile_entry_at s.now) (up_to (suc l) (m - l - 1)) (up_to 1 l) }
 {
     let mut row = first_row(l);
-    let mut b = l + 1;
-    while b < m {
-        let i = pair_at(s, row, entry_at(s, b).made);
+    for b in l + 1..m {
+        let Some(i) = pair_at(s, row, entry_at(s, b).made) else {
+            return false;
+        };
         if !joins(s, row, i, b) {
             return false;
         }
         row = joined(row, i, b);
-        b += 1;
     }
     true
 }
@@ -326,16 +295,9 @@ fn above_maker(s: &[u8], m: usize, b: usize, e: Entry) -> bool
     requires { (e.size ≤ 64) × (length s.now ≡ 2048) }
     ensures { result ≡ every (above_maker m b e) (keys_from s.now 12 e.size 0) }
 {
-    let n = e.size;
     let unmade = b <= m / 2;
     let maker = spot::rank_key(e.made);
-    let mut ok = true;
-    let mut i = 0;
-    while i < n {
-        ok = ok & (unmade | (maker < spot::rank_key(spot::raw_key(s, 12 * i))));
-        i += 1;
-    }
-    ok
+    (0..e.size).all(|i| unmade | (maker < spot::rank_key(spot::raw_key(s, 12 * i))))
 }
 
 // The bytes of block b of m, which the entry e leads to.

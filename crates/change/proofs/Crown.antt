@@ -36,9 +36,9 @@ use Rattle.node.proofs.Laws.{stored-else}
 use Rattle.edit.specs.Edits.{held_in}
 use Rattle.journal.specs.Journal.{Undoable}
 use Rattle.fill.proofs.Works.{work-stores}
-use Rattle.fill.specs.Filling.{Workable, FillPost, FilledBy}
-use Rattle.fill.specs.declared.Filled.{Filled}
-use Rattle.change.specs.Growing.{Rooted, Over, OverSound}
+use Rattle.fill.specs.Filling.{Workable, FillDone, FillFailed, FilledBy}
+use Rattle.fill.specs.declared.Failure.{Failure}
+use Rattle.change.specs.Growing.{Rooted, Over, OverSound, CrownFailed}
 
 -- one of two
 either : (e first second : Entry) → Memᴰ e (first ∷ second ∷ []) → (e ≡ first) ⊎ (e ≡ second)
@@ -71,43 +71,45 @@ module _ {level : ℕ} {first second : Entry} {n : NodeValue} (o : Over level fi
         deletes = omega (arith, o.deletes);
       }
 
-  module _ {t t₁ s₁ map₁ : List ℕ} {r : Filled} (p : FillPost t t₁ s₁ map₁ level n r) (zero : first.low ≡ 0) where
-    first-zero : zero_first (lows (entries_of n.entries)) ≡ true
-    first-zero = ap zero_first lows-are ∙ eq-eqb first.low 0 zero
+  first-zero : first.low ≡ 0 → zero_first (lows (entries_of n.entries)) ≡ true
+  first-zero zero = ap zero_first lows-are ∙ eq-eqb first.low 0 zero
 
+  abbrev above : ℕ
+  above = suc (rank_key first.top + rank_key second.top)
+
+  -- over sound parts it stands open
+  crown-open : (t : List ℕ) → OverSound t first second level (λ f. Open level (store_of t) start_key end_key above (entries_of n.entries) (held_in n) f)
+  crown-open t f low high kids finds =
+      subst⁻¹ (λ (ds : List Entry). Open level (store_of t) start_key end_key above ds (held_in n) f) o.entries
+      (subst⁻¹ (λ (h : Held). Open level (store_of t) start_key end_key above (first ∷ second ∷ []) h f) o.holds
+      (raise level (store_of t) start_key end_key above first (second ∷ []) f kids (omega arith, (omega arith, tt)) finds
+      (λ d i.
+      ⊎_elim (λ (q : d ≡ first). let z : rank_key d.top ≡ rank_key first.top = ap (λ (x : Entry). rank_key x.top) q in omega arith)
+      (λ (q : d ≡ second). let z : rank_key d.top ≡ rank_key second.top = ap (λ (x : Entry). rank_key x.top) q in omega arith)
+      (either d first second i))))
+
+  -- it could not be filled
+  pub crown-fails : {t t₁ s₁ map₁ : List ℕ} {e : Failure} → first.low ≡ 0 → FillFailed t t₁ s₁ map₁ level n e → CrownFailed t first second level e
+  crown-fails {t} zero p =
+      record { whole = λ f low high kids finds. p.whole start_key end_key above f legal-whole (first-zero zero) (crown-open t f low high kids finds) }
+
+  module _ {t t₁ s₁ map₁ : List ℕ} {r : NodeValue} (p : FillDone t t₁ s₁ map₁ level n r) (zero : first.low ≡ 0) where
     -- and then stored
-    pub crown-stores : Storable r.node
-    crown-stores = work-stores p.works (ap zero_first p.same_lows ∙ first-zero) (omega (arith, p.inserts, o.inserts)) (omega (arith, p.deletes, o.deletes))
+    pub crown-stores : Storable r
+    crown-stores = work-stores p.works (ap zero_first p.same_lows ∙ first-zero zero) (omega (arith, p.inserts, o.inserts)) (omega (arith, p.deletes, o.deletes))
 
-    abbrev above : ℕ
-    above = suc (rank_key first.top + rank_key second.top)
-
-    -- over sound parts it stands open
-    crown-open : OverSound t first second level (λ f. Open level (store_of t) start_key end_key above (entries_of n.entries) (held_in n) f)
-    crown-open f low high kids finds =
-        subst⁻¹ (λ (ds : List Entry). Open level (store_of t) start_key end_key above ds (held_in n) f) o.entries
-        (subst⁻¹ (λ (h : Held). Open level (store_of t) start_key end_key above (first ∷ second ∷ []) h f) o.holds
-        (raise level (store_of t) start_key end_key above first (second ∷ []) f kids (omega arith, (omega arith, tt)) finds
-        (λ d i.
-        ⊎_elim (λ (q : d ≡ first). let z : rank_key d.top ≡ rank_key first.top = ap (λ (x : Entry). rank_key x.top) q in omega arith)
-        (λ (q : d ≡ second). let z : rank_key d.top ≡ rank_key second.top = ap (λ (x : Entry). rank_key x.top) q in omega arith)
-        (either d first second i))))
-
-    pub crown-whole : OverSound t first second level (λ f. r.broken ≡ false)
-    crown-whole f low high kids finds = p.whole start_key end_key above f legal-whole first-zero (crown-open f low high kids finds)
-
-    module _ (ok : r.ok ≡ true) (inner : 1 ≤ level) (t₂ : List ℕ) (b : ℕ) (st : Stored t₁ t₂ b r.node) (f : ℕ → Option ℕ) (low : start_key < second.low) (high : second.low < end_key)
+    module _ (inner : 1 ≤ level) (t₂ : List ℕ) (b : ℕ) (st : Stored t₁ t₂ b r) (f : ℕ → Option ℕ) (low : start_key < second.low) (high : second.low < end_key)
         (kids : Sound level (store_of t) (parts start_key end_key (first ∷ second ∷ [])))
         (finds : (k : ℕ) → within start_key end_key k ≡ true → under level (store_of t) start_key end_key (first ∷ second ∷ []) k ≡ f k)
         (off : Memᴰ b (reaches level (store_of t) (parts start_key end_key (first ∷ second ∷ []))) → ⊥) where
       abbrev m : Node
-      m = node_in (blocks_of (length t₁)) r.node
+      m = node_in (blocks_of (length t₁)) r
 
       abbrev es : List Entry
-      es = entries_of r.node.entries
+      es = entries_of r.entries
 
-      filled_is : FilledBy (store_of t) (store_of t₁) level n r.node start_key end_key f
-      filled_is = p.done ok start_key end_key above f legal-whole first-zero (crown-open f low high kids finds)
+      filled_is : FilledBy (store_of t) (store_of t₁) level n r start_key end_key f
+      filled_is = p.done start_key end_key above f legal-whole (first-zero zero) (crown-open t f low high kids finds)
 
       lows-then : lows es ≡ first.low ∷ second.low ∷ []
       lows-then = p.same_lows ∙ lows-are
@@ -115,14 +117,14 @@ module _ {level : ℕ} {first second : Entry} {n : NodeValue} (o : Over level fi
       two : length es ≡ 2
       two = sym (length-lows es) ∙ ap length lows-then
 
-      deep : eqb r.node.level 0 ≡ false
-      deep = ne_eqb r.node.level 0 (λ e. let z = p.works.level in omega arith)
+      deep : eqb r.level 0 ≡ false
+      deep = ne_eqb r.level 0 (λ e. let z = p.works.level in omega arith)
 
-      sizes : FilledUp es (held_in r.node) → (filled m || lowest m) ≡ true
+      sizes : FilledUp es (held_in r) → (filled m || lowest m) ≡ true
       sizes (inl h) =
-          let np = length-take r.node.points.n r.node.points.spots in
-          let ni = length-take r.node.inserts.n r.node.inserts.spots in
-          let nd = length-take r.node.deletes.n r.node.deletes.keys in
+          let np = length-take r.points.n r.points.spots in
+          let ni = length-take r.inserts.n r.inserts.spots in
+          let nd = length-take r.deletes.n r.deletes.keys in
           sizes-filled m h (omega (arith, np, p.works.points)) (omega (arith, ni, p.inserts, o.inserts)) (omega (arith, nd, p.deletes, o.deletes))
       sizes (inr h) = sizes-lowest m h.0 h.1 h.2 h.3
 
@@ -131,9 +133,9 @@ module _ {level : ℕ} {first second : Entry} {n : NodeValue} (o : Over level fi
       shape =
           record {
             laid = refl;
-            level = eq-eqb r.node.level level p.works.level;
+            level = eq-eqb r.level level p.works.level;
             count = rw deep (all_cons _ _ (le-leb 2 (length es) (omega (arith, two))) (all_cons _ _ (le-leb (length es) 8 (omega (arith, two))) all_nil));
-            lows_up = all_cons _ _ (ap zero_first p.same_lows ∙ first-zero) (all_cons _ _ (ap (λ (l : List ℕ). rising (rest l)) lows-then ∙ and_both (leb 0 second.low) true (le-leb 0 second.low (omega arith)) refl) all_nil);
+            lows_up = all_cons _ _ (ap zero_first p.same_lows ∙ first-zero zero) (all_cons _ _ (ap (λ (l : List ℕ). rising (rest l)) lows-then ∙ and_both (leb 0 second.low) true (le-leb 0 second.low (omega arith)) refl) all_nil);
             lows_in = ap (λ (l : List ℕ). every (within start_key end_key) (rest l)) lows-then ∙ and_both (within start_key end_key second.low) true (within-yes start_key end_key second.low (omega arith) high) refl;
             sizes = sizes filled_is.full;
             leaf = rw deep;
@@ -159,4 +161,4 @@ module _ {level : ℕ} {first second : Entry} {n : NodeValue} (o : Over level fi
               (under level (store_of t₁) start_key end_key es) (Taken [] [])
               (λ z (e : z ≡ b) i. off_n (subst (λ (k : ℕ). Memᴰ k (reaches level (store_of t) (parts start_key end_key (entries_of n.entries)))) e i))
               (λ z i. absurd (Memᴰ.not-nil i.0)) (λ z e. inr e) refl (λ i. Memᴰ.not-nil i.0)
-              filled_is.loop.going.changed filled_is.loop.going.node shape st.here (stored-else t₁ t₂ b r.node st)
+              filled_is.loop.going.changed filled_is.loop.going.node shape st.here (stored-else t₁ t₂ b r st)

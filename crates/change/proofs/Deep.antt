@@ -2,8 +2,9 @@
 -- Assumes nothing.
 use mathlib.Core.Path.{◌≡◌, refl, ap, sym, ◌∙◌, subst, subst⁻¹}
 use mathlib.Core.Logic.{inl, inr, ⊎_elim}
-use mathlib.Core.Bool.{Bool, true, false, true≢false, false≢true}
+use mathlib.Core.Bool.{true, false≢true}
 use mathlib.Core.List.{List, Memᴰ}
+use Rattle.std.specs.Prelude.{Ok, Err}
 use Prim.Native.Nat.{ℕ, ◌+◌, ◌*◌, ◌≤◌, ◌<◌}
 use native.Mathlib.Omega.{arith}
 use lib.ListN.{length, replicate, length-replicate}
@@ -27,10 +28,9 @@ use Rattle.spare.specs.Spares.{taken_of, SpareIn, Reheaded}
 use Rattle.spare.proofs.Taking.{taken-spare}
 use Rattle.settle.specs.Settling.{Settleable}
 use Rattle.change.specs.declared.Grown.{Grown}
-use Rattle.change.specs.declared.Outcome.{Outcome}
-use Rattle.change.specs.declared.Outcome.TheVariants.{Done, Broken}
-use Rattle.change.specs.Changing.{refusal, ChangedBy}
-use Rattle.change.specs.Growing.{GrowPost, Finishable, HeavyAt}
+use Rattle.fill.specs.declared.Failure.{Failure}
+use Rattle.change.specs.Changing.{ChangedBy}
+use Rattle.change.specs.Growing.{GrowDone, GrowFailed, Finishable, HeavyAt}
 use Rattle.change.proofs.After.{root-sound, root-apart, change-shaped, change-live}
 use Rattle.settle.proofs.Ways.{spares-kept}
 
@@ -44,18 +44,6 @@ module _ (t : List ℕ) (h : header_ok (length t) (head_of t) ≡ true) where
 
   pub nine-blocks : 18432 ≤ length t
   nine-blocks = sized-least (length t) sizes
-
--- the answers are apart
-pub done-whole : Done ≡ Broken → ⊥
-done-whole e = let z : ◌≡◌ {A = ℕ} 0 1 = cc in omega arith
-
-refusal-not : (broken : Bool) → refusal broken ≡ Done → ⊥
-refusal-not true e = let z : ◌≡◌ {A = ℕ} 0 1 = cc in omega arith
-refusal-not false e = let z : ◌≡◌ {A = ℕ} 0 1 = cc in omega arith
-
-refusal-whole : (broken : Bool) → broken ≡ false → refusal broken ≡ Broken → ⊥
-refusal-whole true h e = true≢false h
-refusal-whole false h e = let z : ◌≡◌ {A = ℕ} 0 1 = cc in omega arith
 
 module _ {t w : List ℕ} {root level ni nd bound : ℕ} (a : HeavyAt t w root level ni nd bound) where
   ok : header_ok (length t) (head_of t) ≡ true
@@ -89,20 +77,20 @@ module _ {t w : List ℕ} {root level ni nd bound : ℕ} (a : HeavyAt t w root l
       both = kept_trans saved kept
 
       -- not as it should be
-      pub heavy-undone : {t₃ : List ℕ} {ss : List Spot} {ks : List ℕ} {g : Grown} {r : Outcome} → GrowPost t t₂ root level ss ks spare g → r ≡ refusal g.broken → Undone t₂ w₂ map₂ t₃
-          → ((k : ℕ) → Memᴰ k (keys ss) → within start_key end_key k ≡ true) → ((k : ℕ) → Memᴰ k ks → within start_key end_key k ≡ true) → ChangedBy t t₃ w w₂ ss ks bound r
-      heavy-undone {g = g} p said u fitI fitD =
+      pub heavy-undone : {t₃ : List ℕ} {ss : List Spot} {ks : List ℕ} {e : Failure} → GrowFailed t root level ss ks spare e → Undone t₂ w₂ map₂ t₃
+          → ((k : ℕ) → Memᴰ k (keys ss) → within start_key end_key k ≡ true) → ((k : ℕ) → Memᴰ k ks → within start_key end_key k ≡ true) → ChangedBy t t₃ w w₂ ss ks bound (Err e)
+      heavy-undone p u fitI fitD =
           record {
             sized = u.sized ∙ both.table;
             lent_length = both.scratch;
             rest = both.rest;
-            kept = λ e. undone-is 512 (whole-blocks t ok) both u;
-            header = λ e. absurd (refusal-not g.broken (sym said ∙ e));
-            bound_is = λ e. absurd (refusal-not g.broken (sym said ∙ e));
-            shaped = λ e. absurd (refusal-not g.broken (sym said ∙ e));
-            live_is = λ e. absurd (refusal-not g.broken (sym said ∙ e));
-            whole = λ s e. let v = shaped t s in
-                refusal-whole g.broken (p.whole fitI fitD (root-sound t root level a.root_is a.level_is v) (root-apart t root level a.root_is a.level_is v spare unused)) (sym said ∙ e);
+            kept = undone-is 512 (whole-blocks t ok) both u;
+            header = tt;
+            bound_is = tt;
+            shaped = tt;
+            live_is = tt;
+            whole = λ s. let v = shaped t s in
+                p.whole fitI fitD (root-sound t root level a.root_is a.level_is v) (root-apart t root level a.root_is a.level_is v spare unused);
             ready = λ s e. absurd (false≢true (sym a.room ∙ e));
             light = λ e. absurd (false≢true (sym a.room ∙ e));
           }
@@ -132,7 +120,7 @@ module _ {t w : List ℕ} {root level ni nd bound : ℕ} (a : HeavyAt t w root l
       else-v : (z : ℕ) → (z ≡ 0 → ⊥) → store_of (put_block t₂ 0 (block w₂ 0)) z ≡ store_of t₂ z
       else-v z d = store_same t₂ v (put-length t₂ 0 (block w₂ 0) room put_whole) z (block-put-other t₂ 0 (block w₂ 0) room put_whole z d)
 
-      module _ {ss : List Spot} {ks : List ℕ} {g : Grown} (p : GrowPost t t₂ root level ss ks spare g) (good : g.ok ≡ true) where
+      module _ {ss : List Spot} {ks : List ℕ} {g : Grown} (p : GrowDone t t₂ root level ss ks spare g) where
         -- block 0 may be brought up to date
         pub heavy-finishes : Finishable t₂ w₂ spare g.left g.levels g.root bound
         heavy-finishes =
@@ -142,12 +130,12 @@ module _ {t w : List ℕ} {root level ni nd bound : ℕ} (a : HeavyAt t w root l
               head = record {
                 ok = subst⁻¹ (λ (h : Header). header_ok (length v) h ≡ true) head-v (subst⁻¹ (λ (l : ℕ). header_ok l (head_of t) ≡ true) sized-v ok);
                 spare = spares-kept t v spare sized-v unused.fits;
-                less = p.fewer good;
-                least = (p.levels good).0;
-                most = (p.levels good).1;
+                less = p.fewer;
+                least = p.levels.0;
+                most = p.levels.1;
                 first = within-table.0;
                 last = subst⁻¹ (λ (l : ℕ). g.root < blocks_of l) sized-v within-table.1;
-                used = ⊎_elim (λ (e : g.root ≡ root). inl (ap (λ (h : Header). bit h.in_use g.root) head-v ∙ ap (bit (head_of t).in_use) (e ∙ a.root_is) ∙ head.root-used)) inr (p.top good);
+                used = ⊎_elim (λ (e : g.root ≡ root). inl (ap (λ (h : Header). bit h.in_use g.root) head-v ∙ ap (bit (head_of t).in_use) (e ∙ a.root_is) ∙ head.root-used)) inr p.top;
                 few = subst⁻¹ (λ (l : ℕ). bound ≤ capacity l) sized-v a.start.few;
               };
             }
@@ -155,27 +143,27 @@ module _ {t w : List ℕ} {root level ni nd bound : ℕ} (a : HeavyAt t w root l
             within-table : (1 ≤ g.root) × (g.root < blocks_of (length t))
             within-table =
                 ⊎_elim (λ (e : g.root ≡ root). let y = a.root_is in (let z = head.root-least in omega arith, let z = head.root-most in omega arith))
-                (λ i. unused.fits.inside g.root (taken-spare spare g.left g.root i)) (p.top good)
+                (λ i. unused.fits.inside g.root (taken-spare spare g.left g.root i)) p.top
 
         -- and then all is well
         pub heavy-done : {t₃ : List ℕ} → Reheaded (put_block t₂ 0 (block w₂ 0)) t₃ (taken_of spare g.left) g.levels g.root bound
             → ((k : ℕ) → Memᴰ k (keys ss) → within start_key end_key k ≡ true) → ((k : ℕ) → Memᴰ k ks → within start_key end_key k ≡ true)
-            → ChangedBy t t₃ w w₂ ss ks bound Done
+            → ChangedBy t t₃ w w₂ ss ks bound (Ok tt)
         heavy-done {t₃} r fitI fitD =
             record {
               sized = r.sized ∙ sized-v;
               lent_length = both.scratch;
               rest = both.rest;
-              kept = λ off. absurd (off refl);
-              header = λ e. subst (λ (l : ℕ). header_ok l (head_of t₃) ≡ true) sized-v r.ok;
-              bound_is = λ e. r.bound_is;
-              shaped = λ e s. let u = shaped t s in
-                  change-shaped t root level a.root_is a.level_is v t₃ spare g.left g.levels g.root bound (store_of t₂) ss ks u unused (p.fewer good) fitI fitD
-                  (p.done good fitI fitD (root-sound t root level a.root_is a.level_is u) (root-apart t root level a.root_is a.level_is u spare unused)) sized-v head-v else-v r;
-              live_is = λ e s. let u = shaped t s in
-                  change-live t root level a.root_is a.level_is v t₃ spare g.left g.levels g.root bound (store_of t₂) ss ks u unused (p.fewer good) fitI fitD
-                  (p.done good fitI fitD (root-sound t root level a.root_is a.level_is u) (root-apart t root level a.root_is a.level_is u spare unused)) sized-v head-v else-v r;
-              whole = λ s e. done-whole e;
+              kept = tt;
+              header = subst (λ (l : ℕ). header_ok l (head_of t₃) ≡ true) sized-v r.ok;
+              bound_is = r.bound_is;
+              shaped = λ s. let u = shaped t s in
+                  change-shaped t root level a.root_is a.level_is v t₃ spare g.left g.levels g.root bound (store_of t₂) ss ks u unused p.fewer fitI fitD
+                  (p.done fitI fitD (root-sound t root level a.root_is a.level_is u) (root-apart t root level a.root_is a.level_is u spare unused)) sized-v head-v else-v r;
+              live_is = λ s. let u = shaped t s in
+                  change-live t root level a.root_is a.level_is v t₃ spare g.left g.levels g.root bound (store_of t₂) ss ks u unused p.fewer fitI fitD
+                  (p.done fitI fitD (root-sound t root level a.root_is a.level_is u) (root-apart t root level a.root_is a.level_is u spare unused)) sized-v head-v else-v r;
+              whole = λ s. tt;
               ready = λ s e. refl;
               light = λ e. absurd (false≢true (sym a.room ∙ e));
             }

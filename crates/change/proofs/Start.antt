@@ -20,12 +20,13 @@ use Rattle.update_theory.specs.Change.{part}
 use Rattle.update_theory.proofs.Loose.{opened}
 use Rattle.node.specs.Memory.{Loaded}
 use Rattle.node.specs.declared.NodeValue.{NodeValue}
-use Rattle.change.specs.declared.Outcome.TheVariants.{Done, Broken}
+use Rattle.std.specs.Prelude.{Ok, Err}
+use Rattle.fill.specs.declared.Failure.TheVariants.{Broken}
 use Rattle.change.specs.Room.{roomy, root_of}
 use Rattle.change.specs.Changing.{Changeable, ChangedBy}
 use Rattle.change.specs.Growing.{HasRoom, LightAt, LightPost, HeavyAt}
 use Rattle.change.proofs.After.{root-sound}
-use Rattle.change.proofs.Deep.{whole-blocks, nine-blocks, done-whole}
+use Rattle.change.proofs.Deep.{whole-blocks, nine-blocks}
 
 module _ {t w : List ℕ} {bound ni nd : ℕ} (a : Changeable t w bound ni nd) where
   head : HeadFacts (length t) (head_of t)
@@ -42,19 +43,19 @@ module _ {t w : List ℕ} {bound ni nd : ℕ} (a : Changeable t w bound ni nd) w
     start-inside = let z = head.root-most in let y = whole-blocks t a.header in omega arith
 
     -- the root breaks a rule: then the table was not sound
-    pub start-refused : (ss : List Spot) (ks : List ℕ) → node_ok level (Root root) (store_of t root) ≡ false → ChangedBy t t w w ss ks bound Broken
+    pub start-refused : (ss : List Spot) (ks : List ℕ) → node_ok level (Root root) (store_of t root) ≡ false → ChangedBy t t w w ss ks bound (Err Broken)
     start-refused ss ks broken =
         let off : sound t ≡ true → ⊥ = λ s. true≢false (sym (opened level (store_of t) (part root (Root root) start_key end_key) (root-sound t root level at-root at_level (shaped t s))).ok ∙ broken) in
         record {
           sized = refl;
           lent_length = refl;
           rest = refl;
-          kept = λ e. refl;
-          header = λ e. absurd (done-whole (sym e));
-          bound_is = λ e. absurd (done-whole (sym e));
-          shaped = λ e. absurd (done-whole (sym e));
-          live_is = λ e. absurd (done-whole (sym e));
-          whole = λ s e. off s;
+          kept = refl;
+          header = tt;
+          bound_is = tt;
+          shaped = tt;
+          live_is = tt;
+          whole = λ s. absurd (off s);
           ready = λ s e. absurd (off s);
           light = λ e b z d. refl;
         }
@@ -77,18 +78,18 @@ module _ {t w : List ℕ} {bound ni nd : ℕ} (a : Changeable t w bound ni nd) w
       start-heavy no_room = record { start = a; root_is = at-root; level_is = at_level; room = room-is ∙ no_room }
 
 -- only block 0 and the root were written
-pub start-done : {t t' : List ℕ} (w : List ℕ) {ss : List Spot} {ks : List ℕ} {bound : ℕ} → LightPost t t' ss ks bound → ChangedBy t t' w w ss ks bound Done
+pub start-done : {t t' : List ℕ} (w : List ℕ) {ss : List Spot} {ks : List ℕ} {bound : ℕ} → LightPost t t' ss ks bound → ChangedBy t t' w w ss ks bound (Ok tt)
 start-done w p =
     record {
       sized = p.sized;
       lent_length = refl;
       rest = refl;
-      kept = λ off. absurd (off refl);
-      header = λ e. p.header;
-      bound_is = λ e. p.bound_is;
-      shaped = λ e. p.shaped;
-      live_is = λ e. p.live_is;
-      whole = λ s e. done-whole e;
+      kept = tt;
+      header = p.header;
+      bound_is = p.bound_is;
+      shaped = p.shaped;
+      live_is = p.live_is;
+      whole = λ s. tt;
       ready = λ s e. refl;
       light = λ e. p.else;
     }

@@ -1,7 +1,7 @@
 -- The tree of a table while its root is changed, before block 0 says so; and block 0 then. The root's range is cut down to the limits here, since settling is said
 -- of ranges inside them.
 -- Assumes nothing.
-use Rattle.std.specs.Prelude.{◌≡◌, ◌⊎◌, ℕ, suc, ◌+◌, ◌-◌, ◌≤◌, ◌<◌, Bool, true, false, length}
+use Rattle.std.specs.Prelude.{◌≡◌, ◌⊎◌, ℕ, suc, ◌+◌, ◌-◌, ◌≤◌, ◌<◌, Bool, true, false, length, Result, MatchResult}
 use mathlib.Core.List.{List, [], ◌∷◌, ◌++◌, Memᴰ}
 use Rattle.std.proofs.Math.Option.{Option}
 use Rattle.octets.specs.Sets.{Apart}
@@ -26,6 +26,8 @@ use Rattle.node.specs.Memory.{entries_of, node_in, EntryFits, Loaded}
 use Rattle.node.specs.declared.NodeValue.{NodeValue}
 use Rattle.edit.specs.Edits.{held_in, Tidy}
 use Rattle.journal.specs.Journal.{Undoable}
+use Rattle.fill.specs.declared.Failure.{Failure}
+use Rattle.fill.specs.declared.Failure.TheVariants.{NoRoom}
 use Rattle.spare.specs.declared.Spare.{Spare}
 use Rattle.spare.specs.Spares.{spare_of, taken_of, SpareFits, HeadFits}
 use Rattle.batch.specs.Batches.{batch_says}
@@ -72,15 +74,21 @@ OverSound t first second level Then =
     → Then f
 
 -- it stands in the last of the spare blocks
-pub record CrownPost (t t' : List ℕ) (first second : Entry) (level : ℕ) (spare : Spare) (left : ℕ) (r : Grown) : Type 0 where
-  pub some : r.ok ≡ true → 0 < left
-  pub fewer : r.ok ≡ true → r.left ≡ left - 1
-  pub levels : r.ok ≡ true → (r.levels ≡ suc level) × (level ≤ 6)
-  pub taken : r.ok ≡ true → spare_of spare left ≡ spare_of spare (left - 1) ++ (r.root ∷ [])
-  pub done : r.ok ≡ true → OverSound t first second level (λ f.
+pub record CrownDone (t t' : List ℕ) (first second : Entry) (level : ℕ) (spare : Spare) (left : ℕ) (r : Grown) : Type 0 where
+  pub some : 0 < left
+  pub fewer : r.left ≡ left - 1
+  pub levels : (r.levels ≡ suc level) × (level ≤ 6)
+  pub taken : spare_of spare left ≡ spare_of spare (left - 1) ++ (r.root ∷ [])
+  pub done : OverSound t first second level (λ f.
       (Memᴰ r.root (reaches level (store_of t) (parts start_key end_key (first ∷ second ∷ []))) → ⊥)
       → Rooted level (store_of t) (parts start_key end_key (first ∷ second ∷ [])) (λ z. z ≡ r.root) (suc level) (store_of t') r.root f)
-  pub whole : OverSound t first second level (λ f. r.broken ≡ false)
+
+-- or it could not be made: where they are sound, for want of room
+pub record CrownFailed (t : List ℕ) (first second : Entry) (level : ℕ) (e : Failure) : Type 0 where
+  pub whole : OverSound t first second level (λ f. e ≡ NoRoom)
+
+abbrev pub CrownPost : List ℕ → List ℕ → Entry → Entry → ℕ → Spare → ℕ → Result Grown Failure → Type 0
+CrownPost t t' first second level spare left r = MatchResult r (CrownDone t t' first second level spare left) (CrownFailed t first second level)
 
 -- what holds where the tree is sound, the batch lies in its range, and it reaches no spare block
 abbrev pub OnTree : List ℕ → ℕ → ℕ → List Spot → List ℕ → Spare → Type 0 → Type 0
@@ -91,14 +99,20 @@ OnTree t root level ss ks spare Then =
     → Then
 
 -- the tree after the inserts ss and the deletes ks were settled at its root
-pub record GrowPost (t t' : List ℕ) (root level : ℕ) (ss : List Spot) (ks : List ℕ) (spare : Spare) (r : Grown) : Type 0 where
-  pub fewer : r.ok ≡ true → r.left ≤ spare.n
-  pub levels : r.ok ≡ true → (1 ≤ r.levels) × (r.levels ≤ 7)
-  pub top : r.ok ≡ true → (r.root ≡ root) ⊎ Memᴰ r.root (taken_of spare r.left)
-  pub done : r.ok ≡ true → OnTree t root level ss ks spare
+pub record GrowDone (t t' : List ℕ) (root level : ℕ) (ss : List Spot) (ks : List ℕ) (spare : Spare) (r : Grown) : Type 0 where
+  pub fewer : r.left ≤ spare.n
+  pub levels : (1 ≤ r.levels) × (r.levels ≤ 7)
+  pub top : (r.root ≡ root) ⊎ Memᴰ r.root (taken_of spare r.left)
+  pub done : OnTree t root level ss ks spare
       (Rooted (suc level) (store_of t) (part root (Root root) start_key end_key ∷ []) (Taken (spare_of spare spare.n) (spare_of spare r.left)) r.levels (store_of t') r.root
       (λ k. batch_says ss ks k (lookup (suc level) (store_of t) k (part root (Root root) start_key end_key))))
-  pub whole : OnTree t root level ss ks spare (r.broken ≡ false)
+
+-- or could not be: where it is sound, for want of room
+pub record GrowFailed (t : List ℕ) (root level : ℕ) (ss : List Spot) (ks : List ℕ) (spare : Spare) (e : Failure) : Type 0 where
+  pub whole : OnTree t root level ss ks spare (e ≡ NoRoom)
+
+abbrev pub GrowPost : List ℕ → List ℕ → ℕ → ℕ → List Spot → List ℕ → Spare → Result Grown Failure → Type 0
+GrowPost t t' root level ss ks spare r = MatchResult r (GrowDone t t' root level ss ks spare) (GrowFailed t root level ss ks spare)
 
 -- block 0 is taken back from the scratch, and then brought up to date
 pub record Finishable (t w : List ℕ) (spare : Spare) (left levels root bound : ℕ) : Type 0 where

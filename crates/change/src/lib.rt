@@ -11,47 +11,15 @@ ghost use Rattle.journal.specs.Journal.{Kept};
 ghost use Rattle.spare.specs.Spares.{taken_of, Reheaded};
 ghost use Rattle.settle.specs.Settling.{Settleable};
 ghost use Rattle.edit.specs.Edits.{Tidy};
-ghost use Rattle.change.specs.Changing.{Changeable, refusal, ChangedBy};
+ghost use Rattle.change.specs.Changing.{Changeable, ChangedBy};
 ghost use Rattle.change.specs.Growing.{Over, Crownable, CrownPost, GrowPost, Finishable, HasRoom, LightAt, LightPost, HeavyAt};
 
-// What became of a change: carried out, or the table is as it was, since there is no room, or since a block that was read breaks a rule.
-#[derive(Clone, Copy)]
-pub enum Outcome {
-    Done,
-    NoRoom,
-    Broken,
-}
-
-// The tree after a change at its root: its levels, its root, and how many spare blocks are left. Where it is not ok, `broken` says that a block that was read
-// breaks a rule; else there was no room.
+// The tree after a change at its root: its levels, its root, and how many spare blocks are left.
 #[derive(Clone, Copy)]
 pub struct Grown {
-    pub ok: bool,
-    pub broken: bool,
     pub levels: usize,
     pub root: usize,
     pub left: usize,
-}
-
-fn refused(broken: bool) -> Outcome
-    ensures { result ≡ refusal broken }
-{
-    if broken {
-        return Outcome::Broken;
-    }
-    Outcome::NoRoom
-}
-
-fn not_grown(broken: bool, left: usize) -> Grown
-    ensures { (result.ok ≡ false) × (result.broken ≡ broken) }
-{
-    Grown {
-        ok: false,
-        broken,
-        levels: 0,
-        root: 0,
-        left,
-    }
 }
 
 // Whether a node has room for one change more.
@@ -93,7 +61,7 @@ fn over(level: usize, first: block::Entry, second: block::Entry) -> node::NodeVa
     let entries = node::Entries { n: 2, list };
     let points = buffer::empty();
     let inserts = buffer::empty();
-    let deletes = buffer::empty_keys();
+    let deletes = buffer::empty();
     node::NodeValue {
         level,
         entries,
@@ -113,29 +81,23 @@ fn new_root(
     level: usize,
     spare: spare::Spare,
     left: usize,
-) -> Grown
+) -> Result<Grown, fill::Failure>
     requires { Crownable t.old w.old map.old first second level spare left }
     ensures kept { Kept t.old w.old map.old t.new w.new map.new }
     ensures crowned { CrownPost t.old t.new first second level spare left result }
 {
     if (left == 0) | (6 < level) {
-        return not_grown(false, left);
+        return Err(fill::Failure::NoRoom);
     }
     let root = spare::last_of(spare, left);
     let n = over(level, first, second);
-    let f = fill::fill(t, w, map, n, level);
-    if !f.ok {
-        return not_grown(f.broken, left);
-    }
-    let full = f.node;
+    let full = fill::fill(t, w, map, n, level)?;
     journal::write_node(t, w, map, root, full);
-    Grown {
-        ok: true,
-        broken: false,
+    Ok(Grown {
         levels: level + 1,
         root,
         left: left - 1,
-    }
+    })
 }
 
 // Settles the root, and puts a new one over it where it became two.
@@ -148,27 +110,22 @@ fn grow(
     inserts: buffer::SpotBuffer,
     deletes: buffer::KeyBuffer,
     spare: spare::Spare,
-) -> Grown
+) -> Result<Grown, fill::Failure>
     requires { Settleable t.old w.old map.old root level inserts.n deletes.n spare spare.n }
     ensures kept { Kept t.old w.old map.old t.new w.new map.new }
     ensures grown { GrowPost t.old t.new root level (held inserts) (named deletes) spare result }
 {
     let left = spare.n;
     let top = block::Asked::Root(root);
-    let r = settle::settle(t, w, map, root, top, level, inserts, deletes, spare, left);
-    if !r.ok {
-        return not_grown(r.broken, left);
-    }
-    if !r.two {
-        return Grown {
-            ok: true,
-            broken: false,
+    let r = settle::settle(t, w, map, root, top, level, inserts, deletes, spare, left)?;
+    match r.second {
+        None => Ok(Grown {
             levels: level + 1,
             root,
             left: r.left,
-        };
+        }),
+        Some(second) => new_root(t, w, map, r.first, second, level + 1, spare, r.left),
     }
-    new_root(t, w, map, r.first, r.second, level + 1, spare, r.left)
 }
 
 // Block 0 as the scratch has it, and then brought up to date.
@@ -198,42 +155,45 @@ fn heavy(
     inserts: buffer::SpotBuffer,
     deletes: buffer::KeyBuffer,
     bound: u64,
-) -> Outcome
+) -> Result<(), fill::Failure>
     requires { HeavyAt t.old w.old root level inserts.n deletes.n bound × (every limited (keys (held inserts)) ≡ true) × (every limited (named deletes) ≡ true) }
     ensures { ChangedBy t.old t.new w.old w.new (held inserts) (named deletes) bound result }
 {
     let mut map = [0u8; 512];
     journal::save(t, w, &mut map, 0);
     let spare = spare::spare_blocks(t);
-    let g = grow(t, w, &mut map, root, level, inserts, deletes, spare);
-    if !g.ok {
-        journal::undo(t, w, &map);
-        return refused(g.broken);
+    match grow(t, w, &mut map, root, level, inserts, deletes, spare) {
+        Ok(g) => {
+            finish(t, w, spare, g.left, g.levels, g.root, bound);
+            Ok(())
+        }
+        Err(e) => {
+            journal::undo(t, w, &map);
+            Err(e)
+        }
     }
-    finish(t, w, spare, g.left, g.levels, g.root, bound);
-    Outcome::Done
 }
 
-// Carries out one insert or one delete, or leaves the table as it was.
+// Carries out one insert or one delete, or leaves the table as it was: there is no room, or a block that was read breaks a rule.
 pub fn change(
     t: &mut [u8],
     w: &mut [u8],
     inserts: buffer::SpotBuffer,
     deletes: buffer::KeyBuffer,
     bound: u64,
-) -> Outcome
+) -> Result<(), fill::Failure>
     requires { Changeable t.old w.old bound inserts.n deletes.n × (every limited (keys (held inserts)) ≡ true) × (every limited (named deletes) ≡ true) }
     ensures { ChangedBy t.old t.new w.old w.new (held inserts) (named deletes) bound result }
 {
     let root = block::root_of(t);
     let level = block::levels_of(t) - 1;
     if !block::block_ok(t, root, level, block::Asked::Root(root)) {
-        return Outcome::Broken;
+        return Err(fill::Failure::Broken);
     }
     let n = node::load(t, root);
     if is_roomy(n) {
         light(t, root, level, n, inserts, deletes, bound);
-        return Outcome::Done;
+        return Ok(());
     }
     heavy(t, w, root, level, inserts, deletes, bound)
 }

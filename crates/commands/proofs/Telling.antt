@@ -7,12 +7,13 @@ use Prim.Native.Nat.{ℕ, ◌-◌, ◌*◌, ◌/◌, ◌≤◌, ◌<◌, min}
 use native.Mathlib.Nat.{min-le_left, min-le_right}
 use native.Mathlib.Omega.{arith}
 use lib.IntN.{ℤ}
-use lib.ListN.{length, take, drop}
+use lib.ListN.{length, take, drop, take-append-drop}
 use lib.Seq.{length-take-le, take_at, drop_at}
 use borrow.Author.Tests.{eq-eqb, ne_eqb}
+use Rattle.std.specs.Prelude.{Option, Some, None}
 use Rattle.block.specs.declared.Answer.{Answer}
 use Rattle.text.specs.declared.Command.{Command}
-use Rattle.text.specs.declared.Command.TheVariants.{Add, Withdraw, Report, Top, Bad}
+use Rattle.text.specs.declared.Command.TheVariants.{Add, Withdraw, Report, Top}
 use Rattle.text.specs.Text.{refusal_line}
 use Rattle.text.specs.Commands.{Parsed}
 use Rattle.text.specs.Written.{Wrote}
@@ -52,9 +53,9 @@ inside-shown output text out'' r p same g =
 module _ (c : Command) (t w o m out out'' : List ℕ) (r : ℕ) (a : Answer) where
   pub told_add : (x y x' y' : ℤ) (k : ℕ) (t' w' : List ℕ) → c ≡ Add x y k → x' ≡ x → y' ≡ y → 13 ≤ length out → AddPost x' y' k t w a t' w'
       → Wrote out out'' 0 13 (change_text a) r
-      → Told c t w o m out t' w' o m out'' r
+      → Told (Some c) t w o m out t' w' o m out'' r
   told_add x y x' y' k t' w' e ex ey h p v =
-      subst (λ (d : Command). Told d t w o m out t' w' o m out'' r) (sym e)
+      subst (λ (d : Command). Told (Some d) t w o m out t' w' o m out'' r) (sym e)
       (record {
         text = change_text a;
         carried =
@@ -64,9 +65,9 @@ module _ (c : Command) (t w o m out out'' : List ℕ) (r : ℕ) (a : Answer) whe
 
   pub told-withdraw : (x y x' y' : ℤ) (t' w' : List ℕ) → c ≡ Withdraw x y → x' ≡ x → y' ≡ y → 13 ≤ length out → WithdrawPost x' y' t w a t' w'
       → Wrote out out'' 0 13 (change_text a) r
-      → Told c t w o m out t' w' o m out'' r
+      → Told (Some c) t w o m out t' w' o m out'' r
   told-withdraw x y x' y' t' w' e ex ey h p v =
-      subst (λ (d : Command). Told d t w o m out t' w' o m out'' r) (sym e)
+      subst (λ (d : Command). Told (Some d) t w o m out t' w' o m out'' r) (sym e)
       (record {
         text = change_text a;
         carried = (a, subst (λ (z : ℤ). WithdrawPost z y t w a t' w') ex (subst (λ (z : ℤ). WithdrawPost x' z t w a t' w') ey p), refl, refl, refl);
@@ -76,9 +77,9 @@ module _ (c : Command) (t w o m out out'' : List ℕ) (r : ℕ) (a : Answer) whe
   pub told-report : (x1 x2 y x1' x2' y' : ℤ) (o' m' : List ℕ) → c ≡ Report x1 x2 y → x1' ≡ x1 → x2' ≡ x2 → y' ≡ y
       → ReportPost x1' x2' y' t o m a o' m'
       → Wrote out out'' 0 (length out) (spots_text a o') r
-      → Told c t w o m out t w o' m' out'' r
+      → Told (Some c) t w o m out t w o' m' out'' r
   told-report x1 x2 y x1' x2' y' o' m' e e1 e2 ey p v =
-      subst (λ (d : Command). Told d t w o m out t w o' m' out'' r) (sym e)
+      subst (λ (d : Command). Told (Some d) t w o m out t w o' m' out'' r) (sym e)
       (record {
         text = spots_text a o';
         carried = (
@@ -94,9 +95,9 @@ module _ (c : Command) (t w o m out out'' : List ℕ) (r : ℕ) (a : Answer) whe
 
   pub told-top : (x1 x2 x1' x2' : ℤ) (k : ℕ) (o' m' : List ℕ) → c ≡ Top x1 x2 k → x1' ≡ x1 → x2' ≡ x2 → TopPost x1' x2' k t o m a o' m'
       → Wrote out out'' 0 (length out) (spots_text a o') r
-      → Told c t w o m out t w o' m' out'' r
+      → Told (Some c) t w o m out t w o' m' out'' r
   told-top x1 x2 x1' x2' k o' m' e e1 e2 p v =
-      subst (λ (d : Command). Told d t w o m out t w o' m' out'' r) (sym e)
+      subst (λ (d : Command). Told (Some d) t w o m out t w o' m' out'' r) (sym e)
       (record {
         text = spots_text a o';
         carried =
@@ -104,11 +105,9 @@ module _ (c : Command) (t w o m out out'' : List ℕ) (r : ℕ) (a : Answer) whe
         written = v;
       })
 
-pub told-bad : (c : Command) (t w o m out out'' : List ℕ) (r : ℕ) → c ≡ Bad → 13 ≤ length out → Wrote out out'' 0 13 (refusal_line 0) r
-    → Told c t w o m out t w o m out'' r
-told-bad c t w o m out out'' r e h v =
-    subst (λ (d : Command). Told d t w o m out t w o m out'' r) (sym e)
-    (record { text = refusal_line 0; carried = (refl, refl, refl, refl, refl); written = wrote-within (length out) (refusal_line 0) h refl v })
+told-none : (t w o m out out'' : List ℕ) (r : ℕ) → 13 ≤ length out → Wrote out out'' 0 13 (refusal_line 0) r → Told None t w o m out t w o m out'' r
+told-none t w o m out out'' r h v =
+    record { text = refusal_line 0; carried = (refl, refl, refl, refl, refl); written = wrote-within (length out) (refusal_line 0) h refl v }
 
 -- ---- a line
 
@@ -123,7 +122,7 @@ room-printable o text end e h p =
     subst (λ (n : ℕ). Printable n text) (sym e ∙ sym (length-take-le end o h))
     (record { refusal = p; room = λ n l. omega (arith, min-le_right (length o / 12) ((text - 11) / 35)) })
 
-pub obeyed : (line t w o m out t' w' p m' out'' : List ℕ) (r end : ℕ) (c : Command) → 13 ≤ length out → end ≡ room_for (length out) (length o)
+pub obeyed : (line t w o m out t' w' p m' out'' : List ℕ) (r end : ℕ) (c : Option Command) → 13 ≤ length out → end ≡ room_for (length out) (length o)
     → end ≤ length o
     → length p ≡ length (take end o)
     → Parsed line c
@@ -144,6 +143,16 @@ obeyed line t w o m out t' w' p m' out'' r end c h e i same parsed told =
           };
       inside = told.written.inside;
     }
+
+-- a line that is no command
+pub obeyed-none : (line t w o m out out'' : List ℕ) (r : ℕ) → 13 ≤ length out → Parsed line None → Wrote out out'' 0 13 (refusal_line 0) r
+    → Obeyed line t w o m out t w o m out'' r
+unfolding room_for
+obeyed-none line t w o m out out'' r h parsed v =
+    let end : ℕ = room_for (length out) (length o) in
+    let i : end ≤ length o = omega (arith, min-le_left (length o / 12) ((length out - 11) / 35)) in
+    subst (λ (x : List ℕ). Obeyed line t w o m out t w x m out'' r) (take-append-drop end o)
+    (obeyed line t w o m out t w (take end o) m out'' r end None h refl i refl parsed (told-none t w (take end o) m out out'' r h v))
 
 pub not-obeyed : (line t w o m out : List ℕ) → length out < 13 → Obeyed line t w o m out t w o m out 0
 not-obeyed line t w o m out h = record { short = λ _. (refl, refl, refl, refl, refl, refl); done = λ l. absurd (omega arith); inside = omega arith }

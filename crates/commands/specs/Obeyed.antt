@@ -1,9 +1,9 @@
 -- What a line brings about: the call that it names, on the table, and the text that is printed.
 -- Assumes nothing.
-use Rattle.std.specs.Prelude.{◌≡◌, ℕ, ◌+◌, ◌-◌, ◌*◌, ◌/◌, ◌≤◌, ◌<◌, min, cond, List, [], length, take, drop, eqb}
+use Rattle.std.specs.Prelude.{◌≡◌, ℕ, ◌+◌, ◌-◌, ◌*◌, ◌/◌, ◌≤◌, ◌<◌, min, cond, List, [], length, take, drop, eqb, Option, Some, None}
 use Rattle.block.specs.declared.Answer.{Answer}
 use Rattle.text.specs.declared.Command.{Command}
-use Rattle.text.specs.declared.Command.TheVariants.{Add, Withdraw, Report, Top, Bad}
+use Rattle.text.specs.declared.Command.TheVariants.{Add, Withdraw, Report, Top}
 use Rattle.text.specs.Text.{refusal_line}
 use Rattle.text.specs.Commands.{Parsed}
 use Rattle.table.specs.Queries.{ReportPost, TopPost}
@@ -24,17 +24,18 @@ spots_text r output = cond (eqb r.number 0) (printed output r.detail) (refusal_l
 unfoldable pub room_for : ℕ → ℕ → ℕ
 room_for text output = 12 * min (output / 12) ((text - 11) / 35)
 
--- the command was carried out on the table t with the scratch w, the output o and the read map m, which became t', w', o' and m', and this text is to be printed
-abbrev pub CarriedOut : Command → List ℕ → List ℕ → List ℕ → List ℕ → List ℕ → List ℕ → List ℕ → List ℕ → List ℕ → Type 0
-CarriedOut (Add place rank track) t w o m t' w' o' m' text =
+-- the command was carried out on the table t with the scratch w, the output o and the read map m, which became t', w', o' and m', and this text is to be printed; for a line of no
+-- such form none is
+abbrev pub CarriedOut : Option Command → List ℕ → List ℕ → List ℕ → List ℕ → List ℕ → List ℕ → List ℕ → List ℕ → List ℕ → Type 0
+CarriedOut (Some (Add place rank track)) t w o m t' w' o' m' text =
     (r : Answer) × AddPost place rank track t w r t' w' × (o' ≡ o) × (m' ≡ m) × (text ≡ change_text r)
-CarriedOut (Withdraw place rank) t w o m t' w' o' m' text =
+CarriedOut (Some (Withdraw place rank)) t w o m t' w' o' m' text =
     (r : Answer) × WithdrawPost place rank t w r t' w' × (o' ≡ o) × (m' ≡ m) × (text ≡ change_text r)
-CarriedOut (Report x1 x2 y) t w o m t' w' o' m' text =
+CarriedOut (Some (Report x1 x2 y)) t w o m t' w' o' m' text =
     (r : Answer) × ReportPost x1 x2 y t o m r o' m' × (t' ≡ t) × (w' ≡ w) × (text ≡ spots_text r o')
-CarriedOut (Top x1 x2 k) t w o m t' w' o' m' text =
+CarriedOut (Some (Top x1 x2 k)) t w o m t' w' o' m' text =
     (r : Answer) × TopPost x1 x2 k t o m r o' m' × (t' ≡ t) × (w' ≡ w) × (text ≡ spots_text r o')
-CarriedOut Bad t w o m t' w' o' m' text = (t' ≡ t) × (w' ≡ w) × (o' ≡ o) × (m' ≡ m) × (text ≡ refusal_line 0)
+CarriedOut None t w o m t' w' o' m' text = (t' ≡ t) × (w' ≡ w) × (o' ≡ o) × (m' ≡ m) × (text ≡ refusal_line 0)
 
 -- an answer whose spots, where it has any, have room in the text
 pub record Shown (a : Answer) (text : ℕ) : Type 0 where
@@ -47,14 +48,14 @@ pub record Printable (output text : ℕ) : Type 0 where
   pub room : (n : ℕ) → 12 * n ≤ output → 11 + 35 * n ≤ text
 
 -- the command was carried out, and its text stands at the front of out''
-pub record Told (c : Command) (t w o m out t' w' o' m' out'' : List ℕ) (r : ℕ) : Type 0 where
+pub record Told (c : Option Command) (t w o m out t' w' o' m' out'' : List ℕ) (r : ℕ) : Type 0 where
   pub text : List ℕ
   pub carried : CarriedOut c t w o m t' w' o' m' text
   pub written : Wrote out out'' 0 (length out) text r
 
 -- the command of the line was; of the output only the bytes whose spots have room in the text were lent to it
 pub record Did (line t w o m out t' w' o' m' out'' : List ℕ) (r : ℕ) : Type 0 where
-  pub command : Command
+  pub command : Option Command
   pub parsed : Parsed line command
   pub told : Told command t w (take (room_for (length out) (length o)) o) m out t' w' (take (room_for (length out) (length o)) o') m' out'' r
   pub behind : drop (room_for (length out) (length o)) o' ≡ drop (room_for (length out) (length o)) o

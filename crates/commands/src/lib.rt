@@ -1,7 +1,8 @@
 // A line of the bench program: the command that it is, carried out on a table, and the text to be printed, left in lent bytes.
 #![tactic(auto)]
 
-ghost use Rattle.std.specs.Prelude.{◌≡◌, ◌+◌, ◌*◌, ◌≤◌, ◌<◌, min, length, true};
+ghost use Rattle.std.specs.Prelude.{◌≡◌, ◌+◌, ◌*◌, ◌≤◌, ◌<◌, length, true, Some};
+ghost use Rattle.block.specs.Answers.{told, answer_of};
 ghost use Rattle.spot.specs.Spots.{limited_from};
 ghost use Rattle.table.specs.Queries.{GivenInside};
 ghost use Rattle.text.specs.Written.{Wrote};
@@ -14,13 +15,11 @@ fn write_lines(out: &mut [u8], at: usize, output: &[u8], n: usize) -> usize
     ensures { Wrote out.old out.new at (35 * n) (lines_of output.now n) result }
 {
     let mut end = at;
-    let mut i = 0;
-    while i < n {
+    for i in 0..n {
         let s = spot::read_spot(output, 12 * i);
         let place = spot::place_of(s.key);
         let rank = spot::rank_in(s.key);
         end = text::write_spot_line(out, end, place, rank, s.track);
-        i += 1;
     }
     end
 }
@@ -34,43 +33,34 @@ fn write_spots(out: &mut [u8], output: &[u8], n: usize) -> usize
     write_lines(out, at, output, n)
 }
 
-fn smaller(a: usize, b: usize) -> usize
-    ensures { result ≡ min a b }
-{
-    if a < b {
-        return a;
-    }
-    b
-}
-
 // The bytes of the output that are lent to a call whose spots are printed into a text of so many bytes.
 fn room_for(text: usize, output: usize) -> usize
     requires { 13 ≤ text }
     ensures { (result ≡ room_for text output) × (result ≤ output) }
 {
-    12 * smaller(output / 12, (text - 11) / 35)
+    12 * (output / 12).min((text - 11) / 35)
 }
 
-// The answer to `+` or `-`.
-fn tell(a: block::Answer, out: &mut [u8]) -> usize
+// What `+` or `-` prints.
+fn tell(done: Result<(), block::Refusal>, out: &mut [u8]) -> usize
     requires { 13 ≤ length out.old }
-    ensures { Wrote out.old out.new 0 13 (change_text a) result }
+    ensures { Wrote out.old out.new 0 13 (change_text (told done)) result }
 {
-    if a.number == 0 {
-        return 0;
+    match done {
+        Ok(()) => 0,
+        Err(r) => text::write_refusal_line(out, 0, block::Answer::from(r).number),
     }
-    text::write_refusal_line(out, 0, a.number)
 }
 
-// The answer to `?` or `^`.
-fn show(a: block::Answer, output: &[u8], out: &mut [u8]) -> usize
-    requires { Shown a (length out.old) × GivenInside a output.now }
-    ensures { Wrote out.old out.new 0 (length out.old) (spots_text a output.now) result }
+// What `?` or `^` prints.
+fn show(done: Result<u32, block::Refusal>, output: &[u8], out: &mut [u8]) -> usize
+    requires { Shown (answer_of done) (length out.old) × GivenInside (answer_of done) output.now }
+    ensures { Wrote out.old out.new 0 (length out.old) (spots_text (answer_of done) output.now) result }
 {
-    if a.number == 0 {
-        return write_spots(out, output, a.detail as usize);
+    match done {
+        Ok(spots) => write_spots(out, output, spots as usize),
+        Err(r) => text::write_refusal_line(out, 0, block::Answer::from(r).number),
     }
-    text::write_refusal_line(out, 0, a.number)
 }
 
 // Carries out a command and leaves its text at the front of `out`; returns the text's length.
@@ -83,26 +73,25 @@ fn carry_out(
     out: &mut [u8],
 ) -> usize
     requires { Printable (length output.old) (length out.old) }
-    ensures { Told c table.old scratch.old output.old read_map.old out.old table.new scratch.new output.new read_map.new out.new result }
+    ensures { Told (Some c) table.old scratch.old output.old read_map.old out.old table.new scratch.new output.new read_map.new out.new result }
 {
     match c {
         text::Command::Add(place, rank, track) => {
-            let a = table::add(table, scratch, place, rank, track);
-            return tell(a, out);
+            let done = table::add(table, scratch, place, rank, track);
+            tell(done, out)
         }
         text::Command::Withdraw(place, rank) => {
-            let a = table::withdraw(table, scratch, place, rank);
-            return tell(a, out);
+            let done = table::withdraw(table, scratch, place, rank);
+            tell(done, out)
         }
         text::Command::Report(x1, x2, y) => {
-            let a = table::report(table, x1, x2, y, output, read_map);
-            return show(a, output, out);
+            let done = table::report(table, x1, x2, y, output, read_map);
+            show(done, output, out)
         }
         text::Command::Top(x1, x2, k) => {
-            let a = table::top(table, x1, x2, k, output, read_map);
-            return show(a, output, out);
+            let done = table::top(table, x1, x2, k, output, read_map);
+            show(done, output, out)
         }
-        text::Command::Bad => return text::write_refusal_line(out, 0, 0),
     }
 }
 
@@ -120,7 +109,9 @@ pub fn obey(
     if out.len() < 13 {
         return 0;
     }
-    let c = text::parse(line);
+    let Some(c) = text::parse(line) else {
+        return text::write_refusal_line(out, 0, 0);
+    };
     let end = room_for(out.len(), output.len());
     carry_out(c, table, scratch, &mut output[..end], read_map, out)
 }

@@ -1,6 +1,6 @@
 -- The entry with the highest top among those of children that have points, as a loop finds it.
 -- Assumes nothing.
-use mathlib.Core.Path.{◌≡◌, refl, subst, sym}
+use mathlib.Core.Path.{◌≡◌, refl, subst, sym, ap, ◌∙◌}
 use mathlib.Core.Logic.{◌⊎◌, inl, inr, ⊎_elim}
 use mathlib.Core.Bool.{Bool, true, false, not, ◌&&◌, ◌||◌, true≢false}
 use mathlib.Core.List.Memᴰ
@@ -16,7 +16,10 @@ use Rattle.octets.proofs.Tests.{and_left, and_right, or-either}
 use Rattle.spot.specs.Keys.{rank_key}
 use Rattle.block.specs.declared.Entry.{Entry}
 use Rattle.node.proofs.Listed.{blank, entry-there}
-use Rattle.edit.specs.Edits.{BestChild}
+use Rattle.std.specs.Prelude.{Option, Some, None, is_some}
+use Rattle.node.specs.declared.Entries.{Entries}
+use Rattle.node.specs.Memory.{entries_of}
+use Rattle.edit.specs.Edits.{BestOf}
 
 -- ---- the tests of the loop and of the threshold, as facts
 
@@ -30,16 +33,19 @@ either-no a b c d h = go (eqb a b) refl h
     go true e k = absurd (true≢false k)
     go false e k = (eqb-false a b e, ltb-false c d k)
 
-pub pick_yes : (z a b c d : ℕ) → not (eqb z 0) && (eqb a b || ltb c d) ≡ true → (z ≡ 0 → ⊥) × ((a ≡ b) ⊎ (c < d))
-pick_yes z a b c d h =
-    (eqb-false z 0 (not-true (eqb z 0) (and_left (not (eqb z 0)) (eqb a b || ltb c d) h)), either-yes a b c d (and_right (not (eqb z 0)) (eqb a b || ltb c d) h))
+pub pick_yes : (z c d : ℕ) (o : Bool) → not (eqb z 0) && (o || ltb c d) ≡ true → (z ≡ 0 → ⊥) × ((o ≡ true) ⊎ (c < d))
+pick_yes z c d o h = (
+  eqb-false z 0 (not-true (eqb z 0) (and_left (not (eqb z 0)) (o || ltb c d) h)),
+  ⊎_elim (λ t. inl t) (λ t. inr (ltb-true c d t)) (or-either o (ltb c d) (and_right (not (eqb z 0)) (o || ltb c d) h)),
+)
 
-pub pick_no : (z a b c d : ℕ) → not (eqb z 0) && (eqb a b || ltb c d) ≡ false → (z ≡ 0) ⊎ ((a ≡ b → ⊥) × (d ≤ c))
-pick_no z a b c d h = go (eqb z 0) refl h
+pub pick_no : (z c d : ℕ) (o : Bool) → not (eqb z 0) && (o || ltb c d) ≡ false → (z ≡ 0) ⊎ ((o ≡ false) × (d ≤ c))
+pick_no z c d o h = go (eqb z 0) refl o refl h
   where
-    go : (t : Bool) → eqb z 0 ≡ t → not t && (eqb a b || ltb c d) ≡ false → (z ≡ 0) ⊎ ((a ≡ b → ⊥) × (d ≤ c))
-    go true e k = inl (eqb-true z 0 e)
-    go false e k = inr (either-no a b c d k)
+    go : (t : Bool) → eqb z 0 ≡ t → (u : Bool) → o ≡ u → not t && (u || ltb c d) ≡ false → (z ≡ 0) ⊎ ((o ≡ false) × (d ≤ c))
+    go true e u f k = inl (eqb-true z 0 e)
+    go false e true f k = absurd (true≢false k)
+    go false e false f k = inr (f, ltb-false c d k)
 
 -- ---- the entries seen
 
@@ -55,17 +61,16 @@ Under high d = (Bare d → ⊥) → rank_key d.top ≤ high
 abbrev pub Each : (Entry → Type 0) → List Entry → Type 0
 Each P l = (d : Entry) → Memᴰ d l → P d
 
--- what is known once the first i of n are seen
-abbrev pub Seen : List Entry → ℕ → ℕ → ℕ → ℕ → Type 0
-Seen l n best high i =
-    ((best ≡ n) × Each Bare (take i l))
-    ⊎ ((best < i) × (Bare (get_or l best blank) → ⊥) × (high ≡ rank_key (get_or l best blank).top) × Each (Under high) (take i l))
+-- what is known once the first i are seen
+abbrev pub Seen : List Entry → ℕ → ℕ → Option ℕ → Type 0
+Seen l high i None = Each Bare (take i l)
+Seen l high i (Some best) = (best < i) × (Bare (get_or l best blank) → ⊥) × (high ≡ rank_key (get_or l best blank).top) × Each (Under high) (take i l)
 
 -- before the first turn
-pub seen_none : (l : List Entry) (n high : ℕ) → Seen l n n high 0
-seen_none l n high = inl (refl, λ d m. absurd (Memᴰ.not-nil m))
+pub seen_none : (l : List Entry) (high : ℕ) → Seen l high 0 None
+seen_none l high = λ d m. absurd (Memᴰ.not-nil m)
 
-module _ (l : List Entry) (n i : ℕ) (h : i < length l) (g : i < n) where
+module _ (l : List Entry) (i : ℕ) (h : i < length l) where
   abbrev x : Entry
   x = get_or l i blank
 
@@ -75,30 +80,35 @@ module _ (l : List Entry) (n i : ℕ) (h : i < length l) (g : i < n) where
       rw (add-one i, take-suc l i blank h)
       (λ d m. ⊎_elim (λ j. old d j) (λ j. subst P (sym (Memᴰ.eq_of_singleton j)) new) (Memᴰ.append_cases (take i l) m))
 
-  module _ (best high : ℕ) where
+  module _ (high : ℕ) where
     -- a turn that finds a higher top
-    pub seen-new : (Bare x → ⊥) → (best ≡ n) ⊎ (high < rank_key x.top) → Seen l n best high i → Seen l n i (rank_key x.top) (i + 1)
-    seen-new z a s = inr (omega arith, z, refl, more (Under (rank_key x.top)) (old s) (λ p. omega arith))
+    pub seen-new : (best : Option ℕ) (o : Bool) → is_some best ≡ not o → (Bare x → ⊥) → (o ≡ true) ⊎ (high < rank_key x.top) → Seen l high i best
+        → Seen l (rank_key x.top) (i + 1) (Some i)
+    seen-new best o e z a s = (omega arith, z, refl, more (Under (rank_key x.top)) (old best e a s) (λ p. omega arith))
       where
-        old : Seen l n best high i → Each (Under (rank_key x.top)) (take i l)
-        old (inl (e, b)) d m p = absurd (p (b d m))
-        old (inr (b, q, e, u)) d m p = let w = u d m p in ⊎_elim (λ (j : best ≡ n). absurd (omega arith)) (λ (j : high < rank_key x.top). omega arith) a
+        old : (best : Option ℕ) → is_some best ≡ not o → (o ≡ true) ⊎ (high < rank_key x.top) → Seen l high i best → Each (Under (rank_key x.top)) (take i l)
+        old None e a b d m p = absurd (p (b d m))
+        old (Some k) e (inl t) b d m p = absurd (true≢false (e ∙ ap not t))
+        old (Some k) e (inr j) (b, q, f, u) d m p = let w = u d m p in omega arith
 
     -- and one that does not
-    pub seen-stays : Bare x ⊎ ((best ≡ n → ⊥) × (rank_key x.top ≤ high)) → Seen l n best high i → Seen l n best high (i + 1)
-    seen-stays (inl z) (inl (e, b)) = inl (e, more Bare b z)
-    seen-stays (inr a) (inl (e, b)) = absurd (a.0 e)
-    seen-stays (inl z) (inr (b, q, e, u)) = inr (omega arith, q, e, more (Under high) u (λ p. absurd (p z)))
-    seen-stays (inr a) (inr (b, q, e, u)) = inr (omega arith, q, e, more (Under high) u (λ p. a.1))
+    pub seen-stays : (best : Option ℕ) (o : Bool) → is_some best ≡ not o → Bare x ⊎ ((o ≡ false) × (rank_key x.top ≤ high)) → Seen l high i best
+        → Seen l high (i + 1) best
+    seen-stays None o g (inl z) b = more Bare b z
+    seen-stays None o g (inr a) b = absurd (true≢false (sym (g ∙ ap not a.0)))
+    seen-stays (Some k) o g (inl z) (b, q, e, u) = (omega arith, q, e, more (Under high) u (λ p. absurd (p z)))
+    seen-stays (Some k) o g (inr a) (b, q, e, u) = (omega arith, q, e, more (Under high) u (λ p. a.1))
 
 -- after the last turn
-pub seen_all : (l : List Entry) (n best high : ℕ) → n ≤ length l → Seen l n best high n → BestChild (take n l) best
-seen_all l n best high h (inl (e, b)) =
-    let k : length (take n l) ≡ n = length-take-le n l h in
+pub seen_all : (es : Entries) (best : Option ℕ) (high : ℕ) → es.n ≤ length es.list → Seen es.list high es.n best → BestOf es best
+seen_all es None high h b =
+    let k : length (entries_of es) ≡ es.n = length-take-le es.n es.list h in
     record { some = λ g. absurd (omega arith); none = λ g. b }
-seen_all l n best high h (inr (b, q, e, u)) =
-    let k : length (take n l) ≡ n = length-take-le n l h in
-    record {
-      some = λ g. (get_or l best blank, (entry-there l n best h b).split, q, λ d m p. let w = u d m p in omega arith);
-      none = λ g. absurd (omega arith);
-    }
+seen_all es (Some best) high h (b, q, e, u) =
+    let k : length (entries_of es) ≡ es.n = length-take-le es.n es.list h in (
+      b,
+      record {
+        some = λ g. (get_or es.list best blank, (entry-there es.list es.n best h b).split, q, λ d m p. let w = u d m p in omega arith);
+        none = λ g. absurd (omega arith);
+      },
+    )

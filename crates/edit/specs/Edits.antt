@@ -1,16 +1,17 @@
 -- Changes to a node in memory.
 -- Assumes nothing.
-use Rattle.std.specs.Prelude.{◌≡◌, ◌⊎◌, ℕ, suc, ◌+◌, ◌≤◌, ◌<◌, Bool, true, length, take, drop}
+use Rattle.std.specs.Prelude.{◌≡◌, ◌⊎◌, ℕ, suc, ◌+◌, ◌≤◌, ◌<◌, Bool, true, length, take, drop, Option, Some, None}
 use mathlib.Core.List.{List, ◌∷◌, ◌++◌, Memᴰ}
 use Rattle.octets.specs.Lists.{keep}
 use Rattle.spot.specs.Keys.{rank_key}
-use Rattle.spot.specs.Spots.{keys, put}
+use Rattle.spot.specs.Spots.{put}
 use Rattle.spot.specs.Sorted.{only, but}
 use Rattle.spot.specs.declared.Spot.{Spot}
 use Rattle.block.specs.declared.Entry.{Entry}
 use Rattle.block.specs.declared.Asked.TheVariants.{Child}
 use Rattle.block.specs.NodeRules.{agrees}
 use Rattle.buffer.specs.Buffer.{held, named, Ordered, OrderedKeys, LowestIn}
+use Rattle.node.specs.declared.Entries.{Entries}
 use Rattle.node.specs.Memory.{entries_of, node_in, EntryFits}
 use Rattle.node.specs.declared.NodeValue.{NodeValue}
 use Rattle.update_theory.specs.Held.{Held}
@@ -55,6 +56,11 @@ pub record BestChild (es : List Entry) (i : ℕ) : Type 0 where
   pub some : i < length es → (e : Entry) × (es ≡ take i es ++ (e ∷ drop (suc i) es)) × (e.size ≡ 0 → ⊥)
       × ((d : Entry) → Memᴰ d es → (d.size ≡ 0 → ⊥) → rank_key d.top ≤ rank_key e.top)
   pub none : length es ≤ i → (d : Entry) → Memᴰ d es → d.size ≡ 0
+
+-- that one, or none
+abbrev pub BestOf : Entries → Option ℕ → Type 0
+BestOf es (Some i) = (i < es.n) × BestChild (entries_of es) i
+BestOf es None = BestChild (entries_of es) es.n
 
 pub record SpillPost (n x : NodeValue) : Type 0 where
   pub spilled : Spilled (held_in n) (held_in x)

@@ -10,7 +10,7 @@ ghost use Rattle.spot.specs.Sorted.{only, but, lower};
 ghost use Rattle.buffer.specs.Buffer.{held, named, Ordered, merged};
 ghost use Rattle.node.specs.Memory.{entries_of};
 ghost use Rattle.update_theory.specs.Held.{insert_one, delete_one, insert_all, delete_all};
-ghost use Rattle.edit.specs.Edits.{held_in, Tidy, Edited, SpillPost, Threshold, Half, EntryFor, BestChild};
+ghost use Rattle.edit.specs.Edits.{held_in, Tidy, Edited, SpillPost, Threshold, Half, EntryFor, BestOf};
 
 // One spot inserted: into P where its rank key is at least r, else it waits in I.
 pub fn insert_one(n: node::NodeValue, s: spot::Spot, r: u64) -> node::NodeValue
@@ -20,26 +20,22 @@ pub fn insert_one(n: node::NodeValue, s: spot::Spot, r: u64) -> node::NodeValue
     let k = s.key;
     let points = buffer::without(n.points, k);
     let inserts = buffer::without(n.inserts, k);
-    let deletes = buffer::without_key(n.deletes, k);
-    let level = n.level;
-    let entries = n.entries;
+    let deletes = buffer::without(n.deletes, k);
     if r <= spot::rank_key(k) {
         let points = buffer::put(points, s);
         return node::NodeValue {
-            level,
-            entries,
             points,
             inserts,
             deletes,
+            ..n
         };
     }
     let inserts = buffer::put(inserts, s);
     node::NodeValue {
-        level,
-        entries,
         points,
         inserts,
         deletes,
+        ..n
     }
 }
 
@@ -50,25 +46,21 @@ pub fn delete_one(n: node::NodeValue, k: u64, r: u64) -> node::NodeValue
 {
     let points = buffer::without(n.points, k);
     let inserts = buffer::without(n.inserts, k);
-    let deletes = buffer::without_key(n.deletes, k);
-    let level = n.level;
-    let entries = n.entries;
+    let deletes = buffer::without(n.deletes, k);
     if spot::rank_key(k) < r {
-        let deletes = buffer::put_key(deletes, k);
+        let deletes = buffer::put(deletes, k);
         return node::NodeValue {
-            level,
-            entries,
             points,
             inserts,
             deletes,
+            ..n
         };
     }
     node::NodeValue {
-        level,
-        entries,
         points,
         inserts,
         deletes,
+        ..n
     }
 }
 
@@ -89,19 +81,15 @@ fn insert_parts(n: node::NodeValue, batch: buffer::SpotBuffer, r: u64) -> node::
     requires { Tidy n × (batch.n ≤ 80) × (n.points.n + batch.n ≤ 80) × (n.inserts.n + batch.n ≤ 80) }
     ensures { Edited n result (insert_all r (held batch) (held_in n)) (n.points.n + batch.n) (n.inserts.n + batch.n) n.deletes.n }
 {
-    let level = n.level;
-    let entries = n.entries;
     let mut points = n.points;
     let mut inserts = n.inserts;
     let mut deletes = n.deletes;
     let mut high = buffer::empty();
     let mut low = buffer::empty();
-    let mut i = batch.n;
-    while 0 < i {
-        i -= 1;
+    for i in (0..batch.n).rev() {
         let s = batch.spots[i];
         let k = s.key;
-        deletes = buffer::without_key(deletes, k);
+        deletes = buffer::without(deletes, k);
         if r <= spot::rank_key(k) {
             inserts = buffer::without(inserts, k);
             let others = buffer::without(high, k);
@@ -115,11 +103,10 @@ fn insert_parts(n: node::NodeValue, batch: buffer::SpotBuffer, r: u64) -> node::
     let points = bring_in(high, points);
     let inserts = bring_in(low, inserts);
     node::NodeValue {
-        level,
-        entries,
         points,
         inserts,
         deletes,
+        ..n
     }
 }
 
@@ -142,9 +129,7 @@ pub fn delete_all(n: node::NodeValue, batch: buffer::KeyBuffer, r: u64) -> node:
     ensures { Edited n result (delete_all r (named batch) (held_in n)) n.points.n n.inserts.n (n.deletes.n + batch.n) }
 {
     let mut next = n;
-    let mut i = batch.n;
-    while 0 < i {
-        i -= 1;
+    for i in (0..batch.n).rev() {
         let k = batch.keys[i];
         next = delete_one(next, k, r);
     }
@@ -160,11 +145,9 @@ pub fn spill(n: node::NodeValue) -> node::NodeValue
     if size <= 64 {
         return n;
     }
-    let level = n.level;
-    let entries = n.entries;
-    let deletes = n.deletes;
     let mut points = n.points;
     let mut gathered = buffer::empty();
+    // Stays: it ends when few enough are left, and counts no index.
     while 64 < points.n {
         let low = buffer::lowest(points);
         points = buffer::without(points, low.key);
@@ -172,11 +155,9 @@ pub fn spill(n: node::NodeValue) -> node::NodeValue
     }
     let inserts = buffer::merge(gathered, n.inserts);
     node::NodeValue {
-        level,
-        entries,
         points,
         inserts,
-        deletes,
+        ..n
     }
 }
 
@@ -198,17 +179,16 @@ pub fn left_half(n: node::NodeValue, k: usize, sep: u64) -> node::NodeValue
     requires { Tidy n × (k ≤ n.entries.n) × (n.entries.n ≤ 8) }
     ensures { Half n result (λ j. ltb j sep) (take k (entries_of n.entries)) }
 {
-    let level = n.level;
     let entries = node::entries_before(n.entries, k);
     let points = buffer::below_key(n.points, sep);
     let inserts = buffer::below_key(n.inserts, sep);
-    let deletes = buffer::keys_below(n.deletes, sep);
+    let deletes = buffer::below_key(n.deletes, sep);
     node::NodeValue {
-        level,
         entries,
         points,
         inserts,
         deletes,
+        ..n
     }
 }
 
@@ -216,20 +196,19 @@ pub fn right_half(n: node::NodeValue, k: usize, sep: u64) -> node::NodeValue
     requires { Tidy n × (k < n.entries.n) × (n.entries.n ≤ 8) }
     ensures { Half n result (λ j. leb sep j) (first_open (drop k (entries_of n.entries))) }
 {
-    let level = n.level;
     let rest = node::entries_from(n.entries, k);
     let mut first = node::entry(rest, 0);
     first.low = 0;
     let entries = node::replace(rest, 0, first);
     let points = buffer::from_key(n.points, sep);
     let inserts = buffer::from_key(n.inserts, sep);
-    let deletes = buffer::keys_from(n.deletes, sep);
+    let deletes = buffer::from_key(n.deletes, sep);
     node::NodeValue {
-        level,
         entries,
         points,
         inserts,
         deletes,
+        ..n
     }
 }
 
@@ -262,23 +241,20 @@ pub fn entry_for(b: usize, low: u64, n: node::NodeValue) -> block::Entry
     }
 }
 
-// The child with the highest top in rank order, or the number of entries where no child has points.
-pub fn best_child(es: node::Entries) -> usize
+// The child with the highest top in rank order, of those that have points.
+pub fn best_child(es: node::Entries) -> Option<usize>
     requires { es.n ≤ 8 }
-    ensures { BestChild (entries_of es) result }
+    ensures { BestOf es result }
 {
-    let n = es.n;
-    let mut best = n;
+    let mut best = None;
     let mut high = 0;
-    let mut i = 0;
-    while i < n {
+    for i in 0..es.n {
         let e = es.list[i];
         let r = spot::rank_key(e.top);
-        if (e.size != 0) & ((best == n) | (high < r)) {
-            best = i;
+        if (e.size != 0) & (best.is_none() | (high < r)) {
+            best = Some(i);
             high = r;
         }
-        i += 1;
     }
     best
 }
@@ -291,14 +267,11 @@ pub fn raise_insert(n: node::NodeValue, s: spot::Spot) -> node::NodeValue
     let points = buffer::put(n.points, s);
     let inserts = buffer::without(n.inserts, s.key);
     let deletes = buffer::keys_under(n.deletes, s.key);
-    let level = n.level;
-    let entries = n.entries;
     node::NodeValue {
-        level,
-        entries,
         points,
         inserts,
         deletes,
+        ..n
     }
 }
 
@@ -309,16 +282,11 @@ pub fn raise_child(n: node::NodeValue, s: spot::Spot) -> node::NodeValue
 {
     let k = s.key;
     let points = buffer::put(n.points, s);
-    let inserts = n.inserts;
     let deletes = buffer::keys_under(n.deletes, k);
-    let level = n.level;
-    let entries = n.entries;
     node::NodeValue {
-        level,
-        entries,
         points,
-        inserts,
         deletes,
+        ..n
     }
 }
 
@@ -327,16 +295,6 @@ pub fn drop_child(n: node::NodeValue, k: u64) -> node::NodeValue
     requires { Tidy n }
     ensures { Edited n result (record { points = held n.points; inserts = held n.inserts; deletes = keep (lower k) (named n.deletes) }) n.points.n n.inserts.n n.deletes.n }
 {
-    let points = n.points;
-    let inserts = n.inserts;
     let deletes = buffer::keys_under(n.deletes, k);
-    let level = n.level;
-    let entries = n.entries;
-    node::NodeValue {
-        level,
-        entries,
-        points,
-        inserts,
-        deletes,
-    }
+    node::NodeValue { deletes, ..n }
 }

@@ -34,8 +34,8 @@ use Rattle.node.specs.declared.Entries.{Entries}
 use Rattle.node.specs.declared.NodeValue.{NodeValue}
 use Rattle.edit.specs.Edits.{held_in, BestChild, Edited}
 use Rattle.fill.specs.declared.Took.{Took}
-use Rattle.fill.specs.declared.Turned.{Turned}
-use Rattle.fill.specs.Filling.{GoesOn, Replaced, InsertUp, ChildUp, TookOut}
+use Rattle.fill.specs.declared.Round.{Round}
+use Rattle.fill.specs.Filling.{GoesOn, Replaced, InsertMoved, ChildMoved, TookOut}
 
 -- ---- the entry with the highest top
 
@@ -76,12 +76,12 @@ loop-as {ni} {nd} {l} {lo} {hi} {x} {es₀} {y} {r} {es} {es'} {b} {b'} {f} g h 
     subst⁻¹ (λ (u : List Entry). Loop ni nd l lo hi x es₀ y r u b' f) g (subst⁻¹ (λ (v : Held). Loop ni nd l lo hi x es₀ y r es v f) h p)
 
 -- from I alone
-pub on-insert : (y : Store) (level : ℕ) (n : NodeValue) (r : Turned) (s : Spot) → n.points.n < 32 → InsertUp n s r → Highest (held n.inserts) s
+pub on-insert : (y : Store) (level : ℕ) (n : NodeValue) (r : Round) (s : Spot) → n.points.n < 32 → InsertMoved n s r → Highest (held n.inserts) s
     → ((d : Entry) → Memᴰ d (entries_of n.entries) → (d.size ≡ 0 → ⊥) → rank_key d.top < rank_key s.key)
-    → r.ok ≡ true → GoesOn y y level n r.node r.over
-on-insert y level n r s less u h tops ok ni nd lo hi rank x es₀ f legal z p = (
+    → GoesOn y y level n r.node r.over
+on-insert y level n r s less u h tops ni nd lo hi rank x es₀ f legal z p = (
   rank_key s.key,
-  loop-as (ap entries_of u.lifted.entries) (u.raised ok)
+  loop-as (ap entries_of u.lifted.entries) u.raised
       (round-insert ni nd level lo hi (legal-full lo hi legal) x es₀ f y rank (entries_of n.entries) (held_in n) p (let q = length-take n.points.n n.points.spots in omega arith) s (find-mem s.key (held n.inserts) h.there) h.there h.most tops),
   λ o. absurd (true≢false (sym o ∙ u.lifted.over)),
 )
@@ -148,7 +148,7 @@ module _ (y : Store) (l : ℕ) (n : NodeValue) (c : ℕ) (e : Entry) (at_c : Ent
         }
 
   -- its top was taken
-  module _ (z : Store) (m : NodeValue) (took : Took) (r : Turned) (less : n.points.n < 32) (block : took.entry.block ≡ e.block) (low : took.entry.low ≡ e.low)
+  module _ (z : Store) (m : NodeValue) (took : Took) (r : Round) (less : n.points.n < 32) (block : took.entry.block ≡ e.block) (low : took.entry.low ≡ e.low)
       (done : (lo hi : ℕ) → lo ≤ hi → Legal lo hi → e.low ≤ lo → Sound (suc l) y (part e.block (Child e) lo hi ∷ []) → TookOut y z l e lo hi took)
       (put_in : Replaced n c took.entry m) (same : r.node.entries ≡ m.entries) where
     entries-as : entries_of r.node.entries ≡ take c (entries_of n.entries) ++ ((took.entry ∷ []) ++ drop (suc c) (entries_of n.entries))
@@ -177,9 +177,9 @@ module _ (y : Store) (l : ℕ) (n : NodeValue) (c : ℕ) (e : Entry) (at_c : Ent
       room : length (held n.points) < 32
       room = let q = length-take n.points.n n.points.spots in omega arith
 
-      child-on : ChildUp m took.spot r → ((k : ℕ) → Memᴰ k (keys (held n.inserts)) → rank_key k < rank_key e.top) → r.ok ≡ true
+      child-on : ChildMoved m took.spot r → ((k : ℕ) → Memᴰ k (keys (held n.inserts)) → rank_key k < rank_key e.top)
           → (after : ℕ) × Loop ni nd (suc l) lo hi x es₀ z after (entries_of r.node.entries) (held_in r.node) f
-      child-on u above ok = go (has e.top (named n.deletes)) refl
+      child-on u above = go (has e.top (named n.deletes)) refl
         where
           names : {q : Bool} → has e.top (named n.deletes) ≡ q → has took.spot.key (named m.deletes) ≡ q
           names h = ap (λ (k : ℕ). has k (named m.deletes)) out.key ∙ ap (λ (b : Held). has e.top b.deletes) held-as ∙ h
@@ -187,32 +187,32 @@ module _ (y : Store) (l : ℕ) (n : NodeValue) (c : ℕ) (e : Entry) (at_c : Ent
           go : (q : Bool) → has e.top (named n.deletes) ≡ q → (after : ℕ) × Loop ni nd (suc l) lo hi x es₀ z after (entries_of r.node.entries) (held_in r.node) f
           go true h = (
             rank_key e.top,
-            loop-as entries-as (u.dropped ok (names h) ∙ ap (λ (k : ℕ). dropped k (held_in m)) out.key ∙ ap (dropped e.top) held-as)
+            loop-as entries-as (u.dropped (names h) ∙ ap (λ (k : ℕ). dropped k (held_in m)) out.key ∙ ap (dropped e.top) held-as)
                 (round-dead ni nd (suc l) lo hi (legal-full lo hi legal) x es₀ f zero₀ y rank us vs e (held_in n) p' pts most z took.entry low block changed above h),
           )
           go false h = (
             rank_key e.top,
-            loop-as entries-as (u.raised ok (names h) ∙ ap (λ (k : ℕ). raised took.spot k (held_in m)) out.key ∙ ap (raised took.spot e.top) held-as)
+            loop-as entries-as (u.raised (names h) ∙ ap (λ (k : ℕ). raised took.spot k (held_in m)) out.key ∙ ap (raised took.spot e.top) held-as)
                 (round-child ni nd (suc l) lo hi (legal-full lo hi legal) x es₀ f zero₀ y rank us vs e (held_in n) p' pts most z took.entry low block changed room took.spot out.key out.live above h),
           )
 
-      both-on : (s : Spot) → InsertUp m s r → Highest (held n.inserts) s → s.key ≡ e.top → r.ok ≡ true
+      both-on : (s : Spot) → InsertMoved m s r → Highest (held n.inserts) s → s.key ≡ e.top
           → (after : ℕ) × Loop ni nd (suc l) lo hi x es₀ z after (entries_of r.node.entries) (held_in r.node) f
-      both-on s u high at-t ok = (
+      both-on s u high at-t = (
         rank_key e.top,
-        loop-as entries-as (u.raised ok ∙ ap (λ (k : ℕ). inserted s k (held_in m)) at-t ∙ ap (inserted s e.top) held-as)
+        loop-as entries-as (u.raised ∙ ap (λ (k : ℕ). inserted s k (held_in m)) at-t ∙ ap (inserted s e.top) held-as)
             (round-both ni nd (suc l) lo hi (legal-full lo hi legal) x es₀ f zero₀ y rank us vs e (held_in n) p' pts most z took.entry low block changed room s at-t
             (ap (λ (k : ℕ). find k (held n.inserts)) (sym at-t) ∙ high.there) (λ k i. let q : rank_key s.key ≡ rank_key e.top = ap rank_key at-t in let v = high.most k i in omega arith)),
       )
 
     -- from the child
-    pub on-child : ChildUp m took.spot r → ((k : ℕ) → Memᴰ k (keys (held n.inserts)) → rank_key k < rank_key e.top) → r.ok ≡ true → GoesOn y z (suc l) n r.node r.over
-    on-child u above ok ni nd lo hi rank x es₀ f legal zero₀ p =
-        let q = child-on ni nd lo hi rank x es₀ f legal zero₀ p u above ok in
+    pub on-child : ChildMoved m took.spot r → ((k : ℕ) → Memᴰ k (keys (held n.inserts)) → rank_key k < rank_key e.top) → GoesOn y z (suc l) n r.node r.over
+    on-child u above ni nd lo hi rank x es₀ f legal zero₀ p =
+        let q = child-on ni nd lo hi rank x es₀ f legal zero₀ p u above in
         (q.0, q.1, λ o. absurd (true≢false (sym o ∙ u.lifted.over)))
 
     -- from I, and the child's goes
-    pub on_both : (s : Spot) → InsertUp m s r → Highest (held n.inserts) s → s.key ≡ e.top → r.ok ≡ true → GoesOn y z (suc l) n r.node r.over
-    on_both s u high at-t ok ni nd lo hi rank x es₀ f legal zero₀ p =
-        let q = both-on ni nd lo hi rank x es₀ f legal zero₀ p s u high at-t ok in
+    pub on_both : (s : Spot) → InsertMoved m s r → Highest (held n.inserts) s → s.key ≡ e.top → GoesOn y z (suc l) n r.node r.over
+    on_both s u high at-t ni nd lo hi rank x es₀ f legal zero₀ p =
+        let q = both-on ni nd lo hi rank x es₀ f legal zero₀ p s u high at-t in
         (q.0, q.1, λ o. absurd (true≢false (sym o ∙ u.lifted.over)))

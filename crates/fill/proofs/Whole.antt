@@ -1,16 +1,17 @@
 -- The loop of fill from its start to its end, and take_top's post-condition from what its calls give.
 -- Assumes nothing.
 use mathlib.Core.Path.{◌≡◌, refl, sym, ap, ◌∙◌, subst, subst⁻¹}
-use mathlib.Core.Bool.{Bool, true, false, cond, ◌&&◌, true≢false, false≢true}
+use mathlib.Core.Logic.{inl}
+use mathlib.Core.Bool.{true, false, cond, true≢false}
 use mathlib.Core.List.Memᴰ
 use mathlib.Core.List.{List, [], ◌∷◌, Memᴰ}
 use mathlib.Core.Option.{none, some}
 use Prim.Native.Nat.{ℕ, suc, ◌≤◌, ◌<◌}
 use native.Mathlib.Omega.{arith}
 use lib.ListN.{length, length-take}
-use lib.Dec.{eqb, ltb}
+use lib.Dec.{eqb}
 use borrow.Author.Tests.{eqb-true, leb-true, ltb-true}
-use Rattle.octets.proofs.Tests.{all-at, every-mem, and_left, and_right}
+use Rattle.octets.proofs.Tests.{all-at, every-mem}
 use Rattle.spot.specs.declared.Spot.{Spot}
 use Rattle.spot.specs.Keys.{rank_key}
 use Rattle.spot.specs.Spots.{keys, find}
@@ -33,17 +34,17 @@ use Rattle.update_theory.specs.Rounds.{Loop, FilledUp}
 use Rattle.update_theory.proofs.Going.{going_start}
 use Rattle.update_theory.proofs.Loose.{opened}
 use Rattle.update_theory.proofs.Taken.{after, take-finish, take_open, top-is, top-found}
-use Rattle.node.specs.Memory.{entries_of, node_in, EntryFits, Storable, Stored, Loaded}
+use Rattle.node.specs.Memory.{entries_of, node_in, Storable, Stored, Loaded}
 use Rattle.node.specs.declared.Entries.{Entries}
 use Rattle.node.specs.declared.NodeValue.{NodeValue}
 use Rattle.node.proofs.Laws.{stored-else}
 use Rattle.edit.specs.Edits.{held_in, Edited, EntryFor}
 use Rattle.journal.specs.Journal.{Undoable, Kept}
 use Rattle.journal.proofs.Kept.{undoable-kept, kept_refl, kept_trans}
-use Rattle.fill.specs.declared.Took.{Took}
-use Rattle.fill.specs.declared.Filled.{Filled}
-use Rattle.fill.specs.declared.Turned.{Turned}
-use Rattle.fill.specs.Filling.{Workable, OnNode, FillPost, FilledBy, RoundPost, OnChild, TakePost}
+use Rattle.fill.specs.declared.Failure.{Failure}
+use Rattle.fill.specs.declared.Failure.TheVariants.{NoRoom}
+use Rattle.fill.specs.declared.Round.{Round}
+use Rattle.fill.specs.Filling.{Workable, OnNode, FillDone, FillFailed, FilledBy, RoundDone, RoundFailed, OnChild, TakeDone, TakeFailed}
 use Rattle.fill.proofs.Works.{work-stores}
 
 -- ---- fill
@@ -58,10 +59,6 @@ pub record Filling (t₀ s₀ map₀ : List ℕ) (depth : ℕ) (n₀ : NodeValue
   pub same_lows : lows (entries_of n.entries) ≡ lows (entries_of n₀.entries)
   pub goes : OnNode t₀ depth n₀ (λ lo hi f.
       (r : ℕ) × Loop n₀.inserts.n n₀.deletes.n depth lo hi (store_of t₀) (entries_of n₀.entries) (store_of t) r (entries_of n.entries) (held_in n) f)
-
--- it goes on
-pub goes_on_lem : (p r : ℕ) → (ltb p 32 && ltb r 128) ≡ true → (p < 32) × (r < 128)
-goes_on_lem p r e = (ltb-true p 32 (and_left (ltb p 32) (ltb r 128) e), ltb-true r 128 (and_right (ltb p 32) (ltb r 128) e))
 
 pub fill_start : {t s map : List ℕ} {level : ℕ} {n : NodeValue} → Workable t s map n level → Filling t s map level n t s map n
 fill_start {t} {s} {map} {level} {n} w =
@@ -87,77 +84,67 @@ fill_start {t} {s} {map} {level} {n} w =
 
 module _ {t₀ s₀ map₀ : List ℕ} {level : ℕ} {n₀ : NodeValue} {t s map : List ℕ} {n : NodeValue} (p : Filling t₀ s₀ map₀ level n₀ t s map n) where
   -- the post-condition, whatever ends the loop
-  pub fill-ends : (ok : Bool) → (ok ≡ true → OnNode t₀ level n₀ (λ lo hi f. FilledUp (entries_of n.entries) (held_in n))) → FillPost t₀ t s map level n₀ (record { ok = ok; broken = false; node = n })
-  fill-ends ok h =
+  pub fill-ends : OnNode t₀ level n₀ (λ lo hi f. FilledUp (entries_of n.entries) (held_in n)) → FillDone t₀ t s map level n₀ n
+  fill-ends h =
       record {
         works = p.works;
         inserts = p.few_i;
         deletes = p.few_d;
         count = p.count;
         same_lows = p.same_lows;
-        done = λ e lo hi rank f legal z o. let q = p.goes lo hi rank f legal z o in record { rank = q.0; loop = q.1; full = h e lo hi rank f legal z o };
-        whole = λ lo hi rank f legal z o. refl;
+        done = λ lo hi rank f legal z o. let q = p.goes lo hi rank f legal z o in record { rank = q.0; loop = q.1; full = h lo hi rank f legal z o };
       }
 
-module _ {t₀ s₀ map₀ : List ℕ} {level : ℕ} {n₀ : NodeValue} {t s map : List ℕ} {n : NodeValue} (p : Filling t₀ s₀ map₀ level n₀ t s map n) {t' s' map' : List ℕ} {r : Turned}
-    (k : Kept t s map t' s' map') (q : RoundPost t t' s' map' level n r) where
-  -- a round more
-  pub fill-turn : r.ok ≡ true → Filling t₀ s₀ map₀ level n₀ t' s' map' r.node
-  fill-turn ok =
-      record {
-        kept = kept_trans p.kept k;
-        works = q.works;
-        few_i = omega (arith, p.few_i, q.inserts);
-        few_d = omega (arith, p.few_d, q.deletes);
-        count = q.count ∙ p.count;
-        same_lows = q.same_lows ∙ p.same_lows;
-        goes = λ lo hi rank f legal z o.
-            let a = p.goes lo hi rank f legal z o in
-            let b = q.goes_on ok n₀.inserts.n n₀.deletes.n lo hi a.0 (store_of t₀) (entries_of n₀.entries) f legal z a.1 in
-            (b.0, b.1);
-      }
+  -- P is full
+  pub fill-full : 32 ≤ length (held n.points) → FillDone t₀ t s map level n₀ n
+  fill-full h = fill-ends (λ lo hi rank f legal z o. inl h)
 
-  -- one that fails
-  pub fill_fails : FillPost t₀ t' s' map' level n₀ (record { ok = false; broken = r.broken; node = r.node })
-  fill_fails =
+  -- it gave up
+  pub fill-stops : FillFailed t₀ t s map level n₀ NoRoom
+  fill-stops = record { undoable = p.works.undoable; whole = λ lo hi rank f legal z o. refl }
+
+module _ {t₀ s₀ map₀ : List ℕ} {level : ℕ} {n₀ : NodeValue} {t s map : List ℕ} {n : NodeValue} (p : Filling t₀ s₀ map₀ level n₀ t s map n) {t' s' map' : List ℕ} where
+  -- a round that fails
+  pub fill_fails : {e : Failure} → RoundFailed t t' s' map' level n e → FillFailed t₀ t' s' map' level n₀ e
+  fill_fails q =
       record {
-        works = q.works;
-        inserts = omega (arith, p.few_i, q.inserts);
-        deletes = omega (arith, p.few_d, q.deletes);
-        count = q.count ∙ p.count;
-        same_lows = q.same_lows ∙ p.same_lows;
-        done = λ e. absurd (false≢true e);
+        undoable = q.undoable;
         whole = λ lo hi rank f legal z o. let a = p.goes lo hi rank f legal z o in q.whole n₀.inserts.n n₀.deletes.n lo hi a.0 (store_of t₀) (entries_of n₀.entries) f legal z a.1;
       }
 
-  -- one that is the last
-  pub fill-over : r.ok ≡ true → r.over ≡ true → FillPost t₀ t' s' map' level n₀ (record { ok = true; broken = false; node = r.node })
-  fill-over ok over =
-      fill-ends (fill-turn ok) true
-      (λ e lo hi rank f legal z o. let a = p.goes lo hi rank f legal z o in
-      (q.goes_on ok n₀.inserts.n n₀.deletes.n lo hi a.0 (store_of t₀) (entries_of n₀.entries) f legal z a.1).2 over)
+  module _ {r : Round} (k : Kept t s map t' s' map') (q : RoundDone t t' s' map' level n r) where
+    -- a round more
+    pub fill-turn : Filling t₀ s₀ map₀ level n₀ t' s' map' r.node
+    fill-turn =
+        record {
+          kept = kept_trans p.kept k;
+          works = q.works;
+          few_i = omega (arith, p.few_i, q.inserts);
+          few_d = omega (arith, p.few_d, q.deletes);
+          count = q.count ∙ p.count;
+          same_lows = q.same_lows ∙ p.same_lows;
+          goes = λ lo hi rank f legal z o.
+              let a = p.goes lo hi rank f legal z o in
+              let b = q.goes_on n₀.inserts.n n₀.deletes.n lo hi a.0 (store_of t₀) (entries_of n₀.entries) f legal z a.1 in
+              (b.0, b.1);
+        }
+
+    -- one that is the last
+    pub fill-over : r.over ≡ true → FillDone t₀ t' s' map' level n₀ r.node
+    fill-over over =
+        fill-ends fill-turn
+        (λ lo hi rank f legal z o. let a = p.goes lo hi rank f legal z o in
+        (q.goes_on n₀.inserts.n n₀.deletes.n lo hi a.0 (store_of t₀) (entries_of n₀.entries) f legal z a.1).2 over)
 
 -- ---- take_top
 
 -- nothing was taken
-abbrev NotTaken : Entry → Bool → Took → Type 0
-NotTaken e broken r = (r.ok ≡ false) × (r.broken ≡ broken) × (r.entry ≡ e)
-
-pub take-fails : {t s map t' s' map' : List ℕ} {level : ℕ} {e : Entry} {broken : Bool} {r : Took} → Undoable t s map → Kept t s map t' s' map' → NotTaken e broken r
-    → OnChild t level e (λ lo hi. broken ≡ false) → TakePost t t' s' map' level e r
-take-fails u k q w =
-    record {
-      undoable = undoable-kept k u;
-      sized = k.table;
-      block = ap (λ (x : Entry). x.block) q.2;
-      low = ap (λ (x : Entry). x.low) q.2;
-      fits = subst⁻¹ EntryFits q.2;
-      done = λ h. absurd (true≢false (sym h ∙ q.0));
-      whole = λ lo hi order legal low sound. q.1 ∙ w lo hi order legal low sound;
-    }
+pub take-fails : {t s map t' s' map' : List ℕ} {level : ℕ} {e : Entry} {x : Failure} → Undoable t s map → Kept t s map t' s' map'
+    → OnChild t level e (λ lo hi. x ≡ NoRoom) → TakeFailed t t' s' map' level e x
+take-fails u k w = record { undoable = undoable-kept k u; sized = k.table; whole = w }
 
 -- a block that breaks a rule is not that of a sound part
-pub part-valid : (t : List ℕ) {level : ℕ} {e : Entry} → node_ok level (Child e) (store_of t e.block) ≡ false → OnChild t level e (λ lo hi. true ≡ false)
+pub part-valid : (t : List ℕ) {level : ℕ} {e : Entry} → node_ok level (Child e) (store_of t e.block) ≡ false → {x : Failure} → OnChild t level e (λ lo hi. x ≡ NoRoom)
 part-valid t {level} {e} refused lo hi order legal low sound = absurd (true≢false (sym (opened level (store_of t) (part e.block (Child e) lo hi) sound).ok ∙ refused))
 
 -- the node of a block that was tested may be worked on
@@ -185,8 +172,8 @@ edited-zero : {t : List ℕ} {b : ℕ} {n m : NodeValue} {h : Held} {i j k : ℕ
 edited-zero l d = ap zero_first (ap (λ (es : Entries). lows (entries_of es)) d.entries) ∙ l.storable.first
 
 -- and what fill makes of it may be stored
-pub filled-stores : {t t' s' map' : List ℕ} {level : ℕ} {b : ℕ} {n m : NodeValue} {h : Held} {r : Filled} → Loaded t b n → Edited n m h n.points.n n.inserts.n n.deletes.n
-    → FillPost t t' s' map' level m r → Storable r.node
+pub filled-stores : {t t' s' map' : List ℕ} {level : ℕ} {b : ℕ} {n m : NodeValue} {h : Held} {r : NodeValue} → Loaded t b n → Edited n m h n.points.n n.inserts.n n.deletes.n
+    → FillDone t t' s' map' level m r → Storable r
 filled-stores l d p =
     work-stores p.works (ap zero_first p.same_lows ∙ edited-zero l d) (omega (arith, p.inserts, d.inserts, l.storable.inserts)) (omega (arith, p.deletes, d.deletes, l.storable.deletes))
 
@@ -217,26 +204,26 @@ module _ {t : List ℕ} {level : ℕ} {e : Entry} {spot : Spot} {n m : NodeValue
         )
 
   -- fill finds no block that breaks a rule
-  pub fill-whole : {t' s' map' : List ℕ} {r : Filled} → FillPost t t' s' map' level m r → OnChild t level e (λ lo hi. r.broken ≡ false)
+  pub fill-whole : {t' s' map' : List ℕ} {x : Failure} → FillFailed t t' s' map' level m x → OnChild t level e (λ lo hi. x ≡ NoRoom)
   fill-whole p lo hi order legal low sound = let o = open-part lo hi order legal low sound in p.whole lo hi o.0 _ legal (edited-zero l d) o.1
 
   -- and what it fills to r over the table t' is stored to t''
-  module _ {s map t' s' map' t'' s'' map'' : List ℕ} {e' : Entry} {r : Filled} (u : Undoable t s map) (inside : e.block < blocks_of (length t))
-      (ok : node_ok level (Child e) (store_of t e.block) ≡ true) (p : FillPost t t' s' map' level m r) (done : r.ok ≡ true) (k : Kept t s map t' s' map') (k' : Kept t' s' map' t'' s'' map'')
-      (st : Stored t' t'' e.block r.node) (made : EntryFor e.block e.low r.node e') (long_i : n.inserts.n ≤ length (held n.inserts))
+  module _ {s map t' s' map' t'' s'' map'' : List ℕ} {e' : Entry} {r : NodeValue} (u : Undoable t s map) (inside : e.block < blocks_of (length t))
+      (ok : node_ok level (Child e) (store_of t e.block) ≡ true) (p : FillDone t t' s' map' level m r) (k : Kept t s map t' s' map') (k' : Kept t' s' map' t'' s'' map'')
+      (st : Stored t' t'' e.block r) (made : EntryFor e.block e.low r e') (long_i : n.inserts.n ≤ length (held n.inserts))
       (long_d : n.deletes.n ≤ length (named n.deletes)) where
     module _ (lo hi : ℕ) (order : lo ≤ hi) (legal : Legal lo hi) (low : e.low ≤ lo) (sound : Sound (suc level) (store_of t) (part e.block (Child e) lo hi ∷ [])) where
-      filled : FilledBy (store_of t) (store_of t') level m r.node lo hi (λ j. cond (eqb j e.top) none (lookup (suc level) (store_of t) j (part e.block (Child e) lo hi)))
-      filled = let o = open-part lo hi order legal low sound in p.done done lo hi o.0 _ legal (edited-zero l d) o.1
+      filled : FilledBy (store_of t) (store_of t') level m r lo hi (λ j. cond (eqb j e.top) none (lookup (suc level) (store_of t) j (part e.block (Child e) lo hi)))
+      filled = let o = open-part lo hi order legal low sound in p.done lo hi o.0 _ legal (edited-zero l d) o.1
 
       -- the node that is stored
-      is-node : node_in (blocks_of (length t)) r.node ≡ after (store_of t e.block) (entries_of r.node.entries) (held_in r.node)
+      is-node : node_in (blocks_of (length t)) r ≡ after (store_of t e.block) (entries_of r.entries) (held_in r)
       unfolding node_ok
       is-node =
           let own : node_ok level (Child e) (node_in (blocks_of (length t)) n) ≡ true = ap (node_ok level (Child e)) l.is ∙ ok in
-          let levels : r.node.level ≡ n.level = p.works.level ∙ sym (eqb-true n.level level (all-at _ own 1)) in
-          ap (λ (v : ℕ). after (node_in (blocks_of (length t)) (record { level = v; entries = n.entries; points = n.points; inserts = n.inserts; deletes = n.deletes })) (entries_of r.node.entries) (held_in r.node)) levels
-          ∙ ap (λ (v : Node). after v (entries_of r.node.entries) (held_in r.node)) l.is
+          let levels : r.level ≡ n.level = p.works.level ∙ sym (eqb-true n.level level (all-at _ own 1)) in
+          ap (λ (v : ℕ). after (node_in (blocks_of (length t)) (record { level = v; entries = n.entries; points = n.points; inserts = n.inserts; deletes = n.deletes })) (entries_of r.entries) (held_in r)) levels
+          ∙ ap (λ (v : Node). after v (entries_of r.entries) (held_in r)) l.is
 
       changed : Changed (suc level) (Taken [] []) (store_of t) (part e.block (Child e) lo hi ∷ []) (store_of t'') (part e.block (Child e') lo hi ∷ []) (λ j. cond (eqb j e.top) none (lookup (suc level) (store_of t) j (part e.block (Child e) lo hi)))
       changed =
@@ -245,15 +232,15 @@ module _ {t : List ℕ} {level : ℕ} {e : Entry} {spot : Spot} {n m : NodeValue
           (subst (λ (v : Node). m.deletes.n ≤ length v.deletes) l.is (omega (arith, d.deletes, long_d)))
           (subst (λ (v : Node). length v.inserts ≤ 64) l.is (let z = length-take n.inserts.n n.inserts.spots in omega (arith, l.storable.inserts)))
           (subst (λ (v : Node). length v.deletes ≤ 16) l.is (let z = length-take n.deletes.n n.deletes.keys in omega (arith, l.storable.deletes)))
-          filled.rank (entries_of r.node.entries) (held_in r.node) _
-          (subst (λ (es : List Entry). Loop m.inserts.n m.deletes.n level lo hi (store_of t) es (store_of t') filled.rank (entries_of r.node.entries) (held_in r.node) (λ j. cond (eqb j e.top) none (lookup (suc level) (store_of t) j (part e.block (Child e) lo hi))))
+          filled.rank (entries_of r.entries) (held_in r) _
+          (subst (λ (es : List Entry). Loop m.inserts.n m.deletes.n level lo hi (store_of t) es (store_of t') filled.rank (entries_of r.entries) (held_in r) (λ j. cond (eqb j e.top) none (lookup (suc level) (store_of t) j (part e.block (Child e) lo hi))))
           (ap entries_of d.entries ∙ ap (λ (v : Node). v.entries) l.is) filled.loop)
           filled.full
           (subst (λ (v : Node). agrees (Child e') v ≡ true) is-node (made.agree (blocks_of (length t))))
-          (st.here ∙ ap (λ (j : ℕ). node_in (blocks_of j) r.node) k.table ∙ is-node)
-          (stored-else t' t'' e.block r.node st)
+          (st.here ∙ ap (λ (j : ℕ). node_in (blocks_of j) r) k.table ∙ is-node)
+          (stored-else t' t'' e.block r st)
 
-    pub take_done : TakePost t t'' s'' map'' level e (record { ok = true; broken = false; entry = e'; spot = spot })
+    pub take_done : TakeDone t t'' s'' map'' level e (record { entry = e'; spot = spot })
     take_done =
         record {
           undoable = undoable-kept (kept_trans k k') u;
@@ -261,6 +248,5 @@ module _ {t : List ℕ} {level : ℕ} {e : Entry} {spot : Spot} {n m : NodeValue
           block = made.block;
           low = made.low;
           fits = λ q. made.fits (omega (arith, u.most));
-          done = λ q lo hi order legal low sound. record { changed = changed lo hi order legal low sound; key = (top lo hi order legal low sound).1; live = live lo hi order legal low sound };
-          whole = λ lo hi order legal low sound. refl;
+          done = λ lo hi order legal low sound. record { changed = changed lo hi order legal low sound; key = (top lo hi order legal low sound).1; live = live lo hi order legal low sound };
         }

@@ -2,7 +2,7 @@
 -- Assumes nothing.
 use mathlib.Core.Path.{◌≡◌, refl, sym, ap, ◌∙◌, subst, subst⁻¹}
 use mathlib.Core.Logic.{◌⊎◌, inl, inr, ⊎_elim}
-use mathlib.Core.Bool.{true, false, true≢false}
+use mathlib.Core.Bool.{true, false}
 use mathlib.Core.List.{List, ◌∷◌, ◌++◌, Memᴰ}
 use Prim.Native.Nat.{ℕ, suc, ◌≤◌, ◌<◌}
 use native.Mathlib.Omega.{arith}
@@ -20,29 +20,17 @@ use Rattle.node.specs.Memory.{entries_of, EntriesFit, EntryFits, EntryAt, Storab
 use Rattle.node.specs.declared.Entries.{Entries}
 use Rattle.node.specs.declared.NodeValue.{NodeValue}
 use Rattle.update_theory.specs.Held.{Held}
-use Rattle.edit.specs.Edits.{Tidy, Edited}
+use Rattle.edit.specs.Edits.{Edited}
 use Rattle.journal.specs.Journal.{Kept}
 use Rattle.journal.proofs.Kept.{undoable-kept}
-use Rattle.fill.specs.declared.Turned.{Turned}
-use Rattle.fill.specs.Filling.{Inside, Workable, RoundPost, OnLoop, GoesOn, Replaced, Lifted}
+use Rattle.fill.specs.declared.Round.{Round}
+use Rattle.fill.specs.declared.Failure.{Failure}
+use Rattle.fill.specs.declared.Failure.TheVariants.{NoRoom}
+use Rattle.fill.specs.Filling.{Inside, Workable, RoundDone, RoundFailed, OnLoop, GoesOn, Replaced, Lifted}
 
 -- one entry for another: what is there then
 one_more : (us vs : List Entry) (e e' : Entry) {d : Entry} → Memᴰ d (us ++ (e' ∷ vs)) → (d ≡ e') ⊎ Memᴰ d (us ++ (e ∷ vs))
 one_more us vs e e' i = ⊎_elim inl (λ j. inr (mem-more us e vs j)) (mem-less us e' vs i)
-
--- a round that fails leaves the node
-pub lifted-failed : (n : NodeValue) (r : Turned) → Tidy n → r.over ≡ false → r.node ≡ n → r.broken ≡ false → Lifted n r
-lifted-failed n r t o e w =
-    record {
-      over = o;
-      whole = w;
-      tidy = subst⁻¹ Tidy e t;
-      entries = ap (λ (m : NodeValue). m.entries) e;
-      level = ap (λ (m : NodeValue). m.level) e;
-      points = let z : r.node.points.n ≡ n.points.n = ap (λ (m : NodeValue). m.points.n) e in omega arith;
-      inserts = let z : r.node.inserts.n ≡ n.inserts.n = ap (λ (m : NodeValue). m.inserts.n) e in omega arith;
-      deletes = let z : r.node.deletes.n ≡ n.deletes.n = ap (λ (m : NodeValue). m.deletes.n) e in omega arith;
-    }
 
 -- the table changed below the node
 pub work-kept : {t s map t' s' map' : List ℕ} {n : NodeValue} {level : ℕ} → Workable t s map n level → Kept t s map t' s' map' → Workable t' s' map' n level
@@ -65,7 +53,7 @@ work-stores w first few_i few_d =
     record { level = let z = w.level in omega (arith, w.deep); entries = w.entries; first = first; points = w.points; inserts = few_i; deletes = few_d }
 
 -- the buffers changed at the end of a round
-pub work-lifted : {t s map : List ℕ} {n : NodeValue} {r : Turned} {level : ℕ} → Workable t s map n level → n.points.n < 32 → Lifted n r → Workable t s map r.node level
+pub work-lifted : {t s map : List ℕ} {n : NodeValue} {r : Round} {level : ℕ} → Workable t s map n level → n.points.n < 32 → Lifted n r → Workable t s map r.node level
 work-lifted {t} w h l =
     record {
       undoable = w.undoable;
@@ -111,22 +99,13 @@ replaced-lows {n} {c = c} {e = e} {e' = e'} a l p =
 -- ---- the post-condition of a round
 
 -- it failed
-pub round-failed : {t s map t' s' map' : List ℕ} {n : NodeValue} {r : Turned} {level : ℕ} → Workable t s map n level → Kept t s map t' s' map' → r.ok ≡ false → r.node ≡ n
-    → OnLoop (store_of t) level n (λ ni nd lo hi x es₀ f. r.broken ≡ false) → RoundPost t t' s' map' level n r
-round-failed {t' = t'} {s' = s'} {map' = map'} {n = n} {r = r} {level = level} w k h e v =
-    record {
-      works = subst⁻¹ (λ (m : NodeValue). Workable t' s' map' m level) e (work-kept w k);
-      inserts = let z : r.node.inserts.n ≡ n.inserts.n = ap (λ (m : NodeValue). m.inserts.n) e in omega arith;
-      deletes = let z : r.node.deletes.n ≡ n.deletes.n = ap (λ (m : NodeValue). m.deletes.n) e in omega arith;
-      count = ap (λ (m : NodeValue). m.entries.n) e;
-      same_lows = ap (λ (m : NodeValue). lows (entries_of m.entries)) e;
-      goes_on = λ g. absurd (true≢false (sym g ∙ h));
-      whole = v;
-    }
+pub round-failed : {t s map t' s' map' : List ℕ} {n : NodeValue} {level : ℕ} {e : Failure} → Workable t s map n level → Kept t s map t' s' map'
+    → OnLoop (store_of t) level n (λ ni nd lo hi x es₀ f. e ≡ NoRoom) → RoundFailed t t' s' map' level n e
+round-failed w k v = record { undoable = undoable-kept k w.undoable; whole = v }
 
 -- the store stayed
-pub round-lifted : {t s map : List ℕ} {n : NodeValue} {r : Turned} {level : ℕ} → Workable t s map n level → n.points.n < 32 → Lifted n r
-    → (r.ok ≡ true → GoesOn (store_of t) (store_of t) level n r.node r.over) → RoundPost t t s map level n r
+pub round-lifted : {t s map : List ℕ} {n : NodeValue} {r : Round} {level : ℕ} → Workable t s map n level → n.points.n < 32 → Lifted n r
+    → GoesOn (store_of t) (store_of t) level n r.node r.over → RoundDone t t s map level n r
 round-lifted w h l g =
     record {
       works = work-lifted w h l;
@@ -135,28 +114,26 @@ round-lifted w h l g =
       count = ap (λ (es : Entries). es.n) l.entries;
       same_lows = ap (λ (es : Entries). lows (entries_of es)) l.entries;
       goes_on = g;
-      whole = λ ni nd lo hi rank x es₀ f legal z p. l.whole;
     }
 
 -- it was the last
 pub round-ended : {t s map : List ℕ} {n m : NodeValue} {b : Held} {level : ℕ} → Workable t s map n level → n.points.n < 32 → Edited n m b n.points.n n.inserts.n 0
-    → GoesOn (store_of t) (store_of t) level n m true → RoundPost t t s map level n (record { ok = true; broken = false; over = true; node = m })
+    → GoesOn (store_of t) (store_of t) level n m true → RoundDone t t s map level n (record { over = true; node = m })
 round-ended {m = m} w h l g =
     record {
-      works = work-lifted {r = record { ok = true; broken = false; over = false; node = m }} w h
-          (record { over = refl; whole = refl; tidy = l.tidy; entries = l.entries; level = l.level; points = omega (arith, l.points); inserts = l.inserts; deletes = omega (arith, l.deletes) });
+      works = work-lifted {r = record { over = false; node = m }} w h
+          (record { over = refl; tidy = l.tidy; entries = l.entries; level = l.level; points = omega (arith, l.points); inserts = l.inserts; deletes = omega (arith, l.deletes) });
       inserts = l.inserts;
       deletes = omega (arith, l.deletes);
       count = ap (λ (es : Entries). es.n) l.entries;
       same_lows = ap (λ (es : Entries). lows (entries_of es)) l.entries;
-      goes_on = λ e. g;
-      whole = λ ni nd lo hi rank x es₀ f legal z p. refl;
+      goes_on = g;
     }
 
 -- a child's top was taken
-pub round-taken : {t s map t' s' map' : List ℕ} {n m : NodeValue} {r : Turned} {level c : ℕ} {e e' : Entry} → Workable t s map n level → n.points.n < 32 → Kept t s map t' s' map'
+pub round-taken : {t s map t' s' map' : List ℕ} {n m : NodeValue} {r : Round} {level c : ℕ} {e e' : Entry} → Workable t s map n level → n.points.n < 32 → Kept t s map t' s' map'
     → EntryAt (entries_of n.entries) c e → e'.block ≡ e.block → e'.low ≡ e.low → (EntryFits e → EntryFits e') → Replaced n c e' m → Lifted m r
-    → (r.ok ≡ true → GoesOn (store_of t) (store_of t') level n r.node r.over) → RoundPost t t' s' map' level n r
+    → GoesOn (store_of t) (store_of t') level n r.node r.over → RoundDone t t' s' map' level n r
 round-taken {n = n} {m = m} w h k a b l f p u g =
     let q = work-replaced w k a b f p in
     record {
@@ -166,5 +143,4 @@ round-taken {n = n} {m = m} w h k a b l f p u g =
       count = ap (λ (es : Entries). es.n) u.entries ∙ p.count;
       same_lows = ap (λ (es : Entries). lows (entries_of es)) u.entries ∙ replaced-lows a l p;
       goes_on = g;
-      whole = λ ni nd lo hi rank x es₀ f legal z p. u.whole;
     }

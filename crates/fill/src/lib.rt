@@ -1,7 +1,7 @@
 // fill and take_top (source section 4, step v): P is filled up from I and from the children's highest points, a level lower each time.
 #![tactic(auto)]
 
-ghost use Rattle.std.specs.Prelude.{◌≡◌, true, false, [], ◌≤◌, ◌<◌, length};
+ghost use Rattle.std.specs.Prelude.{[], ◌≤◌, ◌<◌, length, IfSome};
 ghost use Rattle.spot.specs.Sorted.{only, but};
 ghost use Rattle.block.specs.Table.{blocks_of};
 ghost use Rattle.buffer.specs.Buffer.{held, named};
@@ -9,78 +9,46 @@ ghost use Rattle.edit.specs.Edits.{Tidy, Edited};
 ghost use Rattle.journal.specs.Journal.{Undoable, Kept};
 ghost use Rattle.fill.specs.Filling.{Workable, FillPost, TakePost, Replaced, InsertUp, ChildUp, Planned, Fetchable, FetchPost, CarryPost};
 
-// The highest point of a child, taken out: the child's entry then, and the spot. Where it is not ok, `broken` says that a block that was read breaks a rule;
-// else there was no room. So it is in the two below.
+// Why a part could not be worked on: a block that was read breaks a rule; else there was no room.
+#[derive(Clone, Copy, Debug, PartialEq, Eq)]
+pub enum Failure {
+    Broken,
+    NoRoom,
+}
+
+// The highest point of a child, taken out: the child's entry then, and the spot.
 #[derive(Clone, Copy)]
 pub struct Took {
-    pub ok: bool,
-    pub broken: bool,
     pub entry: block::Entry,
     pub spot: spot::Spot,
 }
 
+// A child: its place among the entries, and its entry.
 #[derive(Clone, Copy)]
-pub struct Filled {
-    pub ok: bool,
-    pub broken: bool,
-    pub node: node::NodeValue,
-}
-
-// What a round takes: the highest of the child at `child`, where `below`, and of I, where it `waits`; both where they have one key. With neither nothing is left.
-#[derive(Clone, Copy)]
-pub struct Turn {
-    pub below: bool,
-    pub waits: bool,
+pub struct Below {
     pub child: usize,
     pub entry: block::Entry,
-    pub high: spot::Spot,
 }
 
-// One round of fill: whether it went well, whether nothing is left, and the node then.
+// What a round takes: the highest of a child, where it is `below`, and of I, where it `waits`; both where they have one key. With neither nothing is left.
 #[derive(Clone, Copy)]
-pub struct Turned {
-    pub ok: bool,
-    pub broken: bool,
+pub struct Turn {
+    pub below: Option<Below>,
+    pub waits: Option<spot::Spot>,
+}
+
+// The child at a place, and what was taken out of it.
+#[derive(Clone, Copy)]
+pub struct Fetched {
+    pub child: usize,
+    pub took: Took,
+}
+
+// One round of fill: whether nothing is left, and the node then.
+#[derive(Clone, Copy)]
+pub struct Round {
     pub over: bool,
     pub node: node::NodeValue,
-}
-
-fn not_taken(e: block::Entry, broken: bool) -> Took
-    ensures { (result.ok ≡ false) × (result.broken ≡ broken) × (result.entry ≡ e) }
-{
-    let entry = e;
-    let spot = spot::Spot { key: 0, track: 0 };
-    Took {
-        ok: false,
-        broken,
-        entry,
-        spot,
-    }
-}
-
-fn nothing_taken(e: block::Entry) -> Took
-    ensures { (result.ok ≡ true) × (result.broken ≡ false) }
-{
-    let entry = e;
-    let spot = spot::Spot { key: 0, track: 0 };
-    Took {
-        ok: true,
-        broken: false,
-        entry,
-        spot,
-    }
-}
-
-fn failed(n: node::NodeValue, broken: bool) -> Turned
-    ensures { (result.ok ≡ false) × (result.over ≡ false) × (result.node ≡ n) × (result.broken ≡ broken) }
-{
-    let node = n;
-    Turned {
-        ok: false,
-        broken,
-        over: false,
-        node,
-    }
 }
 
 // The node without the point of a key.
@@ -88,17 +56,9 @@ fn without_point(n: node::NodeValue, k: u64) -> node::NodeValue
     requires { Tidy n }
     ensures { Edited n result (record { points = only (but k) (held n.points); inserts = held n.inserts; deletes = named n.deletes }) n.points.n n.inserts.n n.deletes.n }
 {
-    let points = buffer::without(n.points, k);
-    let inserts = n.inserts;
-    let deletes = n.deletes;
-    let level = n.level;
-    let entries = n.entries;
     node::NodeValue {
-        level,
-        entries,
-        points,
-        inserts,
-        deletes,
+        points: buffer::without(n.points, k),
+        ..n
     }
 }
 
@@ -107,17 +67,9 @@ fn with_child(n: node::NodeValue, c: usize, e: block::Entry) -> node::NodeValue
     requires { (c < n.entries.n) × (n.entries.n ≤ 8) }
     ensures { Replaced n c e result }
 {
-    let entries = node::replace(n.entries, c, e);
-    let points = n.points;
-    let inserts = n.inserts;
-    let deletes = n.deletes;
-    let level = n.level;
     node::NodeValue {
-        level,
-        entries,
-        points,
-        inserts,
-        deletes,
+        entries: node::replace(n.entries, c, e),
+        ..n
     }
 }
 
@@ -126,50 +78,9 @@ fn without_deletes(n: node::NodeValue) -> node::NodeValue
     requires { Tidy n }
     ensures { Edited n result (record { points = held n.points; inserts = held n.inserts; deletes = [] }) n.points.n n.inserts.n 0 }
 {
-    let deletes = buffer::empty_keys();
-    let points = n.points;
-    let inserts = n.inserts;
-    let level = n.level;
-    let entries = n.entries;
     node::NodeValue {
-        level,
-        entries,
-        points,
-        inserts,
-        deletes,
-    }
-}
-
-// Nothing of a child.
-fn turn_above(waits: bool, child: usize, high: spot::Spot) -> Turn
-    ensures { (result.below ≡ false) × (result.waits ≡ waits) × (result.child ≡ child) × (result.high ≡ high) }
-{
-    let none = block::Entry {
-        block: 0,
-        size: 0,
-        low: 0,
-        top: 0,
-        bottom: 0,
-    };
-    Turn {
-        below: false,
-        waits,
-        child,
-        entry: none,
-        high,
-    }
-}
-
-// The top of a child.
-fn turn_below(waits: bool, child: usize, entry: block::Entry, high: spot::Spot) -> Turn
-    ensures { result ≡ record { below = true; waits = waits; child = child; entry = entry; high = high } }
-{
-    Turn {
-        below: true,
-        waits,
-        child,
-        entry,
-        high,
+        deletes: buffer::empty(),
+        ..n
     }
 }
 
@@ -178,186 +89,182 @@ fn next_turn(n: node::NodeValue) -> Turn
     requires { Tidy n × (n.entries.n ≤ 8) }
     ensures { Planned n result }
 {
-    let child = edit::best_child(n.entries);
-    let count = n.entries.n;
-    let waiting = n.inserts.n;
-    let none = spot::Spot { key: 0, track: 0 };
-    if waiting == 0 {
-        if count <= child {
-            return turn_above(false, child, none);
-        }
-        let e = node::entry(n.entries, child);
-        return turn_below(false, child, e, none);
+    let best = edit::best_child(n.entries);
+    if n.inserts.n == 0 {
+        let Some(child) = best else {
+            return Turn {
+                below: None,
+                waits: None,
+            };
+        };
+        let entry = node::entry(n.entries, child);
+        return Turn {
+            below: Some(Below { child, entry }),
+            waits: None,
+        };
     }
     let high = buffer::highest(n.inserts);
-    if count <= child {
-        return turn_above(true, child, high);
-    }
+    let Some(child) = best else {
+        return Turn {
+            below: None,
+            waits: Some(high),
+        };
+    };
     let e = node::entry(n.entries, child);
     if spot::rank_key(high.key) < spot::rank_key(e.top) {
-        return turn_below(false, child, e, high);
+        return Turn {
+            below: Some(Below { child, entry: e }),
+            waits: None,
+        };
     }
     if high.key == e.top {
-        return turn_below(true, child, e, high);
+        return Turn {
+            below: Some(Below { child, entry: e }),
+            waits: Some(high),
+        };
     }
-    turn_above(true, child, high)
+    Turn {
+        below: None,
+        waits: Some(high),
+    }
 }
 
 // From I: the spot goes to P.
-fn from_inserts(n: node::NodeValue, high: spot::Spot) -> Turned
+fn from_inserts(n: node::NodeValue, high: spot::Spot) -> Result<Round, Failure>
     requires { Tidy n × (n.points.n < 32) }
     ensures { InsertUp n high result }
 {
     if buffer::holds(n.points, high.key) {
-        return failed(n, false);
+        return Err(Failure::NoRoom);
     }
     let node = edit::raise_insert(n, high);
-    Turned {
-        ok: true,
-        broken: false,
-        over: false,
-        node,
-    }
+    Ok(Round { over: false, node })
 }
 
 // From a child alone: into P, or dropped with the delete that names it.
-fn from_top(n: node::NodeValue, top: spot::Spot) -> Turned
+fn from_top(n: node::NodeValue, top: spot::Spot) -> Result<Round, Failure>
     requires { Tidy n × (n.points.n < 32) }
     ensures { ChildUp n top result }
 {
     let k = top.key;
-    if buffer::holds_key(n.deletes, k) {
+    if buffer::holds(n.deletes, k) {
         let node = edit::drop_child(n, k);
-        return Turned {
-            ok: true,
-            broken: false,
-            over: false,
-            node,
-        };
+        return Ok(Round { over: false, node });
     }
     if buffer::holds(n.points, k) {
-        return failed(n, false);
+        return Err(Failure::NoRoom);
     }
     let node = edit::raise_child(n, top);
-    Turned {
-        ok: true,
-        broken: false,
-        over: false,
-        node,
-    }
+    Ok(Round { over: false, node })
 }
 
 // The node after a round: with the child's new entry, and the spot in P, or dropped with the delete that names it. Where nothing was left, no delete is needed.
-fn carry_out(n: node::NodeValue, p: Turn, took: Took) -> Turned
-    requires { Tidy n × (n.points.n < 32) × (n.entries.n ≤ 8) × Planned n p }
-    ensures { CarryPost n p took result }
+fn carry_out(
+    n: node::NodeValue,
+    below: Option<Fetched>,
+    waits: Option<spot::Spot>,
+) -> Result<Round, Failure>
+    requires { Tidy n × (n.points.n < 32) × (n.entries.n ≤ 8) × IfSome below (λ x. x.child < n.entries.n) }
+    ensures { CarryPost n below waits result }
 {
-    if !took.ok {
-        return failed(n, took.broken);
-    }
-    if p.below {
-        let next = with_child(n, p.child, took.entry);
-        if p.waits {
-            return from_inserts(next, p.high);
+    match (below, waits) {
+        (Some(x), Some(high)) => from_inserts(with_child(n, x.child, x.took.entry), high),
+        (Some(x), None) => from_top(with_child(n, x.child, x.took.entry), x.took.spot),
+        (None, Some(high)) => from_inserts(n, high),
+        (None, None) => {
+            let node = without_deletes(n);
+            Ok(Round { over: true, node })
         }
-        return from_top(next, took.spot);
-    }
-    if p.waits {
-        return from_inserts(n, p.high);
-    }
-    let node = without_deletes(n);
-    Turned {
-        ok: true,
-        broken: false,
-        over: true,
-        node,
     }
 }
 
 // Takes the highest point out of the child that an entry leads to, and fills the child again.
 #[cycle(fetch_fill_take_top)]
-pub fn take_top(t: &mut [u8], s: &mut [u8], map: &mut [u8], e: block::Entry, level: usize) -> Took
+pub fn take_top(
+    t: &mut [u8],
+    s: &mut [u8],
+    map: &mut [u8],
+    e: block::Entry,
+    level: usize,
+) -> Result<Took, Failure>
     requires { Undoable t.old s.old map.old × (1 ≤ e.block) × (e.block < blocks_of (length t.old)) × (level ≤ 6) }
     ensures kept { Kept t.old s.old map.old t.new s.new map.new }
     ensures took { TakePost t.old t.new s.new map.new level e result }
 {
     let b = e.block;
     if !block::block_ok(t, b, level, block::Asked::Child(e)) {
-        return not_taken(e, true);
+        return Err(Failure::Broken);
     }
     let n = node::load(t, b);
     let size = n.points.n;
     if size == 0 {
-        return not_taken(e, false);
+        return Err(Failure::NoRoom);
     }
     let spot = buffer::highest(n.points);
     let open = without_point(n, spot.key);
-    let f = fill(t, s, map, open, level);
-    if !f.ok {
-        return not_taken(e, f.broken);
-    }
-    journal::write_node(t, s, map, b, f.node);
-    let entry = edit::entry_for(b, e.low, f.node);
-    Took {
-        ok: true,
-        broken: false,
-        entry,
-        spot,
-    }
+    let full = fill(t, s, map, open, level)?;
+    journal::write_node(t, s, map, b, full);
+    let entry = edit::entry_for(b, e.low, full);
+    Ok(Took { entry, spot })
 }
 
 // Fills P up to 32, as long as anything is left: a round moves one spot. Only the node lives here while a child is worked on, and no copy of it.
-// After 128 rounds it gives up: not ok, and the caller undoes.
+// After 128 rounds it gives up: there is no room, and the caller undoes.
 #[cycle(fetch_fill_take_top)]
-pub fn fill(t: &mut [u8], s: &mut [u8], map: &mut [u8], n: node::NodeValue, level: usize) -> Filled
+pub fn fill(
+    t: &mut [u8],
+    s: &mut [u8],
+    map: &mut [u8],
+    n: node::NodeValue,
+    level: usize,
+) -> Result<node::NodeValue, Failure>
     requires { Workable t.old s.old map.old n level }
     ensures kept { Kept t.old s.old map.old t.new s.new map.new }
     ensures filled { FillPost t.old t.new s.new map.new level n result }
 {
     let mut node = n;
-    let mut rounds: usize = 0;
-    while (node.points.n < 32) & (rounds < 128) {
+    for _round in 0..128 {
+        if 32 <= node.points.n {
+            return Ok(node);
+        }
         let p = next_turn(node);
-        let took = fetch(t, s, map, p, level);
-        let r = carry_out(node, p, took);
+        let below = fetch(t, s, map, p.below, level)?;
+        let r = carry_out(node, below, p.waits)?;
         node = r.node;
-        if !r.ok {
-            return Filled {
-                ok: false,
-                broken: r.broken,
-                node,
-            };
-        }
         if r.over {
-            return Filled {
-                ok: true,
-                broken: false,
-                node,
-            };
+            return Ok(node);
         }
-        rounds += 1;
     }
-    let ok = 32 <= node.points.n;
-    Filled {
-        ok,
-        broken: false,
-        node,
+    if node.points.n < 32 {
+        return Err(Failure::NoRoom);
     }
+    Ok(node)
 }
 
 // Takes out the child's top that a round asks for.
 #[cycle(fetch_fill_take_top)]
-fn fetch(t: &mut [u8], s: &mut [u8], map: &mut [u8], p: Turn, level: usize) -> Took
-    requires { Undoable t.old s.old map.old × (level ≤ 6) × Fetchable t.old p }
+fn fetch(
+    t: &mut [u8],
+    s: &mut [u8],
+    map: &mut [u8],
+    below: Option<Below>,
+    level: usize,
+) -> Result<Option<Fetched>, Failure>
+    requires { Undoable t.old s.old map.old × (level ≤ 6) × IfSome below (Fetchable t.old) }
     ensures kept { Kept t.old s.old map.old t.new s.new map.new }
-    ensures fetched { FetchPost t.old s.old map.old t.new s.new map.new level p result }
+    ensures fetched { FetchPost t.old s.old map.old t.new s.new map.new level below result }
 {
-    let e = p.entry;
-    if !p.below {
-        return nothing_taken(e);
+    match below {
+        None => Ok(None),
+        Some(x) => {
+            if level == 0 {
+                return Err(Failure::NoRoom);
+            }
+            let took = take_top(t, s, map, x.entry, level - 1)?;
+            Ok(Some(Fetched {
+                child: x.child,
+                took,
+            }))
+        }
     }
-    if level == 0 {
-        return not_taken(e, false);
-    }
-    take_top(t, s, map, e, level - 1)
 }

@@ -143,10 +143,6 @@ module _ (t : List ℕ) (s : Slot) (v : Standing t s) (i : ℕ) (below : i < kid
 pub hangs-valid : {t : List ℕ} {rows : List (List ℕ)} {i : ℕ} → Hangs t rows i → ValidBlock t (slot_by t rows i).block
 hangs-valid {t} {rows} {i} h = stands-valid (h.chain.stands i h.inside)
 
--- its row is there, and has its block
-pub hangs-inside : {t : List ℕ} {rows : List (List ℕ)} {i : ℕ} → Hangs t rows i → i < length rows
-hangs-inside h = omega (arith, h.inside, h.chain.room)
-
 pub hangs-block : {t : List ℕ} {rows : List (List ℕ)} {i : ℕ} → Hangs t rows i → block_by rows i ≡ (slot_by t rows i).block
 hangs-block {i = i} h = h.chain.blocks i h.inside
 

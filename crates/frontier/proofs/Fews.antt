@@ -9,8 +9,7 @@ use native.Mathlib.Omega.{arith}
 use lib.Dec.{leb, ltb}
 use lib.ListN.{length, get_or, set, length-set}
 use lib.Seq.{get_or-set_same, get_or-set_other}
-use borrow.Author.Tests.{ltb-true, ltb-false, le-ltb, leb-true, le-leb, lt-leb}
-use mir.Val.{bool_byte}
+use borrow.Author.Tests.{ltb-false, le-ltb, leb-true, le-leb, lt-leb}
 use Rattle.octets.proofs.Order.{same_or_not, less-or-not}
 use Rattle.octets.proofs.Tests.{and_left, and_right}
 use Rattle.spot.specs.Keys.{word, rank_key, rank_of, top_key}
@@ -36,60 +35,7 @@ pub record Opened (few₀ : List (List ℕ)) (n key m : ℕ) (few : List (List �
   pub below : (l : ℕ) → i ≤ l → l + 1 < m → get_or few (l + 1) [] ≡ get_or few₀ l []
   pub lower : (l : ℕ) → i ≤ l → l + 1 < m → few_key few₀ l ≤ key
 
-pub opened-first : (few : List (List ℕ)) (n key : ℕ) → 0 < length few → n ≤ length few → Opened few n key (n + bool_byte (ltb n (length few))) few (n + bool_byte (ltb n (length few)) - 1)
-opened-first few n key some room = go (ltb n (length few)) refl
-  where
-    go : (b : Bool) → ltb n (length few) ≡ b → Opened few n key (n + bool_byte b) few (n + bool_byte b - 1)
-    go true e =
-        let l = ltb-true n (length few) e in
-        record {
-          grows = λ y. refl;
-          full = λ y. let z : ⊥ = omega arith in absurd z;
-          room = omega arith;
-          inside = omega arith;
-          long = refl;
-          above = λ j y. refl;
-          below = λ j y w. let z : ⊥ = omega arith in absurd z;
-          lower = λ j y w. let z : ⊥ = omega arith in absurd z;
-        }
-    go false e =
-        let l = ltb-false n (length few) e in
-        record {
-          grows = λ y. let z : ⊥ = omega arith in absurd z;
-          full = λ y. omega arith;
-          room = omega arith;
-          inside = omega arith;
-          long = refl;
-          above = λ j y. refl;
-          below = λ j y w. let z : ⊥ = omega arith in absurd z;
-          lower = λ j y w. let z : ⊥ = omega arith in absurd z;
-        }
-
 module _ {few₀ : List (List ℕ)} {n key m : ℕ} {few : List (List ℕ)} {i : ℕ} (o : Opened few₀ n key m few i) where
-  -- the row above the free one moves down
-  pub opened-next : 0 < i → few_key few (i - 1) ≤ key → Opened few₀ n key m (set few i (get_or few (i - 1) [])) (i - 1)
-  opened-next some low =
-      let same = o.above (i - 1) (omega arith) in
-      record {
-        grows = o.grows;
-        full = o.full;
-        room = o.room;
-        inside = let l = o.inside in omega arith;
-        long = length-set few i (get_or few (i - 1) []) ∙ o.long;
-        above = λ l y. get_or-set_other few i l (get_or few (i - 1) []) [] (λ e. let z : ⊥ = omega arith in z) ∙ o.above l (omega arith);
-        below = λ l y w.
-            ⊎_elim
-            (λ (e : l + 1 ≡ i).
-            let p : l ≡ i - 1 = omega arith in
-            ap (λ (x : ℕ). get_or (set few i (get_or few (i - 1) [])) x []) e ∙ get_or-set_same few i (get_or few (i - 1) []) [] (let h = o.inside in let g = o.room in let k = o.long in omega arith)
-            ∙ same ∙ ap (λ (x : ℕ). get_or few₀ x []) (sym p))
-            (λ (d : l + 1 ≡ i → ⊥). get_or-set_other few i (l + 1) (get_or few (i - 1) []) [] d ∙ o.below l (omega (arith, d)) w)
-            (same_or_not (l + 1) i);
-        lower = λ l y w.
-            ⊎_elim (λ (e : l + 1 ≡ i). let p : l ≡ i - 1 = omega arith in omega (arith, ap (few_key few₀) p, ap (λ (x : List ℕ). get_or x 0 0) same)) (λ (d : l + 1 ≡ i → ⊥). o.lower l (omega (arith, d)) w)
-            (same_or_not (l + 1) i);
-      }
-
   -- the new row takes the free place
   pub opened-taken : (at : ℕ) → (0 < i → key < few_key few (i - 1)) → Inserted few₀ n key at (set few i (key ∷ at ∷ [])) m
   opened-taken at up =

@@ -2,11 +2,12 @@
 -- Assumes nothing.
 use mathlib.Core.Path.{◌≡◌, refl, ap, sym, subst, ◌∙◌}
 use mathlib.Core.Logic.{⊎_elim}
-use mathlib.Core.Bool.{true, false, true≢false}
+use mathlib.Core.Bool.{true}
 use mathlib.Core.List.{List, [], ◌∷◌, Memᴰ}
 use Prim.Native.Nat.{ℕ, zero, suc, ◌+◌, ◌-◌, ◌*◌, ◌/◌, ◌%◌, ◌≤◌, ◌<◌}
 use native.Mathlib.Omega.{arith}
 use lib.ListN.{length}
+use Rattle.std.specs.Prelude.{Option, is_some}
 use borrow.Author.Tests.{ltb-true, lt-ltb}
 use Rattle.octets.proofs.Order.{same_or_not, less-or-not}
 use Rattle.octets.proofs.Tests.{keep-mem, keep-there}
@@ -18,7 +19,7 @@ use Rattle.spot.specs.declared.Query.{Query}
 use Rattle.block.specs.Node.{store_of}
 use Rattle.block.specs.NodeRules.{ValidBlock}
 use Rattle.frontier.specs.declared.Pick.{Pick}
-use Rattle.frontier.specs.Picks.{spots_of, spots_at, spot_count, spot_by, wanted_in, Rung, Ladder, packed, Laddered, PickedUnder, few_key, few_at, key_by, Asked, Few, indices, Packable, FirstOf}
+use Rattle.frontier.specs.Picks.{spots_of, spots_at, spot_count, spot_by, wanted_in, Rung, Ladder, packed, Laddered, pick_key, pick_at, pick_more, PickedUnder, few_key, few_at, key_by, Asked, Few, indices, Packable, FirstOf}
 use Rattle.frontier.proofs.Spots.{key-by, spot-at, spot-found, spots-most}
 
 -- ---- indices as one number
@@ -69,9 +70,6 @@ pub record Packs (few : List (List ℕ)) (n more i : ℕ) : Type 0 where
   pub is : more ≡ packed (indices few i (n - i))
 
 module _ (few : List (List ℕ)) (n : ℕ) where
-  pub pack-first : 0 < n → Packs few n 1 n
-  pack-first l = record { some = l; most = omega arith; is = let e : n - n ≡ 0 = omega arith in sym (ap (λ (k : ℕ). packed (indices few n k)) e) }
-
   module _ {more i : ℕ} (h : Packs few n more i) where
     pub pack-small : Packable few n → more < 8796093022208
     pack-small p =
@@ -152,7 +150,7 @@ module _ {t : List ℕ} {b : ℕ} {q : Query} {most : ℕ} {few : List (List ℕ
   few-packable l = record { most = let r = h.room in omega arith; room = h.room; low = λ x y. let i = h.index x y in let s = spots-most t b v in omega arith }
 
   -- the first row is the best
-  pub few-picked : {p : Pick} → 0 < length few → length few ≤ 7 → FirstOf few m p → PickedUnder t b q (most + 1) (wanted_in t q b) p
+  pub few-picked : {p : Option Pick} → 0 < length few → length few ≤ 7 → FirstOf few m p → PickedUnder t b q (most + 1) (wanted_in t q b) p
   few-picked {p} some room f =
       record {
         index = λ y. let w = any y in let i = (first-rung w).index in omega (arith, f.at w);
@@ -177,7 +175,7 @@ module _ {t : List ℕ} {b : ℕ} {q : Query} {most : ℕ} {few : List (List ℕ
             };
       }
     where
-      any : p.there ≡ true → 0 < m
+      any : is_some p ≡ true → 0 < m
       any y = ltb-true 0 m (sym f.there ∙ y)
 
       found : (s : Spot) → Memᴰ s (wanted_in t q b) → top_key s.key < most + 1 → 0 < m
@@ -206,7 +204,7 @@ ladder-leads {t} {b} {q} {r} {more} v w d = go w.next w.few w.is w.ladder
           rest = subst (λ (i : ℕ). Laddered t b q (top_key (spot_by t b i).key) (more / 128)) (sym x) (record { next = js; few = omega arith; is = y; ladder = h.1 });
         }
 
-pub leading-picked : {t : List ℕ} {b : ℕ} {q : Query} {r more : ℕ} {p : Pick} → Leading t b q r more → p.there ≡ true → p.key ≡ top_key (spot_by t b (more % 128)).key → p.at ≡ more % 128 → p.more ≡ more / 128
+pub leading-picked : {t : List ℕ} {b : ℕ} {q : Query} {r more : ℕ} {p : Option Pick} → Leading t b q r more → is_some p ≡ true → pick_key p ≡ top_key (spot_by t b (more % 128)).key → pick_at p ≡ more % 128 → pick_more p ≡ more / 128
     → PickedUnder t b q r (wanted_in t q b) p
 leading-picked {t} {b} {q} {r} {more} {p} w there key at rest =
     record {
@@ -218,15 +216,5 @@ leading-picked {t} {b} {q} {r} {more} {p} w there key at rest =
             some = λ s i y. there;
             over = λ s i y. subst (λ (j : ℕ). top_key s.key ≤ top_key (spot_by t b j).key) (sym at) (w.rung.over s i y);
           };
-      more = λ y. subst (Laddered t b q p.key) (sym rest) (subst (λ (k : ℕ). Laddered t b q k (more / 128)) (sym key) w.rest);
-    }
-
--- no top key is under 0
-pub picked_none : {t : List ℕ} {b : ℕ} {q : Query} {r : ℕ} {ss : List Spot} {p : Pick} → r ≡ 0 → p.there ≡ false → PickedUnder t b q r ss p
-picked_none e f =
-    record {
-      index = λ h. absurd (true≢false (sym h ∙ f));
-      key = λ h. absurd (true≢false (sym h ∙ f));
-      under = record { held = λ h. absurd (true≢false (sym h ∙ f)); some = λ s i l. let z : ⊥ = omega arith in absurd z; over = λ s i l. let z : ⊥ = omega arith in absurd z };
-      more = λ h. absurd (true≢false (sym h ∙ f));
+      more = λ y. subst (Laddered t b q (pick_key p)) (sym rest) (subst (λ (k : ℕ). Laddered t b q k (more / 128)) (sym key) w.rest);
     }

@@ -1,6 +1,6 @@
 -- The frontier of a Top: a slot for each node read, which is kept as its block and the place where it hangs, and the children of a node by index.
 -- Assumes nothing.
-use Rattle.std.specs.Prelude.{◌≡◌, ℕ, zero, suc, ◌+◌, ◌-◌, ◌*◌, ◌/◌, ◌%◌, ◌≤◌, ◌<◌, true, cond, ◌&&◌, List, [], ◌∷◌, ◌++◌, length, get_or, eqb, ltb}
+use Rattle.std.specs.Prelude.{◌≡◌, ℕ, zero, suc, ◌+◌, ◌-◌, ◌*◌, ◌/◌, ◌%◌, ◌≤◌, ◌<◌, true, cond, ◌&&◌, List, [], ◌∷◌, ◌++◌, length, get_or, eqb, ltb, None}
 use Rattle.octets.specs.Bytes.{be}
 use Rattle.spot.specs.Keys.{rank_of}
 use Rattle.spot.specs.declared.Query.{Query}
@@ -73,7 +73,7 @@ root_slot t =
     record {
       block = (head_of t).root;
       level = (head_of t).levels - 1;
-      span = record { lo = 0; hi = 0; endless = true };
+      span = record { lo = 0; hi = None };
       path = record { n = 0; blocks = []; lo = 0; last = 0; waits = 0 };
     }
 

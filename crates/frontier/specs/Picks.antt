@@ -1,6 +1,6 @@
 -- The best spots of a node, and its best child, under a limit.
 -- Assumes nothing.
-use Rattle.std.specs.Prelude.{◌≡◌, ◌⊎◌, ℕ, zero, suc, ◌+◌, ◌-◌, ◌*◌, ◌≤◌, ◌<◌, Bool, true, cond, ◌&&◌, leb, ltb, length, get_or}
+use Rattle.std.specs.Prelude.{◌≡◌, ◌⊎◌, ℕ, zero, suc, ◌+◌, ◌-◌, ◌*◌, ◌≤◌, ◌<◌, Bool, true, cond, ◌&&◌, leb, ltb, length, get_or, Option, Some, None, is_some, IsSome}
 use mathlib.Core.List.{List, [], ◌∷◌, ◌++◌, Memᴰ}
 use Rattle.octets.specs.Bytes.{be}
 use Rattle.octets.specs.Lists.{keep}
@@ -81,23 +81,36 @@ pub record Laddered (t : List ℕ) (b : ℕ) (q : Query) (r more : ℕ) : Type 0
   pub is : more ≡ packed next
   pub ladder : Ladder t b q r next
 
-abbrev pub next_of : List ℕ → ℕ → Pick → Next
-next_of t b p = record { there = p.there; spot = spot_by t b p.at }
+-- a pick's top key, its index and the next ones' indices; 0 where there is no pick
+abbrev pub pick_key : Option Pick → ℕ
+pick_key None = 0
+pick_key (Some p) = p.key
+
+abbrev pub pick_at : Option Pick → ℕ
+pick_at None = 0
+pick_at (Some p) = p.at
+
+abbrev pub pick_more : Option Pick → ℕ
+pick_more None = 0
+pick_more (Some p) = p.more
+
+abbrev pub next_of : List ℕ → ℕ → Option Pick → Next
+next_of t b p = record { there = is_some p; spot = spot_by t b (pick_at p) }
 
 -- p is the highest of these spots of the node at b under the top key r, by its index, with the next wanted under it
-pub record PickedUnder (t : List ℕ) (b : ℕ) (q : Query) (r : ℕ) (ss : List Spot) (p : Pick) : Type 0 where
-  pub index : p.there ≡ true → p.at < spot_count t b
-  pub key : p.there ≡ true → p.key ≡ top_key (spot_by t b p.at).key
+pub record PickedUnder (t : List ℕ) (b : ℕ) (q : Query) (r : ℕ) (ss : List Spot) (p : Option Pick) : Type 0 where
+  pub index : IsSome p → pick_at p < spot_count t b
+  pub key : IsSome p → pick_key p ≡ top_key (spot_by t b (pick_at p)).key
   pub under : Under r ss (next_of t b p)
-  pub more : p.there ≡ true → Laddered t b q p.key p.more
+  pub more : IsSome p → Laddered t b q (pick_key p) (pick_more p)
 
 -- p is the highest wanted of the node at b under some limit
-pub record Wished (t : List ℕ) (b : ℕ) (q : Query) (p : Pick) : Type 0 where
+pub record Wished (t : List ℕ) (b : ℕ) (q : Query) (p : Option Pick) : Type 0 where
   pub limit : ℕ
   pub picked : PickedUnder t b q limit (wanted_in t q b) p
 
 -- p is the highest wanted of a slot's node under some limit: then r is the highest found under it
-pub record Unwaited (t : List ℕ) (s : Slot) (q : Query) (p r : Pick) : Type 0 where
+pub record Unwaited (t : List ℕ) (s : Slot) (q : Query) (p r : Option Pick) : Type 0 where
   pub on : (limit : ℕ) → PickedUnder t s.block q limit (wanted_in t q s.block) p → PickedUnder t s.block q limit (found_in t q s) r
 
 -- ---- the best few of a run of spots, in rows of a top key and an index
@@ -168,16 +181,26 @@ pub record Packable (few : List (List ℕ)) (n : ℕ) : Type 0 where
   pub low : (l : ℕ) → l < n → few_at few l < 128
 
 -- r is the first of n rows, if there is one, with the indices of the others
-pub record FirstOf (few : List (List ℕ)) (n : ℕ) (r : Pick) : Type 0 where
-  pub there : r.there ≡ ltb 0 n
-  pub key : 0 < n → r.key ≡ few_key few 0
-  pub at : 0 < n → r.at ≡ few_at few 0
-  pub more : 0 < n → r.more ≡ packed (indices few 1 (n - 1))
+pub record FirstOf (few : List (List ℕ)) (n : ℕ) (r : Option Pick) : Type 0 where
+  pub there : is_some r ≡ ltb 0 n
+  pub key : 0 < n → pick_key r ≡ few_key few 0
+  pub at : 0 < n → pick_at r ≡ few_at few 0
+  pub more : 0 < n → pick_more r ≡ packed (indices few 1 (n - 1))
 
 -- ---- children
 
--- r is the child with the highest key that is at most `most`; its key is 0 where there is none
-pub record KidBest (t : List ℕ) (b : ℕ) (s : Span) (q : Query) (most : ℕ) (r : KidPick) : Type 0 where
-  pub index : r.at < 8
-  pub held : 0 < r.key → (r.key ≡ kid_key t b s q r.at) × (r.key ≤ most)
-  pub over : (i : ℕ) → i < 8 → kid_key t b s q i ≤ most → kid_key t b s q i ≤ r.key
+-- a best child's key and its index; 0 where there is none
+abbrev pub best_key : Option KidPick → ℕ
+best_key None = 0
+best_key (Some k) = k.key
+
+abbrev pub best_at : Option KidPick → ℕ
+best_at None = 0
+best_at (Some k) = k.at
+
+-- r is the child with the highest key that is at most `most`, if there is one: its key is above 0
+pub record KidBest (t : List ℕ) (b : ℕ) (s : Span) (q : Query) (most : ℕ) (r : Option KidPick) : Type 0 where
+  pub some : IsSome r → 0 < best_key r
+  pub index : best_at r < 8
+  pub held : 0 < best_key r → (best_key r ≡ kid_key t b s q (best_at r)) × (best_key r ≤ most)
+  pub over : (i : ℕ) → i < 8 → kid_key t b s q i ≤ most → kid_key t b s q i ≤ best_key r

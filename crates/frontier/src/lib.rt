@@ -29,17 +29,17 @@ pub struct Kid {
     pub span: visit::Span,
 }
 
-// The best spot of a node, if there is one: its top key, its index among the node's points and inserts, and the indices of the next
-// ones that the query wants.
+// The best spot of a node: its top key, its index among the node's points and inserts, and the indices of the next ones that the query
+// wants.
+// Stays: `more` is 1 where no next one is known, since it goes into a heap's row as the upper bits of one number.
 #[derive(Clone, Copy)]
 pub struct Pick {
-    pub there: bool,
     pub key: u64,
     pub at: usize,
     pub more: u64,
 }
 
-// The best child of a node: its key, 0 where there is none, and its index.
+// The best child of a node: its key and its index.
 #[derive(Clone, Copy)]
 pub struct KidPick {
     pub key: u64,
@@ -71,6 +71,7 @@ pub fn kid_of(t: &[u8], b: usize, i: usize, span: visit::Span) -> Kid
 }
 
 // The key by which the i-th child is read, if the query admits it, else 0.
+// Stays: 0 is under every child's key, so that the comparison which looks for the best passes it over with no test of its own.
 fn kid_key(t: &[u8], b: usize, i: usize, span: visit::Span, q: spot::Query) -> u64
     requires { ValidBlock t.now b }
     ensures { result ≡ kid_key t.now b span q i }
@@ -89,21 +90,22 @@ fn kid_key(t: &[u8], b: usize, i: usize, span: visit::Span, q: spot::Query) -> u
     cell * 65536 + ((65535 - kid.entry.block) as u64)
 }
 
-// The child with the highest key that is at most `most`.
-pub fn best_kid(t: &[u8], b: usize, span: visit::Span, q: spot::Query, most: u64) -> KidPick
+// The child with the highest key that is at most `most`, if there is one.
+pub fn best_kid(t: &[u8], b: usize, span: visit::Span, q: spot::Query, most: u64) -> Option<KidPick>
     requires { ValidBlock t.now b }
     ensures { KidBest t.now b span q most result }
 {
     let mut best = KidPick { key: 0, at: 0 };
-    let mut i = 0;
-    while i < 8 {
+    for i in 0..8 {
         let key = kid_key(t, b, i, span, q);
         if (best.key < key) & (key <= most) {
             best = KidPick { key, at: i };
         }
-        i += 1;
     }
-    best
+    if best.key == 0 {
+        return None;
+    }
+    Some(best)
 }
 
 // The root's place.
@@ -116,11 +118,7 @@ pub fn root_place(t: &[u8]) -> Place
     Place {
         block,
         level,
-        span: visit::Span {
-            lo: 0,
-            hi: 0,
-            endless: true,
-        },
+        span: visit::Span { lo: 0, hi: None },
     }
 }
 
@@ -174,6 +172,7 @@ fn waits_above(t: &[u8], rows: &[[u16; 2]], i: usize, k: u64) -> bool
     ensures { result ≡ has k (waiting_above t.now (slot_by t.now rows.now i).path) }
 {
     let mut j = i;
+    // Stays: it goes up from slot to slot, which no range does.
     while 0 < j {
         let row = rows[j];
         j = row[1] as usize / 8;
@@ -211,6 +210,7 @@ fn is_taken(q: spot::Query, k: u64, most: u64, floor: u64) -> bool
 }
 
 // What a spot must not be under to come into n rows: the last one's key, where all are taken.
+// Stays: the rows are an array of fixed length, with how many are taken beside it, since nothing is allocated.
 fn floor_few(few: &[[u64; 2]], n: usize) -> u64
     requires { (0 < length few.now) × (n ≤ length few.now) }
     ensures { result ≡ few_floor few.now n }
@@ -228,15 +228,13 @@ fn insert_few(few: &mut [[u64; 2]], n: usize, key: u64, at: usize) -> usize
     ensures { Inserted few.old n key at few.new result }
 {
     let m = n + (n < few.len()) as usize;
-    let mut i = m - 1;
-    while 0 < i {
+    for i in (1..m).rev() {
         let above = few[i - 1];
         if key < above[0] {
             few[i] = [key, at as u64];
             return m;
         }
         few[i] = above;
-        i -= 1;
     }
     few[0] = [key, at as u64];
     m
@@ -259,14 +257,12 @@ fn run_few(
 {
     let mut n = m;
     let mut floor = floor_few(few, n);
-    let mut i = from;
-    while i < to {
+    for i in from..to {
         let k = spot::read_key(t, at + 12 * i);
         if is_taken(q, k, most, floor) {
             n = insert_few(few, n, spot::top_key(k), i);
             floor = floor_few(few, n);
         }
-        i += 1;
     }
     n
 }
@@ -306,107 +302,105 @@ fn node_few(t: &[u8], b: usize, q: spot::Query, most: u64, few: &mut [[u64; 2]])
     run_few(t, at, h.p, h.p + h.i, q, most, few, n)
 }
 
-// The first of n rows, with the indices of the others.
-fn pick_of(few: &[[u64; 2]], n: usize) -> Pick
+// The first of n rows, if there is one, with the indices of the others.
+fn pick_of(few: &[[u64; 2]], n: usize) -> Option<Pick>
     requires { Packable few.now n }
     ensures { FirstOf few.now n result }
 {
     if n == 0 {
-        return Pick {
-            there: false,
-            key: 0,
-            at: 0,
-            more: 1,
-        };
+        return None;
     }
     let mut more = 1;
-    let mut i = n;
-    while 1 < i {
-        i -= 1;
+    for i in (1..n).rev() {
         let row = few[i];
         more = row[1] + 128 * more;
     }
     let best = few[0];
-    Pick {
-        there: true,
+    Some(Pick {
         key: best[0],
         at: best[1] as usize,
         more,
-    }
+    })
 }
 
-// The best spot of the node at b that the query wants and whose top key is at most `most`. At most `left` are asked for: the six after
-// it are looked for only where that is more than one.
-fn best_under(t: &[u8], b: usize, q: spot::Query, most: u64, left: usize) -> Pick
-    requires { ValidBlock t.now b }
+// The best spot of the node at b that the query wants and whose top key is at most `most`, with the N - 1 after it.
+fn best_among<const N: usize>(t: &[u8], b: usize, q: spot::Query, most: u64) -> Option<Pick>
+    requires { ValidBlock t.now b × (1 ≤ N) × (N ≤ 7) }
     ensures { PickedUnder t.now b q (most + 1) (wanted_in t.now q b) result }
 {
-    if left <= 1 {
-        let mut one = [[0u64; 2]; 1];
-        let m = node_few(t, b, q, most, &mut one);
-        return pick_of(&one, m);
-    }
-    let mut few = [[0u64; 2]; 7];
+    let mut few = [[0u64; 2]; N];
     let n = node_few(t, b, q, most, &mut few);
     pick_of(&few, n)
 }
 
+// The best spot of the node at b that the query wants and whose top key is at most `most`. At most `left` are asked for: the six after
+// it are looked for only where that is more than one.
+fn best_under(t: &[u8], b: usize, q: spot::Query, most: u64, left: usize) -> Option<Pick>
+    requires { ValidBlock t.now b }
+    ensures { PickedUnder t.now b q (most + 1) (wanted_in t.now q b) result }
+{
+    if left <= 1 {
+        return best_among::<1>(t, b, q, most);
+    }
+    best_among::<7>(t, b, q, most)
+}
+
 // The best spot of the node at b that the query wants. Of a node just read often no more is asked, so the next are not looked for.
-fn best_wanted(t: &[u8], b: usize, q: spot::Query) -> Pick
+fn best_wanted(t: &[u8], b: usize, q: spot::Query) -> Option<Pick>
     requires { ValidBlock t.now b }
     ensures { PickedUnder t.now b q all_keys (wanted_in t.now q b) result }
 {
-    best_under(t, b, q, 18446744073709551615, 1)
+    best_under(t, b, q, u64::MAX, 1)
 }
 
 // The best spot of the node at b that the query wants under the top key r, where at most `left` are asked for: the first of `more`, where
 // there is one, else a pass over the node finds it.
-fn next_wanted(t: &[u8], b: usize, q: spot::Query, r: u64, more: u64, left: usize) -> Pick
+fn next_wanted(t: &[u8], b: usize, q: spot::Query, r: u64, more: u64, left: usize) -> Option<Pick>
     requires { ValidBlock t.now b × Laddered t.now b q r more }
     ensures { PickedUnder t.now b q r (wanted_in t.now q b) result }
 {
     if more != 1 {
         let j = (more % 128) as usize;
         let s = spot_by(t, b, j);
-        return Pick {
-            there: true,
+        return Some(Pick {
             key: spot::top_key(s.key),
             at: j,
             more: more / 128,
-        };
+        });
     }
     if r == 0 {
-        return Pick {
-            there: false,
-            key: 0,
-            at: 0,
-            more: 1,
-        };
+        return None;
     }
     best_under(t, b, q, r - 1, left)
 }
 
 // The best spot that the query finds in slot i, from the best that it wants: that one is held against what waits above, then the next under it.
 // At most `left` are asked for.
-fn unwaited(t: &[u8], rows: &[[u16; 2]], i: usize, q: spot::Query, first: Pick, left: usize) -> Pick
+fn unwaited(
+    t: &[u8],
+    rows: &[[u16; 2]],
+    i: usize,
+    q: spot::Query,
+    first: Option<Pick>,
+    left: usize,
+) -> Option<Pick>
     requires { Hangs t.now rows.now i × Wished t.now (slot_by t.now rows.now i).block q first }
     ensures { Unwaited t.now (slot_by t.now rows.now i) q first result }
 {
     let row = rows[i];
     let b = row[0] as usize;
     let mut best = first;
-    while best.there {
-        let r = best.key;
-        if !waits_above(t, rows, i, spot::key_of_top(r)) {
+    while let Some(pick) = best {
+        if !waits_above(t, rows, i, spot::key_of_top(pick.key)) {
             return best;
         }
-        best = next_wanted(t, b, q, r, best.more, left);
+        best = next_wanted(t, b, q, pick.key, pick.more, left);
     }
-    best
+    None
 }
 
 // The best spot that the query finds in slot i. How many are asked for after it is not known here.
-pub fn first_pick(t: &[u8], rows: &[[u16; 2]], i: usize, q: spot::Query) -> Pick
+pub fn first_pick(t: &[u8], rows: &[[u16; 2]], i: usize, q: spot::Query) -> Option<Pick>
     requires { Hangs t.now rows.now i }
     ensures { PickedUnder t.now (slot_by t.now rows.now i).block q all_keys (found_in t.now q (slot_by t.now rows.now i)) result }
 {
@@ -424,7 +418,7 @@ pub fn next_pick(
     r: u64,
     more: u64,
     left: usize,
-) -> Pick
+) -> Option<Pick>
     requires { Hangs t.now rows.now i × Laddered t.now (slot_by t.now rows.now i).block q r more }
     ensures { PickedUnder t.now (slot_by t.now rows.now i).block q r (found_in t.now q (slot_by t.now rows.now i)) result }
 {

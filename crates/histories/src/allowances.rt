@@ -1,13 +1,14 @@
 // Top with an allowance of node blocks, compared with Top, with the list and with one block more.
 ghost use Rattle.std.specs.Prelude.{◌≡◌, ◌≤◌, true};
+ghost use Rattle.block.specs.Answers.{answer_of};
 ghost use Rattle.spot.specs.Spots.{limited_from};
 ghost use Rattle.table.specs.Queries.{GivenInside};
 
 use crate::asks::{FIRST, LAST, call_top, top_in_list};
-use crate::batches::{later, lay_second, next_range, same_bytes, smaller};
-use crate::kinds::below;
-use crate::list::SLOTS;
-use crate::{Run, asks, compared, drawn, found, list, next, seeded, told};
+use crate::batches::{later, lay_second, next_range};
+use crate::list::{List, SLOTS};
+use crate::{Run, asks, compared, drawn, found, told};
+use random::{below, next};
 
 // What a call is asked.
 #[derive(Clone, Copy)]
@@ -19,12 +20,7 @@ struct Question {
 }
 
 fn allowing(q: Question, allowance: u32) -> Question {
-    Question {
-        x1: q.x1,
-        x2: q.x2,
-        k: q.k,
-        allowance,
-    }
+    Question { allowance, ..q }
 }
 
 // All places in one call of four, else some range.
@@ -42,15 +38,12 @@ fn draw_range(seed: u64) -> ranges::Range {
 
 // Under 24 spots, under 200, or all.
 fn draw_number(seed: u64) -> u32 {
-    let kind = below(seed, 16);
     let s = next(seed);
-    if kind == 0 {
-        return 4294967295;
+    match below(seed, 16) {
+        0 => u32::MAX,
+        1..=5 => below(s, 200) as u32,
+        _ => below(s, 24) as u32,
     }
-    if kind < 6 {
-        return below(s, 200) as u32;
-    }
-    below(s, 24) as u32
 }
 
 // A question that allows no block yet.
@@ -71,26 +64,18 @@ fn blocks_of(map: &[u8; 512]) -> usize {
 // The node blocks that Top marks, or one less or more.
 fn near(seed: u64, marks: &[u8; 512]) -> u32 {
     let blocks = blocks_of(marks) as u64 % 4096 + below(seed, 3);
-    if blocks < 2 {
-        return 0;
-    }
-    (blocks - 2) as u32
+    blocks.saturating_sub(2) as u32
 }
 
 // Under 8 blocks, under 64, without limit, or about as many as Top marks.
 fn draw_allowance(seed: u64, marks: &[u8; 512]) -> u32 {
-    let kind = below(seed, 8);
     let s = next(seed);
-    if kind == 0 {
-        return 4294967295;
+    match below(seed, 8) {
+        0 => u32::MAX,
+        1 => below(s, 64) as u32,
+        2..=4 => below(s, 8) as u32,
+        _ => near(s, marks),
     }
-    if kind == 1 {
-        return below(s, 64) as u32;
-    }
-    if kind < 5 {
-        return below(s, 8) as u32;
-    }
-    near(s, marks)
 }
 
 // Makes the call with so many bytes of the output. The ceiling is lent as a number that no refusal leaves.
@@ -101,10 +86,10 @@ fn call(
     room: usize,
     map: &mut [u8; 512],
 ) -> within::Said
-    ensures { GivenInside result.answer output.new }
+    ensures { GivenInside (answer_of result.answer) output.new }
 {
     let mut ceiling = 165;
-    let o = smaller(room, output.len());
+    let o = room.min(output.len());
     let answer = within::top_within(
         table,
         q.x1,
@@ -123,13 +108,13 @@ fn begins(output: &[u8; 57408], spots: &[u8; 57408], n: usize) -> bool
     requires { n ≤ 4784 }
 {
     let mut wanted = [165u8; 57408];
-    octets::copy(spots, &mut wanted, 12 * n);
-    same_bytes(output, &wanted)
+    wanted[..12 * n].copy_from_slice(&spots[..12 * n]);
+    *output == wanted
 }
 
 // Whether a map marks block 0 and, of the blocks that Top marks, as many as are allowed.
 fn reads_allowed(allowance: u32, map: &[u8; 512], marks: &[u8; 512]) -> bool {
-    let most = smaller(allowance as usize + 1, blocks_of(marks));
+    let most = (allowance as usize + 1).min(blocks_of(marks));
     octets::test_bit(map, 0) & asks::within(map, marks, marks) & (blocks_of(map) == most)
 }
 
@@ -144,9 +129,9 @@ fn is_top(
     if q.allowance as usize + 1 < blocks_of(marks) {
         return true;
     }
-    let n = said.answer.detail;
+    let n = block::answer_of(said.answer).detail;
     let closed = (q.k <= n) | (said.ceiling == FIRST);
-    (n == top.detail) & same_bytes(map, marks) & closed
+    (n == top.detail) & (map == marks) & closed
 }
 
 // Top of the same arguments reads in the same order, so that it begins with the spots given.
@@ -160,8 +145,8 @@ fn beside_top(
     spots: &[u8; 57408],
     marks: &[u8; 512],
 ) -> Run {
-    let n = said.answer.detail;
-    let first = (n <= top.detail) & begins(output, spots, smaller(n as usize, SLOTS));
+    let n = block::answer_of(said.answer).detail;
+    let first = (n <= top.detail) & begins(output, spots, (n as usize).min(SLOTS));
     let begun = compared(run, (top.number == 0) & first);
     let allowed = reads_allowed(q.allowance, map, marks);
     let read = found(begun, blocks_of(map) as u64, allowed);
@@ -169,12 +154,12 @@ fn beside_top(
 }
 
 // The number of spots of the list in range that are above a rank.
-fn above(list: &[u64; 9568], x1: i32, x2: i32, rank: i32) -> u64 {
+fn above(list: &List, x1: i32, x2: i32, rank: i32) -> u64 {
     let y = spot::bias(rank) + 1;
     if 4294967295 < y {
         return 0;
     }
-    list::report_count(list, x1, x2, spot::unbias(y))
+    list.report_count(x1, x2, spot::unbias(y))
 }
 
 // Whether the last of n spots is not under a rank.
@@ -188,13 +173,7 @@ fn reach(output: &[u8; 57408], n: usize, rank: i32) -> bool
 }
 
 // Whether the list has no spot above the ceiling but among the n given, which are not under it. Where nothing may be read or given, it is the last rank.
-fn ceiling_holds(
-    list: &[u64; 9568],
-    q: Question,
-    ceiling: i32,
-    output: &[u8; 57408],
-    n: usize,
-) -> bool
+fn ceiling_holds(list: &List, q: Question, ceiling: i32, output: &[u8; 57408], n: usize) -> bool
     requires { (n ≤ 4784) × (limited_from output.now 12 n 0 ≡ true) }
 {
     if (q.k == 0) | (q.allowance == 0) {
@@ -204,17 +183,12 @@ fn ceiling_holds(
 }
 
 // The spots and the ceiling, compared with the list.
-fn in_list(
-    list: &[u64; 9568],
-    run: Run,
-    q: Question,
-    said: within::Said,
-    output: &[u8; 57408],
-) -> Run
-    requires { GivenInside said.answer output.now }
+fn in_list(list: &List, run: Run, q: Question, said: within::Said, output: &[u8; 57408]) -> Run
+    requires { GivenInside (answer_of said.answer) output.now }
 {
-    let n = said.answer.detail as usize;
-    if (said.answer.number != 0) | (SLOTS < n) {
+    let a = block::answer_of(said.answer);
+    let n = a.detail as usize;
+    if (a.number != 0) | (SLOTS < n) {
         return run;
     }
     let seen = top_in_list(output, n, list, run, q.x1, q.x2);
@@ -224,25 +198,20 @@ fn in_list(
 
 // One block more never gives fewer spots, raises the ceiling or leaves out a mark.
 fn beside_more(table: &[u8], run: Run, q: Question, said: within::Said, map: &[u8; 512]) -> Run {
-    if q.allowance == 4294967295 {
+    if q.allowance == u32::MAX {
         return run;
     }
     let mut o = [165u8; 57408];
     let mut m = [165u8; 512];
     let more = call(table, allowing(q, q.allowance + 1), &mut o, 57408, &mut m);
-    let grown = (said.answer.detail <= more.answer.detail) & (more.ceiling <= said.ceiling);
-    let accepted = more.answer.number == 0;
-    compared(run, accepted & grown & asks::within(map, &m, &m))
-}
-
-fn same_said(a: within::Said, b: within::Said) -> bool {
-    let same = (a.answer.number == b.answer.number) & (a.answer.detail == b.answer.detail);
-    same & (a.ceiling == b.ceiling)
+    let n = block::answer_of(said.answer).detail;
+    let grown = (n <= block::answer_of(more.answer).detail) & (more.ceiling <= said.ceiling);
+    compared(run, more.answer.is_ok() & grown & asks::within(map, &m, &m))
 }
 
 // Whether two outputs and two maps are the same.
 fn same_left(a: &[u8; 57408], b: &[u8; 57408], m: &[u8; 512], n: &[u8; 512]) -> bool {
-    same_bytes(a, b) & same_bytes(m, n)
+    (a == b) & (m == n)
 }
 
 // Makes the call again and compares all of it.
@@ -258,7 +227,7 @@ fn call_again(
     let mut m = [165u8; 512];
     let again = call(table, q, &mut o, 57408, &mut m);
     let left = same_left(&o, output, &m, map);
-    compared(run, same_said(said, again) & left)
+    compared(run, (again == said) & left)
 }
 
 // The call on a second table.
@@ -296,14 +265,14 @@ fn refused_short(table: &[u8], run: Run, q: Question, n: usize) -> Run
     let mut o = [165u8; 57408];
     let mut m = [165u8; 512];
     let said = call(table, q, &mut o, 12 * n - 1, &mut m);
-    let answered = told(run, said.answer, 5, n as u64);
+    let answered = told(run, block::answer_of(said.answer), 5, n as u64);
     compared(answered, (said.ceiling == 0) & as_lent(&o, &m))
 }
 
 fn compare(
     table: &[u8],
     second: &mut [u8],
-    list: &[u64; 9568],
+    list: &List,
     run: Run,
     q: Question,
     top: block::Answer,
@@ -313,17 +282,18 @@ fn compare(
     let mut output = [165u8; 57408];
     let mut map = [165u8; 512];
     let said = call(table, q, &mut output, 57408, &mut map);
-    let answered = told(run, said.answer, 0, said.answer.detail as u64);
+    let a = block::answer_of(said.answer);
+    let answered = told(run, a, 0, a.detail as u64);
     let begun = beside_top(answered, q, said, &output, &map, top, spots, marks);
     let listed = in_list(list, begun, q, said, &output);
     let wider = beside_more(table, listed, q, said, &map);
     let again = on_second(table, second, wider, q, said, &output, &map);
-    let n = smaller(said.answer.detail as usize, SLOTS);
+    let n = (a.detail as usize).min(SLOTS);
     refused_short(table, again, q, n)
 }
 
 // A call, and those beside it; the second table lies in bytes that are of no account between the calls.
-pub fn ask(table: &[u8], second: &mut [u8], list: &[u64; 9568], run: Run) -> Run {
+pub fn ask(table: &[u8], second: &mut [u8], list: &List, run: Run) -> Run {
     let r = drawn(run);
     let s = later(later(later(r.seed)));
     let asked = draw_question(r.seed);
@@ -331,6 +301,9 @@ pub fn ask(table: &[u8], second: &mut [u8], list: &[u64; 9568], run: Run) -> Run
     let mut marks = [165u8; 512];
     let top = call_top(table, asked.x1, asked.x2, asked.k, &mut spots, &mut marks);
     let q = allowing(asked, draw_allowance(s, &marks));
-    let after = seeded(run, later(s));
+    let after = Run {
+        seed: later(s),
+        ..run
+    };
     compare(table, second, list, after, q, top, &spots, &marks)
 }

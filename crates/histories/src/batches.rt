@@ -3,19 +3,13 @@ ghost use Rattle.table.specs.Queries.{GivenInside};
 ghost use Rattle.std.specs.Prelude.{◌<◌, ◌≤◌, length};
 
 use crate::asks::{call_report, spots_in_list};
-use crate::kinds::{around, below};
-use crate::list::SLOTS;
-use crate::{Run, compared, drawn, found, list, next, seeded, told};
+use crate::kinds::around;
+use crate::list::{List, SLOTS};
+use crate::{Run, compared, drawn, found, told};
+use random::{below, next};
 
 // A count as it is lent.
 const LENT: u32 = 2779096485;
-
-// Ranges, and the random number after them.
-#[derive(Clone, Copy)]
-struct Drawn {
-    seed: u64,
-    batch: ranges::Batch,
-}
 
 // What a call gets beside the table: the ranges, and how many counts and bytes of the output and of the map. The list has so many spots for them.
 #[derive(Clone, Copy)]
@@ -25,14 +19,6 @@ struct Handed {
     room: usize,
     map: usize,
     spots: u64,
-}
-
-// A single report: the history after it, how many spots it gave, and where they end among those of all.
-#[derive(Clone, Copy)]
-struct Single {
-    run: Run,
-    count: u32,
-    end: usize,
 }
 
 pub fn later(seed: u64) -> u64 {
@@ -72,40 +58,32 @@ fn any_range(seed: u64) -> ranges::Range {
 pub fn next_range(seed: u64, last: ranges::Range, width: u64) -> ranges::Range
     requires { (0 < width) × (width ≤ 4096) }
 {
-    let kind = below(seed, 10);
     let s = next(seed);
-    if kind == 0 {
-        return last;
+    match below(seed, 10) {
+        0 => last,
+        1 | 2 => {
+            let start = (spot::bias(last.x1) + below(s, 30)) % 4294967296;
+            stretch(next(s), start, width)
+        }
+        3 => past_door(s),
+        4 if 1000 < width => any_range(s),
+        _ => stretch(next(s), spot::bias(around(s, 3000)), width),
     }
-    if kind < 3 {
-        let start = (spot::bias(last.x1) + below(s, 30)) % 4294967296;
-        return stretch(next(s), start, width);
-    }
-    if kind == 3 {
-        return past_door(s);
-    }
-    if (kind == 4) & (1000 < width) {
-        return any_range(s);
-    }
-    stretch(next(s), spot::bias(around(s, 3000)), width)
 }
 
-// So many ranges; those from the 65th on are of no account.
-fn draw_ranges(seed: u64, n: usize, width: u64) -> Drawn
+// So many ranges, and the random number after them; those from the 65th on are of no account.
+fn draw_ranges(seed: u64, n: usize, width: u64) -> (ranges::Batch, u64)
     requires { (0 < width) × (width ≤ 4096) }
 {
     let mut last = ranges::Range { x1: 0, x2: 0, y: 0 };
     let mut all = [last; 64];
     let mut s = seed;
-    let mut i = 0;
-    while i < 64 {
+    for i in 0..64 {
         last = next_range(s, last, width);
         all[i] = last;
         s = later(s);
-        i += 1;
     }
-    let batch = ranges::Batch { n, all };
-    Drawn { seed: s, batch }
+    (ranges::Batch { n, all }, s)
 }
 
 // Up to 66 ranges, or up to eight.
@@ -148,42 +126,25 @@ fn draw_map(seed: u64) -> usize {
 // Room for all spots of the table, or for those of the call alone, or a byte less.
 fn draw_room(seed: u64, total: u64) -> usize {
     let bytes = 12 * (total % 4785);
-    let kind = below(seed, 8);
-    if kind == 0 {
-        return bytes as usize;
+    match below(seed, 8) {
+        0 => bytes as usize,
+        1 => ((bytes + 57407) % 57408) as usize,
+        _ => 57408,
     }
-    if kind == 1 {
-        return ((bytes + 57407) % 57408) as usize;
-    }
-    57408
-}
-
-pub fn smaller(a: usize, b: usize) -> usize
-    ensures { result ≤ b }
-{
-    if a < b {
-        return a;
-    }
-    b
 }
 
 // The number of spots that the list has for all ranges.
-fn total(list: &[u64; 9568], b: ranges::Batch) -> u64 {
-    let n = smaller(b.n, 64);
-    let all = b.all;
-    let mut spots = 0;
-    let mut i = 0;
-    while i < n {
-        let r = all[i];
-        spots = std::num::wrapping_add_u64(spots, list::report_count(list, r.x1, r.x2, r.y));
-        i += 1;
+fn total(list: &List, b: &ranges::Batch) -> u64 {
+    let mut spots = 0u64;
+    for r in &b.all[..b.n.min(64)] {
+        spots = spots.wrapping_add(list.report_count(r.x1, r.x2, r.y));
     }
     spots
 }
 
 // What a call of such ranges gets.
-fn draw_handed(list: &[u64; 9568], seed: u64, batch: ranges::Batch) -> Handed {
-    let spots = total(list, batch);
+fn draw_handed(list: &List, seed: u64, batch: ranges::Batch) -> Handed {
+    let spots = total(list, &batch);
     let s = later(seed);
     Handed {
         batch,
@@ -195,6 +156,7 @@ fn draw_handed(list: &[u64; 9568], seed: u64, batch: ranges::Batch) -> Handed {
 }
 
 // The number that the list asks for.
+// Stays: a number for a refusal, since it is held to the number that the call answers.
 fn number_of(h: Handed) -> u32 {
     let n = h.batch.n;
     if (h.map != 512) | (h.counts != n) {
@@ -224,42 +186,17 @@ fn call_many(
     output: &mut [u8],
     map: &mut [u8],
 ) -> block::Answer {
-    let c = smaller(h.counts, counts.len());
-    let o = smaller(h.room, output.len());
-    let m = smaller(h.map, map.len());
-    let batch = h.batch;
-    many::report_batch(
+    let c = h.counts.min(counts.len());
+    let o = h.room.min(output.len());
+    let m = h.map.min(map.len());
+    let reported = many::report_batch(
         table,
-        batch,
+        h.batch,
         &mut counts[0..c],
         &mut output[0..o],
         &mut map[0..m],
-    )
-}
-
-fn same_counts(a: &[u32; 66], b: &[u32; 66]) -> bool {
-    let mut i = 0;
-    while i < 66 {
-        if a[i] != b[i] {
-            return false;
-        }
-        i += 1;
-    }
-    true
-}
-
-pub fn same_bytes(a: &[u8], b: &[u8]) -> bool {
-    if a.len() != b.len() {
-        return false;
-    }
-    let mut i = 0;
-    while i < a.len() {
-        if a[i] != b[i] {
-            return false;
-        }
-        i += 1;
-    }
-    true
+    );
+    block::answer_of(reported)
 }
 
 // Makes the call and compares its answer and all that it leaves, behind what it is lent too.
@@ -277,43 +214,29 @@ fn call_leaves(
     let a = call_many(table, h, &mut c, &mut o, &mut m);
     let number = number_of(h);
     let answered = told(run, a, number, detail_of(h, number));
-    let same = same_counts(&c, counts) & same_bytes(&o, output) & same_bytes(&m, map);
+    let same = (c == *counts) & (o == *output) & (m == *map);
     compared(answered, same)
 }
 
 // Lays n bytes of one output into another and says where they end. Those that don't fit are left out.
+// Stays: spots laid so far, with their length beside, since nothing here takes memory from a heap.
 fn lay(from: &[u8; 57408], n: usize, to: &mut [u8; 57408], at: usize) -> usize {
-    if 57408 < at {
+    if (57408 < at) || (57408 - at < n) {
         return at;
     }
-    if 57408 - at < n {
-        return at;
-    }
-    let mut i = 0;
-    while i < n {
-        to[at + i] = from[i];
-        i += 1;
-    }
+    to[at..at + n].copy_from_slice(&from[..n]);
     at + n
 }
 
 // Marks in one map what another marks.
 fn join(map: &mut [u8; 513], own: &[u8; 512]) {
-    let mut i = 0;
-    while i < 512 {
-        map[i] = map[i] | own[i];
-        i += 1;
+    for i in 0..512 {
+        map[i] |= own[i];
     }
 }
 
 // The spots of a single report, compared with the list.
-fn one_in_list(
-    list: &[u64; 9568],
-    run: Run,
-    r: ranges::Range,
-    a: block::Answer,
-    own: &[u8; 57408],
-) -> Run
+fn one_in_list(list: &List, run: Run, r: ranges::Range, a: block::Answer, own: &[u8; 57408]) -> Run
     requires { GivenInside a own.now }
 {
     let n = a.detail as usize;
@@ -323,84 +246,55 @@ fn one_in_list(
     spots_in_list(own, n, list, run, r.x1, r.x2, r.y, false)
 }
 
-// The report of one range alone, compared with the list; its spots go behind those of the ranges before, its marks beside theirs.
+// The report of one range alone, compared with the list; its spots go behind those of the ranges before, its marks beside theirs. The history after it, how many spots it gave, and
+// where they end among those of all.
 fn report_one(
     table: &[u8],
-    list: &[u64; 9568],
+    list: &List,
     run: Run,
     r: ranges::Range,
     at: usize,
     output: &mut [u8; 57408],
     map: &mut [u8; 513],
-) -> Single {
+) -> (Run, u32, usize) {
     let mut own = [0u8; 57408];
     let mut marks = [0u8; 512];
     let a = call_report(table, r.x1, r.x2, r.y, &mut own, &mut marks);
-    let right = a.detail as u64 == list::report_count(list, r.x1, r.x2, r.y);
+    let right = a.detail as u64 == list.report_count(r.x1, r.x2, r.y);
     let counted = found(run, a.detail as u64, right & (a.number == 0));
-    let n = smaller(a.detail as usize, SLOTS);
+    let n = (a.detail as usize).min(SLOTS);
     let end = lay(&own, 12 * n, output, at);
     join(map, &marks);
-    Single {
-        run: one_in_list(list, counted, r, a, &own),
-        count: a.detail,
-        end,
-    }
+    (one_in_list(list, counted, r, a, &own), a.detail, end)
 }
 
 // The reports of all ranges, one by one.
 fn report_each(
     table: &[u8],
-    list: &[u64; 9568],
+    list: &List,
     begun: Run,
     b: ranges::Batch,
     counts: &mut [u32; 66],
     output: &mut [u8; 57408],
     map: &mut [u8; 513],
 ) -> Run {
-    let n = smaller(b.n, 64);
-    let all = b.all;
     let mut run = begun;
     let mut at = 0;
-    let mut i = 0;
-    while i < n {
-        let one = report_one(table, list, run, all[i], at, output, map);
-        run = one.run;
-        at = one.end;
-        counts[i] = one.count;
-        i += 1;
+    for i in 0..b.n.min(64) {
+        (run, counts[i], at) = report_one(table, list, run, b.all[i], at, output, map);
     }
     run
 }
 
-// Copies a block that is marked.
-fn copy_block(table: &[u8], second: &mut [u8], map: &[u8], b: usize) {
-    if 4096 <= b {
-        return;
-    }
-    if map.len() < 512 {
-        return;
-    }
-    if !octets::test_bit(map, b) {
-        return;
-    }
-    let at = 2048 * b;
-    let end = at + 2048;
-    if table.len() < end {
-        return;
-    }
-    if second.len() < end {
-        return;
-    }
-    octets::copy(&table[at..end], &mut second[at..end], 2048);
-}
-
-fn copy_marked(table: &[u8], second: &mut [u8], map: &[u8]) {
-    let n = table.len() / 2048;
-    let mut b = 0;
-    while b < n {
-        copy_block(table, second, map, b);
-        b += 1;
+// Copies the blocks that are marked.
+fn copy_marked(table: &[u8], second: &mut [u8], map: &[u8])
+    requires { length table.now ≤ length second.old }
+{
+    for b in 0..table.len() / 2048 {
+        if b / 8 < map.len() && octets::test_bit(map, b) {
+            let at = 2048 * b;
+            second[at..at + 2048].copy_from_slice(&table[at..at + 2048]);
+        }
     }
 }
 
@@ -408,7 +302,7 @@ fn copy_marked(table: &[u8], second: &mut [u8], map: &[u8]) {
 pub fn lay_second(table: &[u8], second: &mut [u8], map: &[u8])
     requires { length table.now ≤ length second.old }
 {
-    octets::zero(second, table.len());
+    second[..table.len()].fill(0);
     copy_marked(table, second, map);
 }
 
@@ -430,27 +324,42 @@ fn on_second(
     call_leaves(&second[0..n], h, run, counts, output, map)
 }
 
-fn compare(table: &[u8], second: &mut [u8], list: &[u64; 9568], run: Run, h: Handed) -> Run {
+fn compare(table: &[u8], second: &mut [u8], list: &List, run: Run, h: Handed) -> Run {
     let mut counts = [LENT; 66];
     let mut output = [165u8; 57408];
     let mut map = [165u8; 513];
     if number_of(h) != 0 {
         return call_leaves(table, h, run, &counts, &output, &map);
     }
-    octets::zero(&mut map, 512);
+    map[..512].fill(0);
     octets::set_bit(&mut map, 0);
-    let batch = h.batch;
-    let asked = report_each(table, list, run, batch, &mut counts, &mut output, &mut map);
+    let asked = report_each(
+        table,
+        list,
+        run,
+        h.batch,
+        &mut counts,
+        &mut output,
+        &mut map,
+    );
     let called = call_leaves(table, h, asked, &counts, &output, &map);
     on_second(table, second, h, called, &counts, &output, &map)
 }
 
 // A call of many ranges; the second table lies in bytes that are of no account between the calls.
-pub fn ask(table: &[u8], second: &mut [u8], list: &[u64; 9568], run: Run) -> Run {
+pub fn ask(table: &[u8], second: &mut [u8], list: &List, run: Run) -> Run {
     let r = drawn(run);
     let s = later(r.seed);
-    let d = draw_ranges(later(s), draw_number(s), draw_width(r.seed));
-    let after = seeded(run, later(later(d.seed)));
-    let batch = d.batch;
-    compare(table, second, list, after, draw_handed(list, d.seed, batch))
+    let (batch, drawn_to) = draw_ranges(later(s), draw_number(s), draw_width(r.seed));
+    let after = Run {
+        seed: later(later(drawn_to)),
+        ..run
+    };
+    compare(
+        table,
+        second,
+        list,
+        after,
+        draw_handed(list, drawn_to, batch),
+    )
 }

@@ -10,6 +10,10 @@ mod kinds;
 mod list;
 mod messages;
 
+use kinds::{Kind, Stage};
+use list::List;
+use random::next;
+
 // What a history has come to: its random number, how many calls were made, refused and answered wrongly, and a digest of all answers.
 #[derive(Clone, Copy)]
 struct Run {
@@ -29,12 +33,11 @@ struct Played {
     sent: Run,
 }
 
-// A change to be made, and the random number after it.
-#[derive(Clone, Copy)]
-struct Change {
-    adds: bool,
-    id: u64,
-    seed: u64,
+// A change to be made of the spot with an identity.
+#[derive(Clone, Copy, Debug, PartialEq, Eq)]
+enum Change {
+    Add(u64),
+    Withdraw(u64),
 }
 
 fn begun(seed: u64) -> Run {
@@ -47,116 +50,76 @@ fn begun(seed: u64) -> Run {
     }
 }
 
-fn next(s: u64) -> u64
-    ensures { result < 4294967296 }
-{
-    (1664525 * (s % 4294967296) + 1013904223) % 4294967296
-}
-
-fn more(n: u64, b: bool) -> u64 {
-    std::num::wrapping_add_u64(n, b as u64)
-}
-
-fn seeded(run: Run, seed: u64) -> Run {
-    Run {
-        seed,
-        calls: run.calls,
-        refused: run.refused,
-        wrong: run.wrong,
-        digest: run.digest,
-    }
-}
-
 fn drawn(run: Run) -> Run {
-    seeded(run, next(run.seed))
+    Run {
+        seed: next(run.seed),
+        ..run
+    }
 }
 
 // Something was compared with the list.
 fn compared(run: Run, right: bool) -> Run {
     Run {
-        seed: run.seed,
-        calls: run.calls,
-        refused: run.refused,
-        wrong: more(run.wrong, !right),
-        digest: run.digest,
+        wrong: run.wrong.wrapping_add(u64::from(!right)),
+        ..run
     }
 }
 
 // A number of an answer was compared; it joins the digest.
 fn found(run: Run, x: u64, right: bool) -> Run {
     Run {
-        seed: run.seed,
-        calls: run.calls,
-        refused: run.refused,
-        wrong: more(run.wrong, !right),
-        digest: next(std::num::wrapping_add_u64(run.digest, x)),
+        wrong: run.wrong.wrapping_add(u64::from(!right)),
+        digest: next(run.digest.wrapping_add(x)),
+        ..run
     }
 }
 
 fn called(run: Run, refused: bool) -> Run {
     Run {
-        seed: run.seed,
-        calls: more(run.calls, true),
-        refused: more(run.refused, refused),
-        wrong: run.wrong,
-        digest: run.digest,
+        calls: run.calls.wrapping_add(1),
+        refused: run.refused.wrapping_add(u64::from(refused)),
+        ..run
     }
 }
 
 // A call gave this answer; the list asks for a number and a detail.
 fn told(run: Run, a: block::Answer, number: u32, detail: u64) -> Run {
     let counted = called(run, a.number != 0);
-    let first = found(counted, a.number as u64, a.number == number);
-    found(first, a.detail as u64, a.detail as u64 == detail)
+    let first = found(counted, u64::from(a.number), a.number == number);
+    found(first, u64::from(a.detail), u64::from(a.detail) == detail)
 }
 
-fn change_table(
-    table: &mut [u8],
-    scratch: &mut [u8],
-    adds: bool,
-    id: u64,
-    track: u32,
-) -> block::Answer {
-    let place = spot::place_of(id);
-    let rank = spot::rank_in(id);
-    if adds {
-        return table::add(table, scratch, place, rank, track);
-    }
-    table::withdraw(table, scratch, place, rank)
+// An added spot gets this track.
+fn change_table(table: &mut [u8], scratch: &mut [u8], c: Change, track: u32) -> block::Answer {
+    let done = match c {
+        Change::Add(id) => {
+            table::add(table, scratch, spot::place_of(id), spot::rank_in(id), track)
+        }
+        Change::Withdraw(id) => {
+            table::withdraw(table, scratch, spot::place_of(id), spot::rank_in(id))
+        }
+    };
+    block::told(done)
 }
 
 // The number that the list asks for.
-fn change_list(list: &mut [u64; 9568], capacity: u64, adds: bool, id: u64, track: u64) -> u32 {
-    if list::outside(spot::place_of(id)) {
-        return 9;
+fn change_list(list: &mut List, capacity: u64, c: Change, track: u32) -> u32 {
+    match c {
+        Change::Add(id) => list.add(capacity, list::Held { id, track }),
+        Change::Withdraw(id) => list.withdraw(id),
     }
-    if adds {
-        return list::add(list, capacity, id, track);
-    }
-    list::withdraw(list, id);
-    0
 }
 
-fn step(
-    table: &mut [u8],
-    scratch: &mut [u8],
-    list: &mut [u64; 9568],
-    capacity: u64,
-    kind: u64,
-    i: u64,
-    run: Run,
-) -> Run
-    requires { (0 < capacity) × (capacity ≤ 4784) × (i < 65536) }
-{
-    let c = kinds::next_change(list, next(run.seed), capacity, kind, i);
-    let track = next(c.seed);
-    let a = change_table(table, scratch, c.adds, c.id, track as u32);
-    let number = change_list(list, capacity, c.adds, c.id, track);
-    told(seeded(run, c.seed), a, number, 0)
+fn step(table: &mut [u8], scratch: &mut [u8], list: &mut List, stage: Stage, run: Run) -> Run {
+    let (c, seed) = kinds::next_change(list, next(run.seed), stage);
+    let track = next(seed) as u32;
+    let a = change_table(table, scratch, c, track);
+    let number = change_list(list, stage.capacity, c, track);
+    told(Run { seed, ..run }, a, number, 0)
 }
 
 // A look after every 151 steps.
-fn look_at_times(table: &[u8], list: &[u64; 9568], i: u64, run: Run) -> Run {
+fn look_at_times(table: &[u8], list: &List, i: u64, run: Run) -> Run {
     if i % 151 == 150 {
         return asks::look(table, list, run);
     }
@@ -164,7 +127,7 @@ fn look_at_times(table: &[u8], list: &[u64; 9568], i: u64, run: Run) -> Run {
 }
 
 // Many ranges in one call after every 75 steps.
-fn ask_at_times(table: &[u8], scratch: &mut [u8], list: &[u64; 9568], i: u64, run: Run) -> Run {
+fn ask_at_times(table: &[u8], scratch: &mut [u8], list: &List, i: u64, run: Run) -> Run {
     if i % 75 == 74 {
         return batches::ask(table, scratch, list, run);
     }
@@ -172,7 +135,7 @@ fn ask_at_times(table: &[u8], scratch: &mut [u8], list: &[u64; 9568], i: u64, ru
 }
 
 // An allowance after every 50 steps.
-fn allow_at_times(table: &[u8], scratch: &mut [u8], list: &[u64; 9568], i: u64, run: Run) -> Run {
+fn allow_at_times(table: &[u8], scratch: &mut [u8], list: &List, i: u64, run: Run) -> Run {
     if i % 50 == 49 {
         return allowances::ask(table, scratch, list, run);
     }
@@ -183,31 +146,26 @@ fn allow_at_times(table: &[u8], scratch: &mut [u8], list: &[u64; 9568], i: u64, 
 fn send_at_times(
     table: &mut [u8],
     scratch: &mut [u8],
-    list: &mut [u64; 9568],
-    capacity: u64,
-    kind: u64,
-    i: u64,
+    list: &mut List,
+    stage: Stage,
     run: Run,
-) -> Run
-    requires { (0 < capacity) × (capacity ≤ 4784) × (i < 65536) }
-{
-    if i % 40 == 39 {
+) -> Run {
+    if stage.i % 40 == 39 {
         messages::keep(table, scratch);
-        return messages::send(table, scratch, list, capacity, kind, i, run);
+        return messages::send(table, scratch, list, stage, run);
     }
     run
 }
 
-fn ask_all(table: &[u8], scratch: &mut [u8], list: &[u64; 9568], i: u64, played: Played) -> Played {
+fn ask_all(table: &[u8], scratch: &mut [u8], list: &List, i: u64, played: Played) -> Played {
     let run = look_at_times(table, list, i, played.run);
     let many = ask_at_times(table, scratch, list, i, played.many);
     let within = allow_at_times(table, scratch, list, i, played.within);
-    let sent = played.sent;
     Played {
         run,
         many,
         within,
-        sent,
+        ..played
     }
 }
 
@@ -215,23 +173,16 @@ fn ask_all(table: &[u8], scratch: &mut [u8], list: &[u64; 9568], i: u64, played:
 fn step_and_send(
     table: &mut [u8],
     scratch: &mut [u8],
-    list: &mut [u64; 9568],
-    capacity: u64,
-    kind: u64,
-    i: u64,
+    list: &mut List,
+    stage: Stage,
     played: Played,
-) -> Played
-    requires { (0 < capacity) × (capacity ≤ 4784) × (i < 65536) }
-{
-    let run = step(table, scratch, list, capacity, kind, i, played.run);
-    let sent = send_at_times(table, scratch, list, capacity, kind, i, played.sent);
-    let many = played.many;
-    let within = played.within;
+) -> Played {
+    let run = step(table, scratch, list, stage, played.run);
+    let sent = send_at_times(table, scratch, list, stage, played.sent);
     Played {
         run,
-        many,
-        within,
         sent,
+        ..played
     }
 }
 
@@ -239,82 +190,49 @@ fn step_and_send(
 fn turn(
     table: &mut [u8],
     scratch: &mut [u8],
-    list: &mut [u64; 9568],
-    capacity: u64,
-    kind: u64,
-    i: u64,
+    list: &mut List,
+    stage: Stage,
     played: Played,
-) -> Played
-    requires { (0 < capacity) × (capacity ≤ 4784) × (i < 65536) }
-{
-    let changed = step_and_send(table, scratch, list, capacity, kind, i, played);
-    ask_all(table, scratch, list, i, changed)
-}
-
-fn turns(
-    table: &mut [u8],
-    scratch: &mut [u8],
-    list: &mut [u64; 9568],
-    capacity: u64,
-    kind: u64,
-    n: u64,
-    begun: Played,
-) -> Played
-    requires { (0 < capacity) × (capacity ≤ 4784) × (n ≤ 65536) }
-{
-    let mut played = begun;
-    let mut i = 0;
-    while i < n {
-        played = turn(table, scratch, list, capacity, kind, i, played);
-        i += 1;
-    }
-    played
+) -> Played {
+    let changed = step_and_send(table, scratch, list, stage, played);
+    ask_all(table, scratch, list, stage.i, changed)
 }
 
 // All of the table, many ranges, and an allowance.
-fn see_all(table: &[u8], scratch: &mut [u8], list: &[u64; 9568], played: Played) -> Played {
+fn see_all(table: &[u8], scratch: &mut [u8], list: &List, played: Played) -> Played {
     let many = batches::ask(table, scratch, list, played.many);
     let within = allowances::ask(table, scratch, list, played.within);
     let run = asks::look_at_all(table, list, played.run);
-    let sent = played.sent;
     Played {
         run,
         many,
         within,
-        sent,
+        ..played
     }
 }
 
 fn rebuild(table: &mut [u8], scratch: &mut [u8], played: Played) -> Played {
-    let run = told(played.run, table::rebuild(table, scratch), 0, 0);
-    let many = played.many;
-    let within = played.within;
-    let sent = played.sent;
-    Played {
-        run,
-        many,
-        within,
-        sent,
-    }
+    let rebuilt = table::rebuild(table, scratch);
+    let run = told(played.run, block::told(rebuilt), 0, 0);
+    Played { run, ..played }
 }
 
 // All before and after a rebuild.
-fn end(table: &mut [u8], scratch: &mut [u8], list: &[u64; 9568], played: Played) -> Played {
+fn end(table: &mut [u8], scratch: &mut [u8], list: &List, played: Played) -> Played {
     let seen = see_all(table, scratch, list, played);
     let anew = rebuild(table, scratch, seen);
     see_all(table, scratch, list, anew)
 }
 
-fn format(table: &mut [u8], capacity: u64, kind: u64) -> Played {
-    let run = told(begun(kind), table::format(table), 0, 0);
-    let many = begun(std::num::wrapping_add_u64(capacity, kind));
-    let within = many;
-    let sent = many;
+fn format(table: &mut [u8], capacity: u64, kind: Kind) -> Played {
+    let formatted = table::format(table);
+    let run = told(begun(kind as u64), block::told(formatted), 0, 0);
+    let others = begun(capacity.wrapping_add(kind as u64));
     Played {
         run,
-        many,
-        within,
-        sent,
+        many: others,
+        within: others,
+        sent: others,
     }
 }
 
@@ -322,73 +240,69 @@ fn format(table: &mut [u8], capacity: u64, kind: u64) -> Played {
 fn begin(
     table: &mut [u8],
     scratch: &mut [u8],
-    list: &mut [u64; 9568],
+    list: &mut List,
     capacity: u64,
-    kind: u64,
+    kind: Kind,
     n: u64,
 ) -> Played
     requires { (0 < capacity) × (capacity ≤ 4784) × (n ≤ 65536) }
 {
-    let fresh = format(table, capacity, kind);
-    turns(table, scratch, list, capacity, kind, n, fresh)
+    let mut played = format(table, capacity, kind);
+    for i in 0..n {
+        let stage = Stage { capacity, kind, i };
+        played = turn(table, scratch, list, stage, played);
+    }
+    played
 }
 
 // A history of n steps, and all that it leaves.
-fn play(table: &mut [u8], scratch: &mut [u8], capacity: u64, kind: u64, n: u64) -> Played
+fn play(table: &mut [u8], scratch: &mut [u8], capacity: u64, kind: Kind, n: u64) -> Played
     requires { (0 < capacity) × (capacity ≤ 4784) × (n ≤ 65536) }
 {
-    let mut list = [list::NONE; 9568];
+    let mut list = List::new();
     let played = begin(table, scratch, &mut list, capacity, kind, n);
     end(table, scratch, &list, played)
 }
 
-fn show(name: &[u8], n: u64) {
-    io::write_all(1, name);
-    io::print_decimal(1, n);
+// A write that fails is passed over: what is compared with the wanted output shows it.
+fn show_run(rt: &impl Print, run: Run) {
+    let _ = println!(rt;
+        ": calls {}, refused {}, wrong {}, digest {}",
+        run.calls, run.refused, run.wrong, run.digest,
+    );
 }
 
-fn show_run(run: Run) {
-    show(b": calls ", run.calls);
-    show(b", refused ", run.refused);
-    show(b", wrong ", run.wrong);
-    show(b", digest ", run.digest);
-    io::write_all(1, b"\n");
-}
-
-fn show_played(capacity: u64, kind: u64, played: Played) {
-    show(b"capacity ", capacity);
-    show(b", history ", kind);
-    show_run(played.run);
-    io::write_all(1, b"  many ranges");
-    show_run(played.many);
-    io::write_all(1, b"  allowances");
-    show_run(played.within);
-    io::write_all(1, b"  messages");
-    show_run(played.sent);
+fn show_played(rt: &impl Print, capacity: u64, kind: Kind, played: Played) {
+    let _ = print!(rt; "capacity {capacity}, history {}", kind as u64);
+    show_run(rt, played.run);
+    let _ = print!(rt; "  many ranges");
+    show_run(rt, played.many);
+    let _ = print!(rt; "  allowances");
+    show_run(rt, played.within);
+    let _ = print!(rt; "  messages");
+    show_run(rt, played.sent);
 }
 
 // Each kind of history on a table of so many bytes.
-fn each_kind(memory: &mut [u8], scratch: &mut [u8], bytes: usize, n: u64)
+fn each_kind(rt: &impl Print, memory: &mut [u8], scratch: &mut [u8], bytes: usize, n: u64)
     requires { (4096 ≤ bytes) × (bytes ≤ 614400) × (bytes ≤ length memory.old) × (n ≤ 65536) }
 {
     let capacity = (bytes / 2048 - 1) as u64 * 16;
-    let mut kind = 0;
-    while kind < 5 {
+    for kind in Kind::ALL {
         let played = play(&mut memory[0..bytes], scratch, capacity, kind, n);
-        show_played(capacity, kind, played);
-        kind += 1;
+        show_played(rt, capacity, kind, played);
     }
 }
 
-fn each_size(memory: &mut [u8; 614400], scratch: &mut [u8; 614400]) {
-    each_kind(memory, scratch, 18432, 3000);
-    each_kind(memory, scratch, 20480, 3000);
-    each_kind(memory, scratch, 65536, 4000);
-    each_kind(memory, scratch, 614400, 9000);
+fn each_size(rt: &impl Print, memory: &mut [u8; 614400], scratch: &mut [u8; 614400]) {
+    each_kind(rt, memory, scratch, 18432, 3000);
+    each_kind(rt, memory, scratch, 20480, 3000);
+    each_kind(rt, memory, scratch, 65536, 4000);
+    each_kind(rt, memory, scratch, 614400, 9000);
 }
 
-fn main() {
+fn main(rt: HostRuntime) {
     let mut memory = [165u8; 614400];
     let mut scratch = [165u8; 614400];
-    each_size(&mut memory, &mut scratch);
+    each_size(&rt, &mut memory, &mut scratch);
 }

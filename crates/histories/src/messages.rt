@@ -1,87 +1,89 @@
 // Messages of changes, compared with the list carried through them one by one. A message has up to 24 changes; its rows and its bytes lie in 320 bytes each.
 ghost use Rattle.std.specs.Prelude.{◌<◌, ◌≤◌, length};
 
-use crate::batches::{later, same_bytes, smaller};
-use crate::kinds::below;
-use crate::{Change, Run, change_list, compared, drawn, kinds, list, next, seeded, told};
+use crate::batches::later;
+use crate::kinds::Stage;
+use crate::list::List;
+use crate::{Change, Run, change_list, compared, drawn, kinds, told};
+use random::{below, next};
 
 // A byte as it is lent.
 const LENT: u8 = 165;
 
-// A message of n changes: the harm that is done to it, how many bytes of it are handed in, and how many the work area has.
+// The first byte of a row that adds, and of one that withdraws.
+const ADDITION: u8 = 1;
+
+const WITHDRAWAL: u8 = 2;
+
+// The harm that is done to a message: a byte of the first seven is another, the last one is cut off, or there is one more.
+#[derive(Clone, Copy, Debug, PartialEq, Eq)]
+enum Harm {
+    None,
+    Flips(u8),
+    CutsOff,
+    Lengthens,
+}
+
+// A message of n changes: its harm, how many bytes of it are handed in, and how many the work area has.
 #[derive(Clone, Copy)]
 struct Letter {
     n: usize,
-    harm: u64,
+    harm: Harm,
     bytes: usize,
     work: usize,
 }
 
-// The identity of one of the first j rows again.
-fn again(rows: &[u8; 320], seed: u64, j: usize) -> Change
+// The identity of one of the first j rows again, and the random number after the change.
+fn again(rows: &[u8; 320], seed: u64, j: usize) -> (Change, u64)
     requires { (0 < j) × (j ≤ 24) }
 {
     let s = next(seed);
     let row = below(seed, j as u64) as usize;
-    Change {
-        adds: below(s, 2) == 0,
-        id: spot::raw_key(rows, 13 * row + 1),
-        seed: s,
+    let id = spot::raw_key(rows, 13 * row + 1);
+    if below(s, 2) == 0 {
+        return (Change::Add(id), s);
     }
+    (Change::Withdraw(id), s)
 }
 
 // Change j of a message, as the history would have it, or to an identity that the message has named.
-fn next_change(
-    list: &[u64; 9568],
-    rows: &[u8; 320],
-    seed: u64,
-    capacity: u64,
-    kind: u64,
-    i: u64,
-    j: usize,
-) -> Change
-    requires { (0 < capacity) × (capacity ≤ 4784) × (i < 65536) × (j ≤ 24) }
+fn next_change(list: &List, rows: &[u8; 320], seed: u64, stage: Stage, j: usize) -> (Change, u64)
+    requires { j ≤ 24 }
 {
     if 0 < j {
         if below(seed, 4) == 0 {
             return again(rows, next(seed), j);
         }
     }
-    kinds::next_change(list, next(seed), capacity, kind, (i + j as u64) % 65536)
+    let later = Stage {
+        capacity: stage.capacity,
+        kind: stage.kind,
+        i: (stage.i + j as u64) % 65536,
+    };
+    kinds::next_change(list, next(seed), later)
 }
 
-fn put(rows: &mut [u8; 320], j: usize, adds: bool, id: u64, track: u64)
+fn put(rows: &mut [u8; 320], j: usize, c: Change, track: u64)
     requires { j < 24 }
 {
+    let (kind, id, field) = match c {
+        Change::Add(id) => (ADDITION, id, track),
+        Change::Withdraw(id) => (WITHDRAWAL, id, 0),
+    };
+    rows[13 * j] = kind;
     spot::write_key(rows, 13 * j + 1, id);
-    if adds {
-        rows[13 * j] = 1;
-        octets::write32(rows, 13 * j + 9, track);
-        return;
-    }
-    rows[13 * j] = 2;
-    octets::write32(rows, 13 * j + 9, 0);
+    octets::write32(rows, 13 * j + 9, field);
 }
 
 // The rows of n changes; the random number after them.
-fn draw_rows(
-    list: &[u64; 9568],
-    rows: &mut [u8; 320],
-    seed: u64,
-    capacity: u64,
-    kind: u64,
-    i: u64,
-    n: usize,
-) -> u64
-    requires { (0 < capacity) × (capacity ≤ 4784) × (i < 65536) × (n ≤ 24) }
+fn draw_rows(list: &List, rows: &mut [u8; 320], seed: u64, stage: Stage, n: usize) -> u64
+    requires { n ≤ 24 }
 {
     let mut s = seed;
-    let mut j = 0;
-    while j < n {
-        let c = next_change(list, rows, s, capacity, kind, i, j);
-        s = next(c.seed);
-        put(rows, j, c.adds, c.id, s);
-        j += 1;
+    for j in 0..n {
+        let (c, seed) = next_change(list, rows, s, stage, j);
+        s = next(seed);
+        put(rows, j, c, s);
     }
     s
 }
@@ -89,7 +91,7 @@ fn draw_rows(
 fn size_of(kind: u8) -> usize
     ensures { result ≤ 13 }
 {
-    if kind == 1 {
+    if kind == ADDITION {
         return 13;
     }
     9
@@ -109,13 +111,11 @@ fn spell(rows: &[u8], n: usize, m: &mut [u8]) -> usize
     ensures { (0 < result) × (result < 320) }
 {
     let mut at = 7;
-    let mut i = 0;
-    while i < n {
+    for i in 0..n {
         let from = 13 * i;
         let size = size_of(rows[from]);
-        octets::copy(&rows[from..from + size], &mut m[at..at + size], size);
+        m[at..at + size].copy_from_slice(&rows[from..from + size]);
         at += size;
-        i += 1;
     }
     spell_head(m, at, n);
     at
@@ -142,61 +142,61 @@ fn graver(a: block::Answer, number: u32, i: usize) -> block::Answer
 }
 
 // Carries the list through the rows; says which one it turns down.
-fn carry(list: &mut [u64; 9568], capacity: u64, rows: &[u8; 320], n: usize) -> block::Answer
+fn carry(list: &mut List, capacity: u64, rows: &[u8; 320], n: usize) -> block::Answer
     requires { n ≤ 24 }
 {
     let mut a = block::Answer {
         number: 0,
         detail: 0,
     };
-    let mut i = 0;
-    while i < n {
+    for i in 0..n {
         let id = spot::raw_key(rows, 13 * i + 1);
-        let track = octets::read32(rows, 13 * i + 9);
-        let number = change_list(list, capacity, rows[13 * i] == 1, id, track);
+        let track = octets::read32(rows, 13 * i + 9) as u32;
+        let c = if rows[13 * i] == ADDITION {
+            Change::Add(id)
+        } else {
+            Change::Withdraw(id)
+        };
+        let number = change_list(list, capacity, c, track);
         a = graver(a, number, i);
-        i += 1;
     }
     a
 }
 
 // A work area as long as the table, or longer; once in sixteen a byte shorter.
 fn draw_work(seed: u64, bytes: usize, all: usize) -> usize {
-    let kind = below(seed, 16);
-    if 8 <= kind {
-        return all;
-    }
-    if bytes == 0 {
-        return all;
-    }
-    if kind == 0 {
-        return bytes - 1;
-    }
-    bytes
-}
-
-// Once in eight a byte of the first seven is another, or the last one is cut off, or there is one more.
-fn harmed(l: Letter) -> bool {
-    l.harm < 9
-}
-
-fn harm(m: &mut [u8; 320], l: Letter) {
-    if l.harm < 7 {
-        let at = l.harm as usize;
-        m[at] = m[at] ^ 4;
+    match below(seed, 16) {
+        8.. => all,
+        _ if bytes == 0 => all,
+        0 => bytes - 1,
+        _ => bytes,
     }
 }
 
-fn handed_in(end: usize, harm: u64) -> usize
+// Once in eight some harm.
+fn draw_harm(seed: u64) -> Harm {
+    match below(seed, 72) {
+        at @ 0..=6 => Harm::Flips(at as u8),
+        7 => Harm::CutsOff,
+        8 => Harm::Lengthens,
+        _ => Harm::None,
+    }
+}
+
+fn do_harm(m: &mut [u8; 320], harm: Harm) {
+    if let Harm::Flips(at) = harm {
+        m[at as usize] ^= 4;
+    }
+}
+
+fn handed_in(end: usize, harm: Harm) -> usize
     requires { (0 < end) × (end < 320) }
 {
-    if harm == 7 {
-        return end - 1;
+    match harm {
+        Harm::CutsOff => end - 1,
+        Harm::Lengthens => end + 1,
+        Harm::None | Harm::Flips(_) => end,
     }
-    if harm == 8 {
-        return end + 1;
-    }
-    end
 }
 
 // This number where it is so, else what is said anyway.
@@ -212,11 +212,11 @@ fn told_as(run: Run, a: block::Answer, asked: block::Answer) -> Run {
 }
 
 fn call(writes: bool, from: &[u8], bytes: usize, to: &mut [u8]) -> block::Answer {
-    let n = smaller(bytes, from.len());
+    let n = bytes.min(from.len());
     if writes {
-        return message::write_message(&from[0..n], to);
+        return block::told(message::write_message(&from[0..n], to));
     }
-    message::read_message(&from[0..n], to)
+    block::told(message::read_message(&from[0..n], to))
 }
 
 // Writes or reads a message. What comes is what is right, or after a refusal what was lent.
@@ -233,9 +233,9 @@ fn recode(
     let a = call(writes, from, bytes, &mut left);
     let r = told_as(run, a, asked);
     if asked.number == 0 {
-        return compared(r, same_bytes(&left, right));
+        return compared(r, left == *right);
     }
-    compared(r, same_bytes(&left, &lent))
+    compared(r, left == lent)
 }
 
 // Writes the message, does it harm, and reads it. Without a table 4 is not said.
@@ -244,8 +244,8 @@ fn exchange(run: Run, rows: &[u8; 320], m: &mut [u8; 320], l: Letter, a: block::
 {
     let asked = first(a.number != 9, 0, a);
     let written = recode(run, true, rows, 13 * l.n, asked, m);
-    harm(m, l);
-    let second = first(harmed(l), 8, asked);
+    do_harm(m, l.harm);
+    let second = first(l.harm != Harm::None, 8, asked);
     recode(written, false, m, l.bytes, second, rows)
 }
 
@@ -253,18 +253,13 @@ fn exchange(run: Run, rows: &[u8; 320], m: &mut [u8; 320], l: Letter, a: block::
 pub fn keep(s: &[u8], kept: &mut [u8]) {
     let n = s.len();
     if n <= kept.len() {
-        octets::copy(s, kept, n);
+        kept[..n].copy_from_slice(s);
     }
 }
 
 fn same_as(s: &[u8], kept: &[u8]) -> bool {
-    let n = smaller(s.len(), kept.len());
-    same_bytes(s, &kept[0..n])
-}
-
-fn zero_front(kept: &mut [u8], n: usize) {
-    let m = smaller(n, kept.len());
-    octets::zero(kept, m);
+    let front = &kept[..s.len().min(kept.len())];
+    s == front
 }
 
 fn call_apply(
@@ -274,15 +269,16 @@ fn call_apply(
     m: &[u8],
     bytes: usize,
 ) -> block::Answer {
-    let w = smaller(work, scratch.len());
-    let n = smaller(bytes, m.len());
-    apply::apply(table, &mut scratch[0..w], &m[0..n])
+    let w = work.min(scratch.len());
+    let n = bytes.min(m.len());
+    block::told(apply::apply(table, &mut scratch[0..w], &m[0..n]))
 }
 
 // Whether a refusal has left the work area as it was, and the table as the copy there; else whether the work area has zeros, as many as the table has bytes.
 fn left_right(table: &[u8], scratch: &[u8], work: &mut [u8], number: u32) -> bool {
     if number == 0 {
-        zero_front(work, table.len());
+        let n = table.len().min(work.len());
+        work[..n].fill(0);
         return same_as(scratch, work);
     }
     same_as(scratch, work) & same_as(table, work)
@@ -317,7 +313,7 @@ fn apply_it(
 }
 
 // The list follows where all is accepted.
-fn follow(list: &mut [u64; 9568], after: &[u64; 9568], number: u32) {
+fn follow(list: &mut List, after: &List, number: u32) {
     if number == 0 {
         *list = *after;
     }
@@ -327,7 +323,7 @@ fn follow(list: &mut [u64; 9568], after: &[u64; 9568], number: u32) {
 fn go_through(
     table: &mut [u8],
     scratch: &mut [u8],
-    list: &mut [u64; 9568],
+    list: &mut List,
     capacity: u64,
     rows: &[u8; 320],
     m: &mut [u8; 320],
@@ -338,32 +334,27 @@ fn go_through(
 {
     let mut after = *list;
     let a = carry(&mut after, capacity, rows, l.n);
-    let asked = first(l.work < table.len(), 2, first(harmed(l), 8, a));
+    let asked = first(l.work < table.len(), 2, first(l.harm != Harm::None, 8, a));
     let coded = exchange(run, rows, m, l, a);
     let applied = apply_it(table, scratch, m, l, asked, coded);
     follow(list, &after, asked.number);
-    told(applied, table::count(table), 0, list::live(list))
+    told(
+        applied,
+        block::answer_of(table::count(table)),
+        0,
+        list.live(),
+    )
 }
 
 // A message of changes that the history might have made, on a table of which there is a copy in the work area.
-pub fn send(
-    table: &mut [u8],
-    scratch: &mut [u8],
-    list: &mut [u64; 9568],
-    capacity: u64,
-    kind: u64,
-    i: u64,
-    run: Run,
-) -> Run
-    requires { (0 < capacity) × (capacity ≤ 4784) × (i < 65536) }
-{
+pub fn send(table: &mut [u8], scratch: &mut [u8], list: &mut List, stage: Stage, run: Run) -> Run {
     let mut rows = [LENT; 320];
     let mut m = [LENT; 320];
     let r = drawn(run);
     let n = below(r.seed, 25) as usize;
-    let s = draw_rows(list, &mut rows, later(r.seed), capacity, kind, i, n);
+    let s = draw_rows(list, &mut rows, later(r.seed), stage, n);
     let end = spell_rows(&rows, n, &mut m);
-    let harm = below(next(s), 72);
+    let harm = draw_harm(next(s));
     let l = Letter {
         n,
         harm,
@@ -374,10 +365,13 @@ pub fn send(
         table,
         scratch,
         list,
-        capacity,
+        stage.capacity,
         &rows,
         &mut m,
         l,
-        seeded(run, later(later(s))),
+        Run {
+            seed: later(later(s)),
+            ..run
+        },
     )
 }

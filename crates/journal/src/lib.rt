@@ -45,11 +45,9 @@ pub fn undo(t: &mut [u8], s: &[u8], map: &[u8])
     ensures { Undone t.old s.now map.now t.new }
 {
     let n = t.len() / block::BLOCK_BYTES;
-    let mut b = 0;
-    while b < n {
+    for b in 0..n {
         if octets::test_bit(map, b) {
             copy_block(t, s, b);
         }
-        b += 1;
     }
 }

@@ -18,22 +18,21 @@ use Rattle.tree.specs.Part.{Part, whole, children}
 use Rattle.tree.specs.Lookup.{live}
 use Rattle.tree.specs.Sound.{sound_at, sound}
 use Rattle.tree.proofs.Tables.{sound-tree, sound-header}
-use Rattle.lookup.specs.declared.Looked.{Looked}
-use Rattle.lookup.specs.declared.Looked.TheVariants.{Live, Nothing, Broken}
-use Rattle.lookup.specs.Answers.{told, along, path_ok, looked_up, LookupPost}
+use Rattle.std.specs.Prelude.{Ok, Err, Some, None, is_err}
+use Rattle.lookup.specs.Answers.{Looked, broken, told, along, path_ok, looked_up, LookupPost}
 
--- the answer, unless it is Broken, is this word
+-- the answer, unless it is an error, is this word
 abbrev pub Says : Looked → Option ℕ → Type 0
-Says (Live a) o = o ≡ some a
-Says Nothing o = o ≡ none
-Says Broken o = Unit {0}
+Says (Ok (Some a)) o = o ≡ some a
+Says (Ok None) o = o ≡ none
+Says (Err e) o = Unit {0}
 
-says-told : (ok : Bool) (o : Option ℕ) → Says (cond ok (told o) Broken) o
+says-told : (ok : Bool) (o : Option ℕ) → Says (cond ok (told o) broken) o
 says-told false o = tt
 says-told true none = refl
 says-told true (some a) = refl
 
--- any answer but Broken is what is live
+-- any answer but an error is what is live
 pub looked-says : {t : List ℕ} {k : ℕ} {r : Looked} → LookupPost t k r → Says r (live t k)
 unfolding looked_up
 looked-says {t} {k} g =
@@ -59,20 +58,15 @@ path-sound (suc l) m k p s =
     and_both _ _ (all-at _ s 0)
     (in_right (has k (names (m p.block))) (along-every (sound_at l m) (path_ok l m k) (path-sound l m k) k (children p (m p.block)) (all-at _ s 2)))
 
-abbrev is_broken : Looked → Bool
-is_broken (Live a) = false
-is_broken Nothing = false
-is_broken Broken = true
-
-told-whole : (o : Option ℕ) → is_broken (told o) ≡ false
+told-whole : (o : Option ℕ) → is_err (told o) ≡ false
 told-whole none = refl
 told-whole (some a) = refl
 
--- a sound table is never Broken
-pub looked-whole : {t : List ℕ} {k : ℕ} {r : Looked} → LookupPost t k r → sound t ≡ true → r ≡ Broken → ⊥
+-- of a sound table the answer is never an error
+pub looked-whole : {t : List ℕ} {k : ℕ} {r : Looked} → LookupPost t k r → sound t ≡ true → r ≡ broken → ⊥
 unfolding looked_up
 looked-whole {t} {k} g s e =
     true≢false
-    (ap is_broken (sym e ∙ g.is)
-    ∙ ap (λ (b : Bool). is_broken (cond b (told (live t k)) Broken)) (and_both _ _ (sound-header t s) (path-sound (head_of t).levels (store_of t) k (whole (head_of t)) (sound-tree t s)))
+    (ap is_err (sym e ∙ g.is)
+    ∙ ap (λ (b : Bool). is_err (cond b (told (live t k)) broken)) (and_both _ _ (sound-header t s) (path-sound (head_of t).levels (store_of t) k (whole (head_of t)) (sound-tree t s)))
     ∙ told-whole (live t k))

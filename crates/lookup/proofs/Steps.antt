@@ -25,11 +25,11 @@ use Rattle.tree.proofs.Says.{has-names}
 use Rattle.visit.specs.declared.Span.{Span}
 use Rattle.visit.specs.Visit.{end_of, part_of, child_span, entries_in}
 use Rattle.visit.proofs.Children.{lent, lent-parts, lent_none, lent-low, lent_level}
-use Rattle.lookup.specs.declared.Looked.{Looked}
-use Rattle.lookup.specs.declared.Looked.TheVariants.{Live, Nothing, Broken}
+use Rattle.std.specs.Prelude.{Ok, Some, None, unwrap_or}
 use Rattle.lookup.specs.declared.Word.{Word}
-use Rattle.lookup.specs.Answers.{told, along, path_ok, looked_up, LookupPost}
-use Rattle.lookup.specs.Words.{Speaks, Lookable, looked_in}
+use Rattle.lookup.specs.declared.Word.TheVariants.{Live, Gone, Silent}
+use Rattle.lookup.specs.Answers.{Looked, broken, told, along, path_ok, looked_up, LookupPost}
+use Rattle.lookup.specs.Words.{word_in, Speaks, Lookable, looked_in}
 
 -- the children of the node at b from the i-th on
 abbrev pub left : List ℕ → ℕ → Span → ℕ → ℕ → List Part
@@ -37,7 +37,7 @@ left t b span lo i = parts lo (end_of span) (drop i (store_of t b).entries)
 
 -- what is answered of k in the one of these parts that holds it
 abbrev pub under : ℕ → Store → ℕ → List Part → Looked
-under l m k ps = cond (along (path_ok l m k) k ps) (told (down (lookup l m k) k ps)) Broken
+under l m k ps = cond (along (path_ok l m k) k ps) (told (down (lookup l m k) k ps)) broken
 
 -- and in one of the children from the i-th on
 abbrev pub among : List ℕ → ℕ → ℕ → Span → ℕ → ℕ → ℕ → Looked
@@ -66,20 +66,23 @@ module _ (n : Node) (k : ℕ) where
   unnamed-word : has k (names n) ≡ false → (x : Option ℕ) → node_word n k x ≡ x
   unnamed-word h = said-below (find k n.points) (find k n.inserts) (has k n.deletes) (sym (has-names k n) ∙ h)
 
--- a node names the keys that it says something of
-speaks-names : {t : List ℕ} {b k : ℕ} {w : Word} → Speaks t b k w → has k (names (store_of t b)) ≡ (w.live || w.gone)
-speaks-names {t} {b} {k} {w} s = go w.live w.gone (has k (names (store_of t b))) refl refl refl
-  where
-    says : {l g : Bool} → w.live ≡ l → w.gone ≡ g → (x : Option ℕ) → node_word (store_of t b) k x ≡ cond l (some w.track) (cond g none x)
-    says el eg x = s.word x ∙ ap₂ (λ l g. cond l (some w.track) (cond g none x)) el eg
+-- it says something
+abbrev pub spoken : Word → Bool
+spoken (Live a) = true
+spoken Gone = true
+spoken Silent = false
 
-    go : (l g h : Bool) → w.live ≡ l → w.gone ≡ g → has k (names (store_of t b)) ≡ h → h ≡ (l || g)
-    go true g true el eg e = refl
-    go true g false el eg e = ap is_live (sym (unnamed-word (store_of t b) k e none) ∙ says el eg none)
-    go false true true el eg e = refl
-    go false true false el eg e = sym (ap is_live (sym (unnamed-word (store_of t b) k e (some 0)) ∙ says el eg (some 0)))
-    go false false true el eg e = sym (ap is_live (sym (says el eg none) ∙ named-word (store_of t b) k e none (some 0) ∙ says el eg (some 0)))
-    go false false false el eg e = refl
+-- a node names the keys that it says something of
+speaks-names : {t : List ℕ} {b k : ℕ} {w : Word} → Speaks t b k w → has k (names (store_of t b)) ≡ spoken w
+speaks-names {t} {b} {k} {w} s = go w (has k (names (store_of t b))) s.word refl
+  where
+    go : (v : Word) (h : Bool) → ((x : Option ℕ) → node_word (store_of t b) k x ≡ word_in v x) → has k (names (store_of t b)) ≡ h → h ≡ spoken v
+    go (Live a) true f e = refl
+    go (Live a) false f e = ap is_live (sym (unnamed-word (store_of t b) k e none) ∙ f none)
+    go Gone true f e = refl
+    go Gone false f e = sym (ap is_live (sym (unnamed-word (store_of t b) k e (some 0)) ∙ f (some 0)))
+    go Silent true f e = sym (ap is_live (sym (f none) ∙ named-word (store_of t b) k e none (some 0) ∙ f (some 0)))
+    go Silent false f e = refl
 
 -- none of the children before the i-th holds the key
 pub record Going (t : List ℕ) (b level : ℕ) (span : Span) (k lo i : ℕ) : Type 0 where
@@ -88,22 +91,26 @@ pub record Going (t : List ℕ) (b level : ℕ) (span : Span) (k lo i : ℕ) : T
 pub going_start : (t : List ℕ) (b level : ℕ) (span : Span) (k : ℕ) → Going t b level span k span.lo 0
 going_start t b level span k = record { same = refl }
 
--- the answer by a node that keeps the rules
-by_word : (live gone ok : Bool) (a : ℕ) (o : Option ℕ)
-    → cond ((live || gone) || ok) (told (cond live (some a) (cond gone none o))) Broken ≡ cond live (Live a) (cond gone Nothing (cond ok (told o) Broken))
-by_word true gone ok a o = refl
-by_word false true ok a o = refl
-by_word false false ok a o = refl
+-- the answer by a node that keeps the rules, where `below` is the one below it
+abbrev pub answer : Word → Looked → Looked
+answer (Live a) below = Ok (Some a)
+answer Gone below = Ok None
+answer Silent below = below
+
+by_word : (w : Word) (ok : Bool) (o : Option ℕ) → cond (spoken w || ok) (told (word_in w o)) broken ≡ answer w (cond ok (told o) broken)
+by_word (Live a) ok o = refl
+by_word Gone ok o = refl
+by_word Silent ok o = refl
 
 module _ (t : List ℕ) (b level : ℕ) (a : Asked) (span : Span) (k : ℕ) where
   opened : looked_in (suc level) (store_of t) k (part_of b a span)
       ≡ cond (node_ok level a (store_of t b) && (has k (names (store_of t b)) || along (path_ok level (store_of t) k) k (left t b span span.lo 0)))
       (told (node_word (store_of t b) k (down (lookup level (store_of t) k) k (left t b span span.lo 0))))
-      Broken
+      broken
   unfolding looked_in path_ok lookup
   opened = refl
 
-  pub broken-node : node_ok level a (store_of t b) ≡ false → Broken ≡ looked_in (suc level) (store_of t) k (part_of b a span)
+  pub broken-node : node_ok level a (store_of t b) ≡ false → broken ≡ looked_in (suc level) (store_of t) k (part_of b a span)
   broken-node e = sym (opened ∙ rw e)
 
   -- by what the node says
@@ -114,35 +121,32 @@ module _ (t : List ℕ) (b level : ℕ) (a : Asked) (span : Span) (k : ℕ) wher
     abbrev beneath : Option ℕ
     beneath = down (lookup level (store_of t) k) k (left t b span span.lo 0)
 
-    answered : looked_in (suc level) (store_of t) k (part_of b a span) ≡ cond w.live (Live w.track) (cond w.gone Nothing (among t b level span k span.lo 0))
+    answered : looked_in (suc level) (store_of t) k (part_of b a span) ≡ answer w (among t b level span k span.lo 0)
     answered =
         opened
-        ∙ ap (λ (x : Bool). cond (x && (has k (names (store_of t b)) || ahead)) (told (node_word (store_of t b) k beneath)) Broken) ok
-        ∙ ap₂ (λ (x : Bool) (o : Option ℕ). cond (x || ahead) (told o) Broken) (speaks-names h) (h.word beneath)
-        ∙ by_word w.live w.gone ahead w.track beneath
+        ∙ ap (λ (x : Bool). cond (x && (has k (names (store_of t b)) || ahead)) (told (node_word (store_of t b) k beneath)) broken) ok
+        ∙ ap₂ (λ (x : Bool) (o : Option ℕ). cond (x || ahead) (told o) broken) (speaks-names h) (h.word beneath)
+        ∙ by_word w ahead beneath
 
-    pub named_live : w.live ≡ true → Live w.track ≡ looked_in (suc level) (store_of t) k (part_of b a span)
-    named_live y = sym (answered ∙ ap (λ (x : Bool). cond x (Live w.track) (cond w.gone Nothing (among t b level span k span.lo 0))) y)
+  module _ (ok : node_ok level a (store_of t b) ≡ true) where
+    pub named_live : {track : ℕ} → Speaks t b k (Live track) → Ok (Some track) ≡ looked_in (suc level) (store_of t) k (part_of b a span)
+    named_live h = sym (answered ok h)
 
-    module _ (y : w.live ≡ false) where
-      unnamed : looked_in (suc level) (store_of t) k (part_of b a span) ≡ cond w.gone Nothing (among t b level span k span.lo 0)
-      unnamed = answered ∙ ap (λ (x : Bool). cond x (Live w.track) (cond w.gone Nothing (among t b level span k span.lo 0))) y
+    pub named-gone : Speaks t b k Gone → Ok None ≡ looked_in (suc level) (store_of t) k (part_of b a span)
+    named-gone h = sym (answered ok h)
 
-      pub named-gone : w.gone ≡ true → Nothing ≡ looked_in (suc level) (store_of t) k (part_of b a span)
-      named-gone z = sym (unnamed ∙ ap (λ (x : Bool). cond x Nothing (among t b level span k span.lo 0)) z)
+    module _ (h : Speaks t b k Silent) {lo i : ℕ} (g : Going t b level span k lo i) where
+      silent : looked_in (suc level) (store_of t) k (part_of b a span) ≡ among t b level span k lo i
+      silent = answered ok h ∙ g.same
 
-      module _ (z : w.gone ≡ false) {lo i : ℕ} (g : Going t b level span k lo i) where
-        silent : looked_in (suc level) (store_of t) k (part_of b a span) ≡ among t b level span k lo i
-        silent = unnamed ∙ ap (λ (x : Bool). cond x Nothing (among t b level span k span.lo 0)) z ∙ g.same
-
-        -- no child is left
-        pub no-child : (front_of (lent t b)).c ≤ i → Nothing ≡ looked_in (suc level) (store_of t) k (part_of b a span)
-        no-child l = sym (silent ∙ ap (under level (store_of t) k) (lent_none t b i lo span l))
+      -- no child is left
+      pub no-child : (front_of (lent t b)).c ≤ i → Ok None ≡ looked_in (suc level) (store_of t) k (part_of b a span)
+      no-child l = sym (silent ∙ ap (under level (store_of t) k) (lent_none t b i lo span l))
 
 -- ---- a child
 
 -- the answer by the first of several parts, where it holds the key
-by_first : (b x y : Bool) (o p : Option ℕ) → cond (cond b x y) (told (cond b o p)) Broken ≡ cond b (cond x (told o) Broken) (cond y (told p) Broken)
+by_first : (b x y : Bool) (o p : Option ℕ) → cond (cond b x y) (told (cond b o p)) broken ≡ cond b (cond x (told o) broken) (cond y (told p) broken)
 by_first true x y o p = refl
 by_first false x y o p = refl
 
@@ -173,27 +177,27 @@ module _ {t : List ℕ} {b level : ℕ} {a : Asked} {span : Span} {k lo i : ℕ}
 
   -- it is the first of those left
   kid-first : among t b level span k lo i
-      ≡ cond (within part.lo (end_of part) k) (looked_in level (store_of t) k kid) (among t b level span k part.hi (i + 1))
+      ≡ cond (within part.lo (end_of part) k) (looked_in level (store_of t) k kid) (among t b level span k (unwrap_or part.hi lo) (i + 1))
   kid-first =
       ap (under level (store_of t) k) (lent-parts t b i lo span d.below d.entry d.range)
-      ∙ under_first level (store_of t) k kid (left t b span part.hi (i + 1))
+      ∙ under_first level (store_of t) k kid (left t b span (unwrap_or part.hi lo) (i + 1))
 
   kid-if : {x : Bool} → within part.lo (end_of part) k ≡ x
-      → among t b level span k lo i ≡ cond x (looked_in level (store_of t) k kid) (among t b level span k part.hi (i + 1))
-  kid-if f = kid-first ∙ ap (λ (x : Bool). cond x (looked_in level (store_of t) k kid) (among t b level span k part.hi (i + 1))) f
+      → among t b level span k lo i ≡ cond x (looked_in level (store_of t) k kid) (among t b level span k (unwrap_or part.hi lo) (i + 1))
+  kid-if f = kid-first ∙ ap (λ (x : Bool). cond x (looked_in level (store_of t) k kid) (among t b level span k (unwrap_or part.hi lo) (i + 1))) f
 
-  pub kid-next : within part.lo (end_of part) k ≡ false → Going t b level span k part.hi (i + 1)
+  pub kid-next : within part.lo (end_of part) k ≡ false → Going t b level span k (unwrap_or part.hi lo) (i + 1)
   kid-next f = record { same = d.going.same ∙ kid-if f }
 
-  pub kid-says : {w : Word} {r : Looked} → Speaks t b k w → w.live ≡ false → w.gone ≡ false → within part.lo (end_of part) k ≡ true
+  pub kid-says : {r : Looked} → Speaks t b k Silent → within part.lo (end_of part) k ≡ true
       → r ≡ looked_in (suc (level - 1)) (store_of t) k kid → r ≡ looked_in (suc level) (store_of t) k (part_of b a span)
-  kid-says h y z f p =
+  kid-says h f p =
       let j : suc (level - 1) ≡ level = omega (arith, kid-level) in
-      p ∙ ap (λ (l : ℕ). looked_in l (store_of t) k kid) j ∙ sym (silent t b level a span k d.ok h y z d.going ∙ kid-if f)
+      p ∙ ap (λ (l : ℕ). looked_in l (store_of t) k kid) j ∙ sym (silent t b level a span k d.ok h d.going ∙ kid-if f)
 
 -- ---- a table
 
-pub no_header : (t : List ℕ) (k : ℕ) → header_ok (length t) (head_of t) ≡ false → LookupPost t k Broken
+pub no_header : (t : List ℕ) (k : ℕ) → header_ok (length t) (head_of t) ≡ false → LookupPost t k broken
 unfolding looked_up
 no_header t k e = record { is = sym (rw e) }
 

@@ -14,7 +14,7 @@ use Rattle.block.specs.Header.{head_of}
 use Rattle.block.specs.HeaderRules.{header_ok}
 use Rattle.block.specs.Table.{table_sized}
 use Rattle.block.specs.declared.Answer.{Answer}
-use Rattle.tree.specs.Walk.{is_broken, spots}
+use Rattle.tree.specs.Walk.{is_broken}
 use Rattle.ranges.specs.declared.Range.{Range}
 use Rattle.ranges.specs.declared.Batch.{Batch}
 use Rattle.report.specs.Joined.{joined, counts_of}
@@ -23,8 +23,8 @@ use Rattle.table.specs.Calls.{report_many}
 use Rattle.table.specs.Answers.{with_counts, early_number, counts_left}
 use Rattle.table.specs.Queries.{WalkPost}
 use Rattle.table.proofs.Answering.{number_short, number-lent, number-over, number-fine, walk-early, walk-broken, walk-many, walk-given}
-use Rattle.many.specs.Many.{given, AllCounted, AllGiven, Copied, Answered, ManyOf}
-use Rattle.many.specs.declared.Total.{Total}
+use Rattle.many.specs.Many.{given, AllCounted, AllGiven, Answered, ManyOf}
+use Rattle.std.specs.Prelude.{Some, None}
 
 -- refused: the counts are as they were
 left-counts : (found counts : List ℕ) (n d : ℕ) (r : Answer) → 0 < n → r ≡ answer n d → counts ≡ counts_left r.number found counts
@@ -34,36 +34,33 @@ left-counts found counts (suc n) d r h a = sym (ap (λ (x : Answer). counts_left
 
 -- ---- all are counted
 
-module _ (b : Batch) (t counts out map : List ℕ) {seen few each : List ℕ} {z : Total} (g : AllCounted b t seen few each z) (r : Answer) where
-  whole : z.ok ≡ true → is_broken (joined t (given b)) ≡ false
-  whole h = not-true (is_broken (joined t (given b))) (sym g.ok ∙ h)
-
-  pub all-broken : z.ok ≡ false → r ≡ answer 3 0 → Answered b t counts out map r counts out map
-  all-broken h a =
+module _ (b : Batch) (t counts out map : List ℕ) {seen few each : List ℕ} (r : Answer) where
+  pub all-broken : AllCounted b t seen few each None → r ≡ answer 3 0 → Answered b t counts out map r counts out map
+  all-broken g a =
       record {
-        handed = walk-broken (joined t (given b)) out map refl r (not-false (is_broken (joined t (given b))) (sym g.ok ∙ h)) a;
+        handed = walk-broken (joined t (given b)) out map refl r (not-false (is_broken (joined t (given b))) (sym g.told)) a;
         counted = left-counts (counts_of t (given b)) counts 3 0 r (omega arith) a;
       }
 
-  pub all-many : z.ok ≡ true → length out / 12 < z.spots → r ≡ answer 5 z.spots → Answered b t counts out map r counts out map
-  all-many h l a =
-      record {
-        handed = walk-many (joined t (given b)) out map refl r (whole h) (subst (λ (i : ℕ). length out / 12 < i) (g.spots h) l) (a ∙ ap (answer 5) (g.spots h));
-        counted = left-counts (counts_of t (given b)) counts 5 z.spots r (omega arith) a;
-      }
+  module _ {n : ℕ} (g : AllCounted b t seen few each (Some n)) where
+    all-whole : is_broken (joined t (given b)) ≡ false
+    all-whole = not-true (is_broken (joined t (given b))) (sym g.told)
 
-  pub all-given : {counts' out'' map' : List ℕ} → z.ok ≡ true → z.spots ≤ length out / 12 → r ≡ answer 0 z.spots → AllGiven b t out out'' → length counts ≡ b.n → Copied each counts counts'
-      → map' ≡ seen
-      → Answered b t counts out map r counts' out'' map'
-  unfolding counts_left
-  all-given {counts'} {out''} {map'} h l a o n k m =
-      record {
-        handed =
-            walk-given (joined t (given b)) out map refl r out'' map' (whole h) (subst (λ (i : ℕ). i ≤ length out / 12) (g.spots h) l) (a ∙ ap (answer 0) (g.spots h)) o.output
-            (m ∙ g.marks h);
-        counted =
-            k.first ∙ ap (λ (i : ℕ). take i each) n ∙ g.counts h ∙ sym (ap (λ (x : Answer). counts_left x.number (counts_of t (given b)) counts) a);
-      }
+    pub all-many : length out / 12 < n → r ≡ answer 5 n → Answered b t counts out map r counts out map
+    all-many l a =
+        record {
+          handed = walk-many (joined t (given b)) out map refl r all-whole (subst (λ (i : ℕ). length out / 12 < i) g.spots l) (a ∙ ap (answer 5) g.spots);
+          counted = left-counts (counts_of t (given b)) counts 5 n r (omega arith) a;
+        }
+
+    pub all-given : {counts' out'' map' : List ℕ} → n ≤ length out / 12 → r ≡ answer 0 n → AllGiven b t out out'' → counts' ≡ take b.n each → map' ≡ seen
+        → Answered b t counts out map r counts' out'' map'
+    unfolding counts_left
+    all-given {counts'} {out''} {map'} l a o k m =
+        record {
+          handed = walk-given (joined t (given b)) out map refl r out'' map' all-whole (subst (λ (i : ℕ). i ≤ length out / 12) g.spots l) (a ∙ ap (answer 0) g.spots) o.output (m ∙ g.marks);
+          counted = k ∙ g.counts ∙ sym (ap (λ (x : Answer). counts_left x.number (counts_of t (given b)) counts) a);
+        }
 
 -- ---- a batch that has the ranges of a list
 

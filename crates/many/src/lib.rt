@@ -2,28 +2,21 @@
 #![tactic(auto)]
 
 ghost use Rattle.std.specs.Prelude.{◌≡◌, true, ◌≤◌, length};
-ghost use Rattle.block.specs.Answers.{answer};
+ghost use Rattle.block.specs.Answers.{answer_of};
 ghost use Rattle.block.specs.Table.{table_sized};
 ghost use Rattle.memo.specs.Known.{Known, StillKnown};
 ghost use Rattle.table.specs.Queries.{ManyPost};
-ghost use Rattle.many.specs.Many.{Union, OneCounted, AllCountable, AllCounted, AllGivable, AllGiven, Copied, Answerable, Answered, ManyOf};
+ghost use Rattle.many.specs.Many.{Union, OneCounted, AllCountable, AllCounted, AllGivable, AllGiven, Answerable, Answered, ManyOf};
 
-// A refusal whose detail is 0.
-fn refused(number: u32) -> block::Answer
-    ensures { result ≡ answer number 0 }
-{
-    block::Answer { number, detail: 0 }
-}
+use block::Refusal;
 
 // Marks in `seen` what `own` marks.
 fn join_marks(seen: &mut [u8], own: &[u8])
     requires { (length seen.old ≡ 512) × (length own.now ≡ 512) }
     ensures { Union seen.old own.now seen.new }
 {
-    let mut i = 0;
-    while i < 512 {
-        seen[i] = seen[i] | own[i];
-        i += 1;
+    for i in 0..512 {
+        seen[i] |= own[i];
     }
 }
 
@@ -34,7 +27,7 @@ fn count_one(
     seen: &mut [u8],
     few: &mut [u8],
     known: &mut [[u64; 6]],
-) -> query::Sum
+) -> Option<tally::Tally>
     requires { (table_sized (length table.now) ≡ true) × (length seen.old ≡ 512) × Known table.now known.old }
     ensures { OneCounted r table.now seen.old few.old seen.new few.new result × StillKnown table.now known.old known.new }
 {
@@ -44,14 +37,7 @@ fn count_one(
     one
 }
 
-// Whether the walks of all are whole, and how many spots they find together.
-#[derive(Clone, Copy)]
-struct Total {
-    ok: bool,
-    spots: usize,
-}
-
-// All of them counted, up to the first whose walk is broken. Each has its own 1,536 bytes of `few`, where its spots are held if they are at most 128, as those of
+// How many spots all of them find together; none if a walk is broken. Each has its own 1,536 bytes of `few`, where its spots are held if they are at most 128, as those of
 // a single report are. What one of them validated is known to those behind it.
 fn count_all(
     table: &[u8],
@@ -60,25 +46,20 @@ fn count_all(
     few: &mut [u8],
     each: &mut [u32],
     known: &mut [[u64; 6]],
-) -> Total
+) -> Option<usize>
     requires { AllCountable b table.now seen.old few.old each.old × Known table.now known.old }
     ensures { AllCounted b table.now seen.new few.new each.new result }
 {
     let n = b.n;
     let all = b.all;
-    let mut ok = true;
     let mut spots = 0;
-    let mut i = 0;
-    while ok & (i < n) {
+    for i in 0..n {
         let from = 1536 * i;
-        let one = count_one(table, all[i], seen, &mut few[from..from + 1536], known);
-        let found = one.tally.spots;
-        spots += found;
-        each[i] = found as u32;
-        ok = one.ok;
-        i += 1;
+        let one = count_one(table, all[i], seen, &mut few[from..from + 1536], known)?;
+        spots += one.spots;
+        each[i] = one.spots as u32;
     }
-    Total { ok, spots }
+    Some(spots)
 }
 
 // All of them written, one behind the other.
@@ -89,8 +70,7 @@ fn give_all(table: &[u8], b: ranges::Batch, few: &[u8], each: &[u32], output: &m
     let n = b.n;
     let all = b.all;
     let mut at = 0;
-    let mut i = 0;
-    while i < n {
+    for i in 0..n {
         let r = all[i];
         let found = each[i] as usize;
         let from = 1536 * i;
@@ -104,20 +84,6 @@ fn give_all(table: &[u8], b: ranges::Batch, few: &[u8], each: &[u32], output: &m
             &mut output[at..],
         );
         at += 12 * found;
-        i += 1;
-    }
-}
-
-// The first counts, as many as `counts` has.
-fn copy_counts(each: &[u32], counts: &mut [u32])
-    requires { length counts.old ≤ length each.now }
-    ensures { Copied each.now counts.old counts.new }
-{
-    let n = counts.len();
-    let mut i = 0;
-    while i < n {
-        counts[i] = each[i];
-        i += 1;
     }
 }
 
@@ -131,29 +97,23 @@ fn answer_with(
     counts: &mut [u32],
     output: &mut [u8],
     read_map: &mut [u8],
-) -> block::Answer
+) -> Result<u32, Refusal>
     requires { Answerable b table.now few.old counts.old read_map.old × (b.n ≤ length each.old) × Known table.now known.old }
-    ensures { Answered b table.now counts.old output.old read_map.old result counts.new output.new read_map.new }
+    ensures { Answered b table.now counts.old output.old read_map.old (answer_of result) counts.new output.new read_map.new }
 {
     let mut seen = [0u8; 512];
     octets::set_bit(&mut seen, 0);
-    let all = count_all(table, b, &mut seen, few, each, known);
-    if !all.ok {
-        return refused(3);
-    }
-    if output.len() / 12 < all.spots {
-        return block::Answer {
-            number: 5,
-            detail: all.spots as u32,
-        };
+    let Some(spots) = count_all(table, b, &mut seen, few, each, known) else {
+        return Err(Refusal::Broken);
+    };
+    let given = spots as u32;
+    if output.len() / 12 < spots {
+        return Err(Refusal::Output(given));
     }
     give_all(table, b, few, each, output);
-    copy_counts(each, counts);
+    counts.copy_from_slice(&each[..b.n]);
     octets::copy(&seen, read_map, 512);
-    block::Answer {
-        number: 0,
-        detail: all.spots as u32,
-    }
+    Ok(given)
 }
 
 // The same with room for the counts of 64.
@@ -165,9 +125,9 @@ fn answer_all(
     counts: &mut [u32],
     output: &mut [u8],
     read_map: &mut [u8],
-) -> block::Answer
+) -> Result<u32, Refusal>
     requires { Answerable b table.now few.old counts.old read_map.old × Known table.now known.old }
-    ensures { Answered b table.now counts.old output.old read_map.old result counts.new output.new read_map.new }
+    ensures { Answered b table.now counts.old output.old read_map.old (answer_of result) counts.new output.new read_map.new }
 {
     let mut each = [0u32; 64];
     answer_with(table, b, few, known, &mut each, counts, output, read_map)
@@ -180,20 +140,20 @@ pub fn report_batch(
     counts: &mut [u32],
     output: &mut [u8],
     read_map: &mut [u8],
-) -> block::Answer
-    ensures { ManyOf b table.now counts.old output.old read_map.old result counts.new output.new read_map.new }
+) -> Result<u32, Refusal>
+    ensures { ManyOf b table.now counts.old output.old read_map.old (answer_of result) counts.new output.new read_map.new }
 {
     if !block::sized(table.len()) {
-        return refused(1);
+        return Err(Refusal::TableLength);
     }
     if (read_map.len() != 512) | (counts.len() != b.n) {
-        return refused(2);
+        return Err(Refusal::LentLength);
     }
     if 64 < b.n {
-        return refused(6);
+        return Err(Refusal::TooManyRanges);
     }
     if !block::header_ok(table) {
-        return refused(3);
+        return Err(Refusal::Broken);
     }
     // A few ranges don't wait for the clearing of what many would use.
     if b.n <= 4 {
@@ -218,8 +178,8 @@ pub fn report_many(
     counts: &mut [u32],
     output: &mut [u8],
     read_map: &mut [u8],
-) -> block::Answer
-    ensures { ManyPost ranges.now table.now counts.old output.old read_map.old result counts.new output.new read_map.new }
+) -> Result<u32, Refusal>
+    ensures { ManyPost ranges.now table.now counts.old output.old read_map.old (answer_of result) counts.new output.new read_map.new }
 {
     let b = ranges::load(ranges);
     report_batch(table, b, counts, output, read_map)

@@ -8,8 +8,10 @@ use Prim.Native.Nat.{ℕ, zero, suc, ◌%◌, ◌<◌}
 use native.Mathlib.Nat.{mod-lt}
 use native.Mathlib.Omega.{arith}
 use lib.ListN.{length-set, get_or, set, replicate}
-use borrow.Author.Tests.{eqb-true}
-use Rattle.octets.proofs.Tests.{and_left, and_right}
+use lib.Dec.{eqb}
+use lib.Pointwise.{pointwise, bytes_decides}
+use borrow.Author.Tests.{eqb-true, eq-eqb}
+use Rattle.octets.proofs.Tests.{and_left, and_right, and_both}
 use Rattle.block.specs.declared.Entry.{Entry}
 use Rattle.block.specs.declared.Asked.{Asked}
 use Rattle.block.specs.declared.Asked.TheVariants.{Root, Child}
@@ -47,6 +49,13 @@ words_same a b h =
       word4 = eqb-true _ _ w.4;
       word5 = eqb-true _ _ w.5;
     }
+
+-- any words are the same as themselves
+same-own : (ws : List ℕ) → same_words ws ws ≡ true
+unfolding same_words
+same-own ws =
+    let one : (i : ℕ) → same_at i ws ws ≡ true = λ i. eq-eqb (get_or ws i 0) (get_or ws i 0) refl in
+    and_both _ _ (and_both _ _ (and_both _ _ (and_both _ _ (and_both _ _ (one 0) (one 1)) (one 2)) (one 3)) (one 4)) (one 5)
 
 entry-same : (d e : Entry) → d.block ≡ e.block → d.size ≡ e.size → d.low ≡ e.low → d.top ≡ e.top → d.bottom ≡ e.bottom → d ≡ e
 entry-same d e p q r s u =
@@ -107,9 +116,10 @@ slot-low b n some = mod-lt b (omega (arith, some))
 
 -- what stands in a slot keeps the rules
 pub known-found : (t : List ℕ) (known : List (List ℕ)) (slot level b : ℕ) (a : Asked) {w : List ℕ} {r : Bool} → Known t known → stands_in a ≡ b → w ≡ words_of level a
-    → r ≡ same_words (get_or known slot []) w → r ≡ true → true ≡ node_ok level a (store_of t b)
-known-found t known slot level b a k here way found same =
-    sym (ap (λ (x : ℕ). node_ok level a (store_of t x)) (sym here) ∙ k.valid slot level a (ap (same_words (get_or known slot [])) (sym way) ∙ sym found ∙ same))
+    → r ≡ pointwise eqb (get_or known slot []) w → r ≡ true → true ≡ node_ok level a (store_of t b)
+known-found t known slot level b a {w} k here way found same =
+    let e : get_or known slot [] ≡ words_of level a = (bytes_decides (get_or known slot []) w).0 (sym found ∙ same) ∙ way in
+    sym (ap (λ (x : ℕ). node_ok level a (store_of t x)) (sym here) ∙ k.valid slot level a (ap (λ (s : List ℕ). same_words s (words_of level a)) e ∙ same-own (words_of level a)))
 
 -- a node that keeps the rules is written into a slot
 pub known-put : (t : List ℕ) (known : List (List ℕ)) (slot level b : ℕ) (a : Asked) {w : List ℕ} → Known t known → stands_in a ≡ b → w ≡ words_of level a

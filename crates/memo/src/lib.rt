@@ -4,9 +4,10 @@
 ghost use Rattle.std.specs.Prelude.{◌≡◌, ◌+◌, ◌*◌, ◌≤◌, length};
 ghost use Rattle.block.specs.Node.{store_of};
 ghost use Rattle.block.specs.NodeRules.{node_ok, stands_in};
-ghost use Rattle.memo.specs.Known.{words_of, same_words, Known, StillKnown};
+ghost use Rattle.memo.specs.Known.{words_of, Known, StillKnown};
 
 // A level and what leads to a node, as words.
+// Stays: six words and no enum, so that an empty slot is zeros and takes 48 bytes of the caller's stack, where an Option of a struct takes 64.
 fn words(level: usize, asked: block::Asked) -> [u64; 6]
     requires { level ≤ 6 }
     ensures { result ≡ words_of level asked }
@@ -25,18 +26,6 @@ fn words(level: usize, asked: block::Asked) -> [u64; 6]
     }
 }
 
-// Whether the words are the same.
-fn same_words(a: [u64; 6], b: [u64; 6]) -> bool
-    ensures { result ≡ same_words a b }
-{
-    (a[0] == b[0])
-        & (a[1] == b[1])
-        & (a[2] == b[2])
-        & (a[3] == b[3])
-        & (a[4] == b[4])
-        & (a[5] == b[5])
-}
-
 // Whether the node at b keeps the rules. What was found to do so is remembered: a walk that comes back the same way doesn't validate it again.
 pub fn valid(t: &[u8], b: usize, level: usize, asked: block::Asked, known: &mut [[u64; 6]]) -> bool
     requires { (b * 2048 + 2048 ≤ length t.now) × (level ≤ 6) × (stands_in asked ≡ b) × Known t.now known.old }
@@ -48,7 +37,7 @@ pub fn valid(t: &[u8], b: usize, level: usize, asked: block::Asked, known: &mut 
     }
     let slot = b % slots;
     let way = words(level, asked);
-    if same_words(known[slot], way) {
+    if known[slot] == way {
         return true;
     }
     if !block::block_ok(t, b, level, asked) {

@@ -5,6 +5,8 @@ use mathlib.Core.Logic.{inl, inr, ⊎_elim}
 use mathlib.Core.Bool.{Bool, true, false, cond, not, ◌&&◌, ◌||◌, true≢false}
 use mathlib.Core.List.{List, [], ◌∷◌}
 use mathlib.Core.Option.{none}
+use Rattle.std.specs.Prelude.{Option, Some, None, unwrap_or}
+use Rattle.std.proofs.lemmas.Option.{none-some}
 use Prim.Native.Nat.{ℕ, suc, ◌+◌, ◌-◌, ◌/◌, ◌%◌, ◌≤◌, ◌<◌}
 use native.Mathlib.Omega.{arith}
 use lib.ListN.{length, get_or}
@@ -46,58 +48,56 @@ module _ (fill : ℕ) (s : List ℕ) (at : ℕ) (fills : Fill fill) (from : at �
   abbrev left : ℕ
   left = length s - at
 
-  abbrev Size : ℕ → Type 0
+  abbrev Size : Option ℕ → Type 0
   Size r = r ≡ size_read fill (read_change fill s at)
 
-  not_there : (OneThere fill s at → ⊥) → Size 0
+  not_there : (OneThere fill s at → ⊥) → Size None
   not_there n =
       ⊎_elim (λ (o : OneThere fill s at). absurd (n o)) (λ (e : read_change fill s at ≡ none). ap (size_read fill) (sym e)) (there-or-not fill s at)
 
-  pub size-short : length s - at < 9 + fill → Size 0
+  pub size-short : length s - at < 9 + fill → Size None
   size-short h = not_there (λ o. omega (arith, o.inside, size-least fill (change_at s at) (fill-small fill fills)))
 
   module _ (k : ℕ) (read : k ≡ get_or s at 0) where
-    pub size-row : eqb k 1 && leb 13 left ≡ true → Size 13
+    pub size-row : eqb k 1 && leb 13 left ≡ true → Size (Some 13)
     size-row h =
         let e : k ≡ 1 = eqb-true k 1 (and_left (eqb k 1) (leb 13 left) h) in
         let l : 13 ≤ left = leb-true 13 left (and_right (eqb k 1) (leb 13 left) h) in
-        sym (ap (size_read fill) (read-adds fill s at (omega arith) (omega arith)) ∙ size-adds fill s at (omega arith))
+        sym (ap (size_read fill) (read-adds fill s at (omega arith) (omega arith)) ∙ ap Some (size-adds fill s at (omega arith)))
 
     no_row : eqb k 1 && leb 13 left ≡ false → OneThere fill s at → get_or s at 0 ≡ 1 → ⊥
     no_row h o e =
         let l : at + 13 ≤ length s = o.room e in
         true≢false (sym (and_both (eqb k 1) (leb 13 left) (eq-eqb k 1 (omega arith)) (le-leb 13 left (omega arith))) ∙ h)
 
-    pub size-strange : eqb k 1 && leb 13 left ≡ false → (k ≡ 2 → ⊥) → Size 0
+    pub size-strange : eqb k 1 && leb 13 left ≡ false → (k ≡ 2 → ⊥) → Size None
     size-strange h n =
         not_there
         (λ o.
         ⊎_elim (λ (e : get_or s at 0 ≡ 1). no_row h o e) (λ (e : (get_or s at 0 ≡ 2) × (be fill s (at + 9) ≡ 0)). n (read ∙ e.0)) o.sort)
 
-    pub size-dirty : k ≡ 2 → eqb (be fill s (at + 9)) 0 ≡ false → Size 0
+    pub size-dirty : k ≡ 2 → eqb (be fill s (at + 9)) 0 ≡ false → Size None
     size-dirty two h =
         not_there
         (λ o.
         ⊎_elim (λ (e : get_or s at 0 ≡ 1). let z : ⊥ = omega arith in z)
         (λ (e : (get_or s at 0 ≡ 2) × (be fill s (at + 9) ≡ 0)). true≢false (sym (eq-eqb (be fill s (at + 9)) 0 e.1) ∙ h)) o.sort)
 
-    pub size-clean : k ≡ 2 → 9 + fill ≤ left → eqb (be fill s (at + 9)) 0 ≡ true → Size (9 + fill)
+    pub size-clean : k ≡ 2 → 9 + fill ≤ left → eqb (be fill s (at + 9)) 0 ≡ true → Size (Some (9 + fill))
     size-clean two l h =
-        sym (ap (size_read fill) (read-withdraws fill s at (omega arith) (omega arith) (eqb-true (be fill s (at + 9)) 0 h)) ∙ size-withdraws fill s at (λ e. omega arith))
+        sym (ap (size_read fill) (read-withdraws fill s at (omega arith) (omega arith) (eqb-true (be fill s (at + 9)) 0 h)) ∙ ap Some (size-withdraws fill s at (λ e. omega arith)))
 
 -- a walk's step over a change: the size that was read
-module _ (fill : ℕ) (s : List ℕ) (at : ℕ) (fills : Fill fill) {size : ℕ} (read : size ≡ size_read fill (read_change fill s at)) where
-  there-size : OneThere fill s at → size ≡ change_size fill (change_at s at)
-  there-size o = read ∙ ap (size_read fill) o.is
-
-  no_size : size ≡ 0 → read_change fill s at ≡ none
-  no_size z =
-      ⊎_elim (λ (o : OneThere fill s at). let f : ⊥ = omega (arith, there-size o, size-least fill (change_at s at) (fill-small fill fills)) in absurd f)
+module _ (fill : ℕ) (s : List ℕ) (at : ℕ) where
+  no_size : None ≡ size_read fill (read_change fill s at) → read_change fill s at ≡ none
+  no_size read =
+      ⊎_elim (λ (o : OneThere fill s at). absurd (none-some _ (read ∙ ap (size_read fill) o.is)))
       (λ (e : read_change fill s at ≡ none). e) (there-or-not fill s at)
 
-  some_size : (size ≡ 0 → ⊥) → OneThere fill s at × (size ≡ change_size fill (change_at s at))
-  some_size n =
-      ⊎_elim (λ (o : OneThere fill s at). (o, there-size o)) (λ (e : read_change fill s at ≡ none). absurd (n (read ∙ ap (size_read fill) e))) (there-or-not fill s at)
+  some_size : {size : ℕ} → Some size ≡ size_read fill (read_change fill s at) → OneThere fill s at × (size ≡ change_size fill (change_at s at))
+  some_size read =
+      ⊎_elim (λ (o : OneThere fill s at). (o, ap (λ (x : Option ℕ). unwrap_or x 0) (read ∙ ap (size_read fill) o.is)))
+      (λ (e : read_change fill s at ≡ none). absurd (none-some _ (sym (read ∙ ap (size_read fill) e)))) (there-or-not fill s at)
 
 -- ---- n changes from an index on
 
@@ -115,21 +115,22 @@ module _ (fill n : ℕ) (s : List ℕ) (at : ℕ) where
     pub there-end : n ≤ i → eqb next (length s) ≡ is_there (read_changes fill n s at)
     there-end l = left-ends fill n s next i l ∙ v.same
 
-    module _ (l : i < n) (fills : Fill fill) {size : ℕ} (read : size ≡ size_read fill (read_change fill s next)) where
-      pub there-stop : size ≡ 0 → false ≡ is_there (read_changes fill n s at)
-      there-stop z = sym (left-stops fill n s next i l (no_size fill s next fills read z)) ∙ v.same
+    module _ (l : i < n) where
+      pub there-stop : None ≡ size_read fill (read_change fill s next) → false ≡ is_there (read_changes fill n s at)
+      there-stop read = sym (left-stops fill n s next i l (no_size fill s next read)) ∙ v.same
 
-      pub there-inside : (size ≡ 0 → ⊥) → next + size ≤ length s
-      there-inside z = let o = some_size fill s next fills read z in omega (arith, o.0.inside, o.1)
+      module _ {size : ℕ} (read : Some size ≡ size_read fill (read_change fill s next)) where
+        pub there-inside : next + size ≤ length s
+        there-inside = let o = some_size fill s next read in omega (arith, o.0.inside, o.1)
 
-      pub there-next : (size ≡ 0 → ⊥) → ThereInv fill n s at (next + size) (i + 1)
-      there-next z =
-          let o = some_size fill s next fills read z in
-          record {
-            within = omega arith;
-            inside = there-inside z;
-            same = ap (λ (k : ℕ). is_there (read_changes fill (n - (i + 1)) s (next + k))) o.1 ∙ left-goes fill n s next i l o.0 ∙ v.same;
-          }
+        pub there-next : ThereInv fill n s at (next + size) (i + 1)
+        there-next =
+            let o = some_size fill s next read in
+            record {
+              within = omega arith;
+              inside = there-inside;
+              same = ap (λ (k : ℕ). is_there (read_changes fill (n - (i + 1)) s (next + k))) o.1 ∙ left-goes fill n s next i l o.0 ∙ v.same;
+            }
 
 -- ---- how many add
 

@@ -1,7 +1,8 @@
 -- What the parts of writer and reader need and leave.
 -- Assumes nothing.
-use Rattle.std.specs.Prelude.{◌≡◌, ◌⊎◌, ℕ, ◌+◌, ◌≤◌, true, cond, List, length, get_or, eqb}
-use Rattle.std.proofs.Math.Option.{Option, none, some}
+use Rattle.std.specs.Prelude.{◌≡◌, ◌⊎◌, ℕ, ◌+◌, ◌≤◌, true, cond, List, length, get_or, eqb, Option, Some, None}
+use Rattle.std.proofs.Math.Option.{none, some}
+use Rattle.std.proofs.Math.Option as read
 use Rattle.spot.specs.Keys.{limited}
 use Rattle.spot.specs.Spots.{key_at, spot_at}
 use Rattle.message.specs.declared.Change.{Change}
@@ -12,10 +13,10 @@ use Rattle.message.specs.Changes.{change_size, changes_bytes, read_changes, chan
 abbrev pub Fill : ℕ → Type 0
 Fill fill = (fill ≡ 0) ⊎ (fill ≡ 4)
 
--- the bytes of a change that was read, or 0
-abbrev pub size_read : ℕ → Option Change → ℕ
-size_read fill none = 0
-size_read fill (some c) = change_size fill c
+-- the bytes of a change that was read
+abbrev pub size_read : ℕ → read.Option Change → Option ℕ
+size_read fill none = None
+size_read fill (some c) = Some (change_size fill c)
 
 -- the change at an index, where it is known that there is one
 unfoldable pub change_at : List ℕ → ℕ → Change

@@ -3,11 +3,13 @@
 
 ghost use Rattle.std.specs.Prelude.{◌≡◌, true, ◌∷◌, ◌++◌, ◌+◌, ◌*◌, ◌≤◌, ◌<◌, leb, eqb, length};
 ghost use Rattle.octets.specs.Bytes.{be, bytes_of, put_bytes};
-ghost use Rattle.block.specs.Answers.{answer};
+ghost use Rattle.block.specs.Answers.{told};
 ghost use Rattle.message.specs.declared.Change.TheVariants.{Add, Withdraw};
 ghost use Rattle.message.specs.Changes.{change_bytes, changes_bytes, change_size, read_change, read_changes, is_there, changes_of, adds_of, first_outside};
 ghost use Rattle.message.specs.Messages.{head_fits, read_message, read_list, limits_answer, changes_answer, message_answer, WritePost, ReadPost};
 ghost use Rattle.message.specs.Codes.{Fill, size_read, change_at, ChangeThere, ChangesThere, ReadableInside, Recodable};
+
+use block::Refusal;
 
 // The bytes of a message before its changes.
 pub const HEAD_BYTES: usize = 7;
@@ -30,12 +32,6 @@ pub enum Change {
     Withdraw(u64),
 }
 
-fn plain_answer(number: u32) -> block::Answer
-    ensures { result ≡ answer number 0 }
-{
-    block::Answer { number, detail: 0 }
-}
-
 // The zeros behind a withdrawal are zeros.
 fn filled(s: &[u8], at: usize, fill: usize) -> bool
     requires { Fill fill × (at + fill ≤ length s.now) }
@@ -47,26 +43,26 @@ fn filled(s: &[u8], at: usize, fill: usize) -> bool
     octets::read32(s, at) == 0
 }
 
-// The bytes of the change at an index, or 0 if there is none.
-fn size_at(s: &[u8], at: usize, fill: usize) -> usize
+// The bytes of the change at an index, if there is one.
+fn size_at(s: &[u8], at: usize, fill: usize) -> Option<usize>
     requires { Fill fill × (at ≤ length s.now) }
     ensures { result ≡ size_read fill (read_change fill s.now at) }
 {
     let left = s.len() - at;
     if left < WITHDRAWAL_BYTES + fill {
-        return 0;
+        return None;
     }
     let kind = octets::count_at(s, at);
     if (kind == 1) & (ROW_BYTES <= left) {
-        return ROW_BYTES;
+        return Some(ROW_BYTES);
     }
     if kind != 2 {
-        return 0;
+        return None;
     }
     if !filled(s, at + WITHDRAWAL_BYTES, fill) {
-        return 0;
+        return None;
     }
-    WITHDRAWAL_BYTES + fill
+    Some(WITHDRAWAL_BYTES + fill)
 }
 
 // n changes stand from an index on, and the last ends with the last byte.
@@ -75,14 +71,11 @@ fn changes_ok(s: &[u8], at: usize, n: usize, fill: usize) -> bool
     ensures { result ≡ is_there (read_changes fill n s.now at) }
 {
     let mut next = at;
-    let mut i = 0;
-    while i < n {
-        let size = size_at(s, next, fill);
-        if size == 0 {
-            return false;
+    for i in 0..n {
+        match size_at(s, next, fill) {
+            None => return false,
+            Some(size) => next += size,
         }
-        next += size;
-        i += 1;
     }
     next == s.len()
 }
@@ -104,14 +97,12 @@ fn first_outside(s: &[u8], at: usize, n: usize, fill: usize) -> usize
     ensures { result ≡ first_outside (changes_of (read_changes fill n s.now at)) }
 {
     let mut next = at;
-    let mut i = 0;
-    while i < n {
+    for i in 0..n {
         let key = spot::raw_key(s, next + 1);
         if !spot::in_limits(spot::place_of(key)) {
             return i;
         }
         next += size_of(s, next, fill);
-        i += 1;
     }
     n
 }
@@ -123,11 +114,9 @@ fn count_adds(s: &[u8], at: usize, n: usize, fill: usize) -> usize
 {
     let mut adds = 0;
     let mut next = at;
-    let mut i = 0;
-    while i < n {
+    for i in 0..n {
         adds += (s[next] == 1) as usize;
         next += size_of(s, next, fill);
-        i += 1;
     }
     adds
 }
@@ -180,12 +169,10 @@ fn recode(s: &[u8], at: usize, n: usize, fill: usize, out: &mut [u8], to: usize,
 {
     let mut from = at;
     let mut next = to;
-    let mut i = 0;
-    while i < n {
+    for i in 0..n {
         write_change(out, next, change_at(s, from), other);
         next += size_of(s, from, other);
         from += size_of(s, from, fill);
-        i += 1;
     }
 }
 
@@ -237,29 +224,26 @@ pub fn adds_of(m: &[u8]) -> usize
     count_adds(m, HEAD_BYTES, octets::read16(m, 5), 0)
 }
 
-// 9 with the position of the first of n changes that has a place outside the limits, or 0.
-fn limits_answer(s: &[u8], at: usize, n: usize, fill: usize) -> block::Answer
+// All of n changes have places inside the limits; else the position of the first that hasn't.
+fn check_limits(s: &[u8], at: usize, n: usize, fill: usize) -> Result<(), Refusal>
     requires { ChangesThere fill n s.now at × (n ≤ 4096) }
-    ensures { result ≡ limits_answer (changes_of (read_changes fill n s.now at)) }
+    ensures { told result ≡ limits_answer (changes_of (read_changes fill n s.now at)) }
 {
     let first = first_outside(s, at, n, fill);
     if first < n {
-        return block::Answer {
-            number: 9,
-            detail: first as u32,
-        };
+        return Err(Refusal::PlaceOutside(first as u32));
     }
-    plain_answer(0)
+    Ok(())
 }
 
-// What a message alone decides: 8, 9 with a position, or 0.
-pub fn judge(m: &[u8]) -> block::Answer
-    ensures { result ≡ message_answer m.now }
+// What a message alone decides: whether it is one, and its places are inside the limits.
+pub fn judge(m: &[u8]) -> Result<(), Refusal>
+    ensures { told result ≡ message_answer m.now }
 {
     if !message_ok(m) {
-        return plain_answer(8);
+        return Err(Refusal::NotAMessage);
     }
-    limits_answer(m, HEAD_BYTES, octets::read16(m, 5), 0)
+    check_limits(m, HEAD_BYTES, octets::read16(m, 5), 0)
 }
 
 // The first bytes of a message of so many bytes and changes.
@@ -273,41 +257,35 @@ fn write_head(m: &mut [u8], bytes: usize, n: usize)
 }
 
 // The message of a list of changes, 13 bytes each, at the front of `message`; its length stands in its first four bytes.
-pub fn write_message(changes: &[u8], message: &mut [u8]) -> block::Answer
-    ensures { WritePost changes.now message.old result message.new }
+pub fn write_message(changes: &[u8], message: &mut [u8]) -> Result<(), Refusal>
+    ensures { WritePost changes.now message.old (told result) message.new }
 {
     if !list_ok(changes) {
-        return plain_answer(8);
+        return Err(Refusal::NotAMessage);
     }
     let n = changes.len() / ROW_BYTES;
     let bytes = HEAD_BYTES + WITHDRAWAL_BYTES * n + ROW_FILL * count_adds(changes, 0, n, ROW_FILL);
     if message.len() < bytes {
-        return plain_answer(2);
+        return Err(Refusal::LentLength);
     }
-    let told = limits_answer(changes, 0, n, ROW_FILL);
-    if told.number != 0 {
-        return told;
-    }
+    check_limits(changes, 0, n, ROW_FILL)?;
     write_head(message, bytes, n);
     recode(changes, 0, n, ROW_FILL, message, HEAD_BYTES, 0);
-    plain_answer(0)
+    Ok(())
 }
 
 // The changes of a message, 13 bytes each, at the front of `changes`.
-pub fn read_message(message: &[u8], changes: &mut [u8]) -> block::Answer
-    ensures { ReadPost message.now changes.old result changes.new }
+pub fn read_message(message: &[u8], changes: &mut [u8]) -> Result<(), Refusal>
+    ensures { ReadPost message.now changes.old (told result) changes.new }
 {
     if !message_ok(message) {
-        return plain_answer(8);
+        return Err(Refusal::NotAMessage);
     }
     let n = octets::read16(message, 5);
     if changes.len() < ROW_BYTES * n {
-        return plain_answer(2);
+        return Err(Refusal::LentLength);
     }
-    let told = limits_answer(message, HEAD_BYTES, n, 0);
-    if told.number != 0 {
-        return told;
-    }
+    check_limits(message, HEAD_BYTES, n, 0)?;
     recode(message, HEAD_BYTES, n, 0, changes, 0, ROW_FILL);
-    plain_answer(0)
+    Ok(())
 }

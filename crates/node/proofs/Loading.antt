@@ -25,10 +25,8 @@ use Rattle.node.specs.Blocks.{EntriesLoaded}
 use Rattle.node.proofs.Listed.{blank}
 
 -- the turn of a loop that loads
-pub record-loaded : {A : Type 0} (f : ℕ → A) (w : ℕ) (l : List A) {x : A} (at i : ℕ) → i < length l → take i l ≡ records f w i at → x ≡ f (at + w * i)
-    → take (i + 1) (set l i x) ≡ records f w (i + 1) at
-record-loaded {A} f w l {x} at i h e q =
-    take-push l i x h ∙ ap₂ (λ (y : List A) (z : A). y ++ (z ∷ [])) e q ∙ sym (rw add-one (records-more f w i at))
+pub record-pushed : {A : Type 0} (f : ℕ → A) (w : ℕ) {l : List A} {x : A} (at i : ℕ) → l ≡ records f w i at → x ≡ f (at + w * i) → l ++ (x ∷ []) ≡ records f w (i + 1) at
+record-pushed {A} f w at i e q = ap₂ (λ (y : List A) (z : A). y ++ (z ∷ [])) e q ∙ sym (rw add-one (records-more f w i at))
 
 -- ---- entries
 

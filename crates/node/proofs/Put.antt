@@ -14,14 +14,10 @@ use Rattle.octets.specs.Bytes.{bytes_of, put_be, put_bytes}
 use Rattle.octets.proofs.Parts.{bytes-behind, number-bytes, number_behind}
 use Rattle.octets.proofs.Codec.{coded-append, length-coded, record-behind}
 use Rattle.octets.proofs.Lists.{over-all}
-use Rattle.spot.specs.Spots.{key_bytes, spot_bytes, spots_bytes, put_key, put_spot}
-use Rattle.spot.specs.declared.Spot.{Spot}
-use Rattle.spot.proofs.Card.{length-key_bytes, length-spot_bytes}
-use Rattle.spot.proofs.PutBytes.{key-bytes, spot-bytes}
-use Rattle.buffer.specs.Buffer.{blank}
+use Rattle.spot.proofs.Card.{length-key_bytes}
 use Rattle.block.specs.declared.Entry.{Entry}
 use Rattle.block.specs.declared.Front.{Front}
-use Rattle.node.specs.Bytes.{front_bytes, bytes_unless, entry_bytes, later_bytes, entries_bytes, keys_bytes}
+use Rattle.node.specs.Bytes.{front_bytes, bytes_unless, entry_bytes, later_bytes, entries_bytes}
 
 -- ---- the front
 
@@ -81,7 +77,7 @@ module _ {A : Type 0} (E : List A → List ℕ) (enc : A → List ℕ) (w : ℕ)
       ∙ ap (λ (z : List ℕ). E (take i l) ++ z) (cons (get_or l i d) (drop (suc i) l))
 
   -- record i behind the first i, all of them w bytes long
-  nth-behind : (wide : (x : A) → length (enc x) ≡ w) (s : List ℕ) {t u : List ℕ} (at : ℕ) (l : List A) (i : ℕ) (d : A) → i < length l → at + w * i ≤ length s
+  pub nth-behind : (wide : (x : A) → length (enc x) ≡ w) (s : List ℕ) {t u : List ℕ} (at : ℕ) (l : List A) (i : ℕ) (d : A) → i < length l → at + w * i ≤ length s
       → t ≡ put_bytes s at (E (take i l)) → u ≡ put_bytes t (at + w * i) (enc (get_or l i d)) → u ≡ put_bytes s at (E (take (i + 1) l))
   nth-behind wide s at l i d h k p q =
       let n : length (take i l) ≡ i = length-take-le i l (omega arith) in
@@ -121,21 +117,6 @@ entry-behind s n l i d h g k p q =
     bytes-behind s (entries_bytes (take i es)) (entry_bytes (eqb i 0) (get_or l i d)) 8 (8 + 28 * i) m (omega arith) p q
     ∙ ap (put_bytes s 8)
     (sym (entries-split (take (i + 1) es) i d (omega arith) ∙ rw (take-take i (i + 1) es b, get_or-take (i + 1) es i d a, get_or-take n l i d h, z, append-nil)))
-
--- the turn of a loop that writes the first n of an array: spots, and keys
-pub spot-behind : (s : List ℕ) {t u : List ℕ} (at n : ℕ) (l : List Spot) (i : ℕ) → i < n → n ≤ length l → at + 12 * n ≤ length s → length t ≡ length s
-    → t ≡ put_bytes s at (spots_bytes (take i (take n l))) → u ≡ put_spot t (at + 12 * i) (get_or l i blank) → u ≡ put_bytes s at (spots_bytes (take (i + 1) (take n l)))
-spot-behind s {t} at n l i h g k e p q =
-    let m : i < length (take n l) = rw length-take-le (omega arith) in
-    nth-behind spots_bytes spot_bytes 12 refl (λ x xs. refl) length-spot_bytes s at (take n l) i blank m (omega arith) p
-    (q ∙ spot-bytes t (at + 12 * i) (get_or l i blank) (omega arith) ∙ ap (λ (x : Spot). put_bytes t (at + 12 * i) (spot_bytes x)) (sym (get_or-take n l i blank h)))
-
-pub key-behind : (s : List ℕ) {t u : List ℕ} (at n : ℕ) (l : List ℕ) (i : ℕ) → i < n → n ≤ length l → at + 8 * n ≤ length s → length t ≡ length s
-    → t ≡ put_bytes s at (keys_bytes (take i (take n l))) → u ≡ put_key t (at + 8 * i) (get_or l i 0) → u ≡ put_bytes s at (keys_bytes (take (i + 1) (take n l)))
-key-behind s {t} at n l i h g k e p q =
-    let m : i < length (take n l) = rw length-take-le (omega arith) in
-    nth-behind keys_bytes key_bytes 8 refl (λ x xs. refl) length-key_bytes s at (take n l) i 0 m (omega arith) p
-    (q ∙ key-bytes t (at + 8 * i) (get_or l i 0) (omega arith) ∙ ap (λ (x : ℕ). put_bytes t (at + 8 * i) (key_bytes x)) (sym (get_or-take n l i 0 h)))
 
 -- the part from at on, lent and zeroed
 pub zeroed : (s : List ℕ) {u : List ℕ} (at : ℕ) → at ≤ length s

@@ -1,10 +1,11 @@
 -- The bytes of a node as they are written, one part behind the other.
 -- Assumes nothing.
-use Rattle.std.specs.Prelude.{ℕ, ◌≡◌, Bool, true, false, ◌&&◌, List, [], ◌∷◌, ◌++◌, replicate, eqb}
+use Rattle.std.specs.Prelude.{ℕ, ◌≡◌, Bool, true, false, ◌&&◌, List, [], ◌∷◌, ◌++◌, length, replicate, eqb, refl}
 use Rattle.octets.specs.Lists.{every}
 use Rattle.octets.specs.Bytes.{bytes_of, put_bytes}
 use Rattle.spot.specs.Keys.{all_keys, within, unsigned32}
-use Rattle.spot.specs.Spots.{key_bytes, spots_bytes}
+use Rattle.spot.specs.Spots.{key_at, spot_at, key_bytes, spot_bytes, spots_bytes}
+use Rattle.spot.proofs.Card.{length-key_bytes, length-spot_bytes}
 use Rattle.spot.specs.declared.Spot.{Spot}
 use Rattle.block.specs.declared.Entry.{Entry}
 use Rattle.block.specs.declared.Front.{Front}
@@ -48,14 +49,51 @@ spot_fits x = key_fits x.key && unsigned32 x.track
 abbrev pub keys_fit : Entry → Bool
 keys_fit e = key_fits e.low && key_fits e.top && key_fits e.bottom
 
--- spots, keys and entries written from a place on; they are of as many bits as a card holds
-pub record SpotsWritten (s s' : List ℕ) (at : ℕ) (xs : List Spot) : Type 0 where
-  pub bytes : s' ≡ put_bytes s at (spots_bytes xs)
-  pub fit : every spot_fits xs ≡ true
+-- how elements lie in a block: each takes so many bytes, one behind the other
+pub record Layout (A : Type 0) : Type 0 where
+  pub width : ℕ
+  pub at : List ℕ → ℕ → A
+  pub bytes : A → List ℕ
+  pub all_bytes : List A → List ℕ
+  pub fits : A → Bool
+  pub nil : all_bytes [] ≡ []
+  pub cons : (x : A) (xs : List A) → all_bytes (x ∷ xs) ≡ bytes x ++ all_bytes xs
+  pub wide : (x : A) → length (bytes x) ≡ width
 
-pub record KeysWritten (s s' : List ℕ) (at : ℕ) (ks : List ℕ) : Type 0 where
-  pub bytes : s' ≡ put_bytes s at (keys_bytes ks)
-  pub fit : every key_fits ks ≡ true
+abbrev pub laid_spots : Layout Spot
+laid_spots = record {
+  width = 12;
+  at = spot_at;
+  bytes = spot_bytes;
+  all_bytes = spots_bytes;
+  fits = spot_fits;
+  nil = refl;
+  cons = λ x xs. refl;
+  wide = length-spot_bytes;
+}
+
+abbrev pub laid_keys : Layout ℕ
+laid_keys = record {
+  width = 8;
+  at = key_at;
+  bytes = key_bytes;
+  all_bytes = keys_bytes;
+  fits = key_fits;
+  nil = refl;
+  cons = λ x xs. refl;
+  wide = length-key_bytes;
+}
+
+-- elements, and entries, written from a place on; they are of as many bits as a card holds
+pub record Written {A : Type 0} (L : Layout A) (s s' : List ℕ) (at : ℕ) (xs : List A) : Type 0 where
+  pub bytes : s' ≡ put_bytes s at (L.all_bytes xs)
+  pub fit : every L.fits xs ≡ true
+
+abbrev pub SpotsWritten : List ℕ → List ℕ → ℕ → List Spot → Type 0
+SpotsWritten = Written laid_spots
+
+abbrev pub KeysWritten : List ℕ → List ℕ → ℕ → List ℕ → Type 0
+KeysWritten = Written laid_keys
 
 pub record EntriesWritten (s s' : List ℕ) (es : List Entry) : Type 0 where
   pub bytes : s' ≡ put_bytes s 8 (entries_bytes es)

@@ -3,16 +3,19 @@
 
 ghost use Rattle.std.specs.Prelude.{◌≡◌, true, ◌∷◌, ◌++◌, suc, ◌+◌, ◌-◌, ◌*◌, ◌≤◌, ◌<◌, length, take, drop, replicate};
 ghost use Rattle.octets.specs.Lists.{records};
-ghost use Rattle.spot.specs.Spots.{key_at, spot_at, limited_from};
+ghost use Rattle.spot.specs.Keys.{limited};
+ghost use Rattle.spot.specs.Spots.{key_at, limited_from};
 ghost use Rattle.block.specs.Access.{front_of};
 ghost use Rattle.block.specs.NodeRules.{ValidBlock, ValidBytes};
-ghost use Rattle.buffer.specs.Buffer.{held, named};
 ghost use Rattle.node.specs.Memory.{entries_of, EntryAt, Storable, Stored, StoredIn, Loaded};
 ghost use Rattle.octets.specs.Bytes.{put_bytes};
-ghost use Rattle.node.specs.Bytes.{front_bytes, bytes_unless, entry_bytes, key_fits, keys_fit, SpotsWritten, KeysWritten, EntriesWritten};
+ghost use Rattle.node.specs.Bytes.{front_bytes, bytes_unless, entry_bytes, key_fits, keys_fit, Layout, laid_spots, laid_keys, Written, EntriesWritten};
 ghost use Rattle.node.specs.Blocks.{EntriesLoaded, LoadedIn};
 
+use buffer::{Buffer, Element};
+
 // The child entries of a node, held together as one value; the first n are in use.
+// Stays: there is no heap, so a fixed array stands here with how many of it are in use.
 #[derive(Clone, Copy)]
 pub struct Entries {
     pub n: usize,
@@ -26,6 +29,54 @@ pub struct NodeValue {
     pub points: buffer::SpotBuffer,
     pub inserts: buffer::SpotBuffer,
     pub deletes: buffer::KeyBuffer,
+}
+
+// How what stands in a buffer lies in a block: so many bytes for each, one behind the other.
+trait Laid: Element {
+    ghost laid: { Layout Self };
+
+    fn width() -> usize
+        ensures { result ≡ laid.width };
+
+    fn read(s: &[u8], at: usize) -> Self
+        requires { (at + laid.width ≤ length s.now) × (limited (key_at s.now at) ≡ true) }
+        ensures { result ≡ laid.at s.now at };
+
+    fn write(self, s: &mut [u8], at: usize)
+        requires { at + laid.width ≤ length s.old }
+        ensures { (s.new ≡ put_bytes s.old at (laid.bytes self)) × (laid.fits self ≡ true) };
+}
+
+impl Laid for spot::Spot {
+    ghost laid = { laid_spots };
+
+    fn width() -> usize {
+        spot::SPOT_BYTES
+    }
+
+    fn read(s: &[u8], at: usize) -> spot::Spot {
+        spot::read_spot(s, at)
+    }
+
+    fn write(self, s: &mut [u8], at: usize) {
+        spot::write_spot(s, at, self);
+    }
+}
+
+impl Laid for u64 {
+    ghost laid = { laid_keys };
+
+    fn width() -> usize {
+        spot::KEY_BYTES
+    }
+
+    fn read(s: &[u8], at: usize) -> u64 {
+        spot::read_key(s, at)
+    }
+
+    fn write(self, s: &mut [u8], at: usize) {
+        spot::write_key(s, at, self);
+    }
 }
 
 // The i-th entry.
@@ -55,11 +106,9 @@ pub fn replace_two(es: Entries, i: usize, e: block::Entry, f: block::Entry) -> E
     let mut next = es;
     next.list[i] = e;
     next.list[i + 1] = f;
-    let mut j = i + 1;
-    while j < n {
+    for j in i + 1..n {
         let x = es.list[j];
         next.list[j + 1] = x;
-        j += 1;
     }
     next.n = n + 1;
     next
@@ -81,11 +130,9 @@ pub fn entries_from(es: Entries, k: usize) -> Entries
 {
     let n = es.n;
     let mut next = es;
-    let mut j = k;
-    while j < n {
+    for j in k..n {
         let x = es.list[j];
         next.list[j - k] = x;
-        j += 1;
     }
     next.n = n - k;
     next
@@ -108,6 +155,7 @@ fn write_front(s: &mut [u8], h: block::Front)
 }
 
 // A key at a place, zeros where it is unused.
+// Stays: flag and key come from an entry's own fields, and an Option would be made only to be taken apart here.
 fn write_unless(s: &mut [u8], at: usize, k: u64, unused: bool)
     requires { at + 8 ≤ length s.old }
     ensures { (s.new ≡ put_bytes s.old at (bytes_unless unused k)) × (key_fits k ≡ true) }
@@ -139,37 +187,20 @@ fn write_entries(s: &mut [u8], es: Entries)
     ensures { EntriesWritten s.old s.new (entries_of es) }
 {
     let n = es.n;
-    let mut i = 0;
-    while i < n {
+    for i in 0..n {
         let e = es.list[i];
         write_entry(s, block::FRONT_BYTES + block::ENTRY_BYTES * i, e, i == 0);
-        i += 1;
     }
 }
 
-fn write_spots(s: &mut [u8], at: usize, b: buffer::SpotBuffer)
-    requires { (b.n ≤ 80) × (at + 12 * b.n ≤ length s.old) }
-    ensures { SpotsWritten s.old s.new at (held b) }
+fn write_list<B: Buffer>(s: &mut [u8], at: usize, b: B)
+where
+    B::Item: Laid,
+    requires { (B.count b ≤ B.room) × (at + B.Item.laid.width * B.count b ≤ length s.old) }
+    ensures { Written B.Item.laid s.old s.new at (B.held b) }
 {
-    let n = b.n;
-    let mut i = 0;
-    while i < n {
-        let x = b.spots[i];
-        spot::write_spot(s, at + spot::SPOT_BYTES * i, x);
-        i += 1;
-    }
-}
-
-fn write_keys(s: &mut [u8], at: usize, b: buffer::KeyBuffer)
-    requires { (b.n ≤ 32) × (at + 8 * b.n ≤ length s.old) }
-    ensures { KeysWritten s.old s.new at (named b) }
-{
-    let n = b.n;
-    let mut i = 0;
-    while i < n {
-        let k = b.keys[i];
-        spot::write_key(s, at + spot::KEY_BYTES * i, k);
-        i += 1;
+    for (i, x) in b.as_slice().iter().enumerate() {
+        x.write(s, at + B::Item::width() * i);
     }
 }
 
@@ -214,9 +245,9 @@ pub fn store(s: &mut [u8], n: NodeValue)
         },
     );
     write_entries(s, es);
-    write_spots(s, at, points);
-    write_spots(s, ai, inserts);
-    write_keys(s, ad, deletes);
+    write_list(s, at, points);
+    write_list(s, ai, inserts);
+    write_list(s, ad, deletes);
     zero_from(s, used);
 }
 
@@ -248,43 +279,24 @@ fn load_entries(s: &[u8], c: usize) -> Entries
         n: c,
         list: [none; 8],
     };
-    let mut i = 0;
-    while i < c {
+    for i in 0..c {
         let e = block::entry_at(s, i);
         out.list[i] = e;
-        i += 1;
     }
     out
 }
 
-// The n spots, and the n keys, from a place on.
-fn load_spots(s: &[u8], at: usize, n: usize) -> buffer::SpotBuffer
-    requires { (n ≤ 80) × (at + 12 * n ≤ length s.now) × (limited_from s.now 12 n at ≡ true) }
-    ensures { (result.n ≡ n) × (held result ≡ records (spot_at s.now) 12 n at) }
+// The n elements from a place on.
+fn load_list<B: Buffer>(s: &[u8], at: usize, n: usize) -> B
+where
+    B::Item: Laid,
+    requires { (n ≤ B.room) × (at + B.Item.laid.width * n ≤ length s.now) × (limited_from s.now B.Item.laid.width n at ≡ true) }
+    ensures { (B.count result ≡ n) × (B.held result ≡ records (B.Item.laid.at s.now) B.Item.laid.width n at) }
 {
-    let mut out = buffer::empty();
-    let mut i = 0;
-    while i < n {
-        let x = spot::read_spot(s, at + spot::SPOT_BYTES * i);
-        out.spots[i] = x;
-        i += 1;
+    let mut out: B = buffer::empty();
+    for i in 0..n {
+        out.push(B::Item::read(s, at + B::Item::width() * i));
     }
-    out.n = n;
-    out
-}
-
-fn load_keys(s: &[u8], at: usize, n: usize) -> buffer::KeyBuffer
-    requires { (n ≤ 32) × (at + 8 * n ≤ length s.now) × (limited_from s.now 8 n at ≡ true) }
-    ensures { (result.n ≡ n) × (named result ≡ records (key_at s.now) 8 n at) }
-{
-    let mut out = buffer::empty_keys();
-    let mut i = 0;
-    while i < n {
-        let k = spot::read_key(s, at + spot::KEY_BYTES * i);
-        out.keys[i] = k;
-        i += 1;
-    }
-    out.n = n;
     out
 }
 
@@ -296,9 +308,9 @@ fn load_block(s: &[u8]) -> NodeValue
     let h = block::front_of(s);
     let level = octets::count_at(s, 3);
     let entries = load_entries(s, h.c);
-    let points = load_spots(s, block::points_from(h), h.p);
-    let inserts = load_spots(s, block::inserts_from(h), h.i);
-    let deletes = load_keys(s, block::deletes_from(h), h.d);
+    let points = load_list(s, block::points_from(h), h.p);
+    let inserts = load_list(s, block::inserts_from(h), h.i);
+    let deletes = load_list(s, block::deletes_from(h), h.d);
     NodeValue {
         level,
         entries,

@@ -103,10 +103,8 @@ pub fn ones(map: &[u8]) -> usize
     ensures { result ≡ ones_below map.now (8 * length map.now) }
 {
     let mut n: usize = 0;
-    let mut i = 0;
-    while i < map.len() {
-        n += u8::count_ones(map[i]) as usize;
-        i += 1;
+    for byte in map {
+        n += u8::count_ones(*byte) as usize;
     }
     n
 }
@@ -116,14 +114,12 @@ pub fn first_clear(map: &[u8]) -> usize
     requires { length map.now ≤ 512 }
     ensures { FirstClear map.now result }
 {
-    let mut i = 0;
-    while i < map.len() {
-        if map[i] != 255 {
-            return i * 8 + (u8::trailing_zeros(255 - map[i]) as usize);
+    for (i, byte) in map.iter().enumerate() {
+        if *byte != 255 {
+            return i * 8 + (u8::trailing_zeros(255 - *byte) as usize);
         }
-        i += 1;
     }
-    i * 8
+    map.len() * 8
 }
 
 // The first n bytes become 0.
@@ -131,11 +127,7 @@ pub fn zero(s: &mut [u8], n: usize)
     requires { n ≤ length s.old }
     ensures { s.new ≡ replicate n 0 ++ drop n s.old }
 {
-    let mut i = 0;
-    while i < n {
-        s[i] = 0;
-        i += 1;
-    }
+    s[..n].fill(0);
 }
 
 // The first n bytes become those of `from`.
@@ -143,9 +135,5 @@ pub fn copy(from: &[u8], to: &mut [u8], n: usize)
     requires { (n ≤ length from.now) × (n ≤ length to.old) }
     ensures { to.new ≡ take n from.now ++ drop n to.old }
 {
-    let mut i = 0;
-    while i < n {
-        to[i] = from[i];
-        i += 1;
-    }
+    to[..n].copy_from_slice(&from[..n]);
 }

@@ -9,12 +9,9 @@ ghost use Rattle.spot.specs.Spots.{limited_from};
 pub extern "C" fn perf_sum_keys(s: &[u8]) -> u64
     requires { limited_from s.now 8 (length s.now / 8) 0 ≡ true }
 {
-    let n = s.len() / 8;
     let mut sum: u64 = 0;
-    let mut i = 0;
-    while i < n {
-        sum = std::num::wrapping_add_u64(sum, spot::read_key(s, 8 * i));
-        i += 1;
+    for i in 0..s.len() / 8 {
+        sum = sum.wrapping_add(spot::read_key(s, 8 * i));
     }
     sum
 }

@@ -1,14 +1,17 @@
 -- Arrays that loops of stores fill: from the first on by one rule, and closed up behind an entry.
 -- Assumes nothing.
-use mathlib.Core.Path.{◌≡◌, sym, ap, ◌∙◌}
+use mathlib.Core.Path.{◌≡◌, sym, ap, ap₂, ◌∙◌}
 use mathlib.Core.Logic.{⊎_elim}
-use mathlib.Core.List.{List, [], ◌∷◌, ◌++◌, append-nil}
+use mathlib.Core.List.{List, ◌++◌}
 use Prim.Native.Nat.{ℕ, ◌+◌, ◌-◌, ◌≤◌, ◌<◌}
 use native.Mathlib.Omega.{arith}
-use lib.ListN.{length, take, drop, get_or, set, drop_of_length-le}
-use lib.Seq.{get_or-set_same, get_or-set_other, get_or-take, append_snoc, length-take-le}
+use lib.ListN.{length, take, drop, get_or, set, length-set, length-drop}
+use lib.Seq.{get_or-set_same, get_or-set_other, append_snoc}
+use Rattle.std.specs.List.{copy_within}
+use Rattle.std.proofs.lemmas.List.{drop-set-lt, drop-take}
+use Rattle.std.proofs.lemmas.List.Edits.{take-paste}
 use Rattle.octets.proofs.Order.{same_or_not}
-use Rattle.octets.proofs.Lists.{take-push, drop-next}
+use Rattle.octets.proofs.Lists.{take-push}
 use Rattle.plan.specs.Plans.{closed_up}
 
 -- one element more of those that follow a rule
@@ -17,25 +20,20 @@ pub filled : {A : Type 0} (f : ℕ → A) (l : List A) (i : ℕ) (x d : A) → i
 filled f l i x d h p e j k =
     ⊎_elim (λ (s : j ≡ i). rw s (get_or-set_same l i x d h ∙ e)) (λ (s : j ≡ i → ⊥). get_or-set_other l i j x d s ∙ p j (omega arith)) (same_or_not j i)
 
--- the i-th entry is stored, those behind the next one are still to be moved up
-pub closed-start : (order : List ℕ) (i n block : ℕ) → i < length order → take (i + 1) (set order i block) ++ drop (i + 1 + 1) (take n order) ≡ closed_up order i n block
-closed-start order i n block h =
-    let e : i + 1 + 1 ≡ i + 2 = omega arith in
-    rw (take-push order i block h, e) (append_snoc (take i order) block (drop (i + 2) (take n order)))
-
-pub closed-turn : (order next : List ℕ) (i n block j : ℕ) → n ≤ length order → j + 1 < n → j < length next
-    → take j next ++ drop (j + 1) (take n order) ≡ closed_up order i n block
-    → take (j + 1) (set next j (get_or order (j + 1) 0)) ++ drop (j + 1 + 1) (take n order) ≡ closed_up order i n block
-closed-turn order next i n block j a h b e =
-    let x = get_or order (j + 1) 0 in
-    let long : j + 1 < length (take n order) = rw (length-take-le n order a) h in
-    let next-is : drop (j + 1) (take n order) ≡ x ∷ drop (j + 1 + 1) (take n order) =
-    drop-next (take n order) (j + 1) 0 long ∙ ap (λ (y : ℕ). y ∷ drop (j + 1 + 1) (take n order)) (get_or-take n order (j + 1) 0 h) in
-    rw (take-push next j x b) (append_snoc (take j next) x (drop (j + 1 + 1) (take n order)) ∙ ap (λ (z : List ℕ). take j next ++ z) (sym next-is) ∙ e)
-
-pub closed-end : (order next : List ℕ) (i n block j : ℕ) → n ≤ length order → n ≤ j + 1 → j + 1 ≤ n
-    → take j next ++ drop (j + 1) (take n order) ≡ closed_up order i n block → take (n - 1) next ≡ closed_up order i n block
-closed-end order next i n block j a h k e =
-    let m : n - 1 ≡ j = omega arith in
-    let none : drop (j + 1) (take n order) ≡ [] = drop_of_length-le (take n order) {i = j + 1} (rw (length-take-le n order a) h) in
-    rw m (sym (append-nil (take j next)) ∙ ap (λ (z : List ℕ). take j next ++ z) (sym none) ∙ e)
+-- the i-th entry is stored, and those behind the next one are moved up
+pub closed-moved : (order : List ℕ) (i n block : ℕ) → i + 1 < n → n ≤ length order
+    → take (n - 1) (copy_within (set order i block) (i + 2) n (i + 1)) ≡ closed_up order i n block
+closed-moved order i n block h a =
+    let stored : List ℕ = set order i block in
+    let long = length-set order i block in
+    let behind = length-drop (i + 2) stored in
+    let last : i + 1 + (n - (i + 2)) ≡ n - 1 = omega arith in
+    let whole : i + 2 + (n - (i + 2)) ≡ n = omega arith in
+    let up : take (n - (i + 2)) (drop (i + 2) stored) ≡ drop (i + 2) (take n order) =
+    ap (take (n - (i + 2))) (drop-set-lt (i + 2) order i block (omega arith))
+    ∙ sym (drop-take (i + 2) (n - (i + 2)) order)
+    ∙ ap (λ (k : ℕ). drop (i + 2) (take k order)) whole in
+    ap (λ (k : ℕ). take k (copy_within stored (i + 2) n (i + 1))) (sym last)
+    ∙ take-paste stored (i + 1) (drop (i + 2) stored) (n - (i + 2)) (omega (arith, long)) (omega (arith, long, behind))
+    ∙ ap₂ (λ (x y : List ℕ). x ++ y) (take-push order i block (omega arith)) up
+    ∙ append_snoc (take i order) block (drop (i + 2) (take n order))

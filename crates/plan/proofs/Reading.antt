@@ -2,16 +2,16 @@
 -- Assumes nothing.
 use mathlib.Core.Path.{◌≡◌, refl, sym, ◌∙◌}
 use mathlib.Core.Logic.{inl, inr, ⊎_elim}
-use mathlib.Core.Bool.{Bool, true, false, cond, ◌&&◌}
+use mathlib.Core.Bool.{Bool, true, false, cond}
 use mathlib.Core.List.{List, ◌∷◌}
-use Prim.Native.Nat.{ℕ, suc, ◌+◌, ◌-◌, ◌*◌, ◌≤◌, ◌<◌}
+use Prim.Native.Nat.{ℕ, suc, ◌+◌, ◌-◌, ◌*◌, ◌≤◌, ◌<◌, min}
+use native.Mathlib.Nat.{min-le_left, min-le_right, min-eq_left, min-eq_right}
 use native.Mathlib.Omega.{arith}
-use lib.Dec.{leb, ltb}
+use lib.Dec.{leb}
 use lib.ListN.{length}
 use mir.Val.{bool_byte}
-use borrow.Author.Tests.{leb-true, ltb-true, ltb-false, le-leb}
-use Rattle.octets.proofs.Order.{same_or_not}
-use Rattle.octets.proofs.Tests.{and_left, and_right, keep-length}
+use Rattle.octets.proofs.Order.{same_or_not, less-or-not}
+use Rattle.octets.proofs.Tests.{keep-length}
 use Rattle.octets.proofs.Records.{length-records}
 use Rattle.spot.specs.Keys.{rank_key, limited}
 use Rattle.spot.specs.Spots.{key_at, spot_at, spots_from}
@@ -63,18 +63,18 @@ counted_is s p floor = refl
 
 -- ---- the least
 
-pub nearer-yes : (best r floor : ℕ) → leb floor r && ltb r best ≡ true → Nearer best r floor r
-nearer-yes best r floor t =
-    let a : floor ≤ r = leb-true floor r (and_left (leb floor r) (ltb r best) t) in
-    let b : r < best = ltb-true r best (and_right (leb floor r) (ltb r best) t) in
-    record { small = omega arith; least = λ h. omega arith; found = inr (refl, a) }
-
-pub nearer-not : (best r floor : ℕ) → leb floor r && ltb r best ≡ false → Nearer best r floor best
-nearer-not best r floor t = record { small = omega arith; least = λ h. ltb-false r best (rw (le-leb floor r h) at t); found = inl refl }
-
-pub rank-none : (s : List ℕ) (floor limit : ℕ) → NextRank s 0 floor limit limit
-rank-none s floor limit =
-    record { small = omega arith; least = λ i h. let z : ⊥ = omega arith in absurd z; found = λ h. let z : ⊥ = omega arith in absurd z }
+pub nearer-least : (best r floor : ℕ) → floor ≤ r → Nearer best r floor (min best r)
+nearer-least best r floor h =
+    let a = min-le_left best r in
+    let b = min-le_right best r in
+    record {
+      small = a;
+      least = λ k. b;
+      found =
+          ⊎_elim (λ (k : best ≤ r). inl (min-eq_left {n = best} {m = r} k))
+          (λ (k : r < best). inr (min-eq_right {n = r} {m = best} (omega arith), h))
+          (less-or-not best r);
+    }
 
 pub rank-turn : (s : List ℕ) (floor limit i best x : ℕ) → NextRank s i floor limit best → Nearer best (rank_key (key_at s (12 * i))) floor x → NextRank s (i + 1) floor limit x
 rank-turn s floor limit i best x p q =

@@ -2,14 +2,15 @@
 // written.
 #![tactic(auto)]
 
-ghost use Rattle.std.specs.Prelude.{◌≡◌, ◌+◌, ◌-◌, ◌≤◌, ◌<◌, min, length, take, get_or};
+ghost use Rattle.std.specs.Prelude.{◌≡◌, ◌+◌, ◌-◌, ◌≤◌, ◌<◌, MatchOption, length, take, get_or};
 ghost use Rattle.spot.specs.Spots.{spots_in};
 ghost use Rattle.plan.specs.Plans.{Spots, SpotsReadable, Nearer, NextRank, SweepPlanned, Started, PlanShaped, RipeAt, Fused, PassedRank, piece_left, piece_at, closed_up, ended_at};
 
-// Zero in its eight bytes: stands where no passing made or ended a block.
+// Zero in its eight bytes: stands where no passing made or ended a block. It is also the key of place 0 and rank 0: the block's position decides.
 pub const NO_KEY: u64 = 9223372039002259456;
 
 // A block: of the spots from `from` on, before `to`, those with a rank key of at least `floor`; and the key whose passing ended it.
+// Stays: the card has `NO_KEY` where no passing ended a block, so None would only be written back as that.
 #[derive(Clone, Copy)]
 pub struct Piece {
     pub from: usize,
@@ -19,21 +20,13 @@ pub struct Piece {
 }
 
 // The blocks made so far, by their numbers, and the places in `pieces` of those that stand, from left to right.
+// Stays: memory of a fixed size, with the numbers of entries beside it, since there is no heap.
 #[derive(Clone, Copy)]
 pub struct Plan {
     pub count: usize,
     pub stands: usize,
     pub pieces: [Piece; 16],
     pub order: [usize; 8],
-}
-
-fn lesser(a: usize, b: usize) -> usize
-    ensures { result ≡ min a b }
-{
-    if a < b {
-        return a;
-    }
-    b
 }
 
 // The place blocks of n spots: all of 64 spots but the last.
@@ -50,17 +43,15 @@ fn start(n: usize) -> Plan
     let mut pieces = [none; 16];
     let mut order = [0usize; 8];
     let places = (n + 63) / 64;
-    let mut i = 0;
-    while i < places {
+    for i in 0..places {
         let from = 64 * i;
         pieces[i] = Piece {
             from,
-            to: lesser(from + 64, n),
+            to: (from + 64).min(n),
             floor: 0,
             ended: NO_KEY,
         };
         order[i] = i;
-        i += 1;
     }
     Plan {
         count: places,
@@ -74,8 +65,8 @@ fn start(n: usize) -> Plan
 fn nearer(best: u64, r: u64, floor: u64) -> u64
     ensures { Nearer best r floor result }
 {
-    if (floor <= r) & (r < best) {
-        return r;
+    if floor <= r {
+        return best.min(r);
     }
     best
 }
@@ -86,10 +77,8 @@ fn next_rank(spots: &[u8], n: usize, floor: u64) -> u64
     ensures { NextRank spots.now n floor 18446744073709551615 result }
 {
     let mut best: u64 = 18446744073709551615;
-    let mut i = 0;
-    while i < n {
+    for i in 0..n {
         best = nearer(best, spot::rank_key(spot::read_key(spots, 12 * i)), floor);
-        i += 1;
     }
     best
 }
@@ -99,12 +88,9 @@ fn count_left(spots: &[u8], p: Piece, floor: u64) -> usize
     requires { SpotsReadable spots.now p.to }
     ensures { (result ≡ piece_left spots.now p floor) × (result ≤ p.to) }
 {
-    let end = p.to;
     let mut c: usize = 0;
-    let mut i = p.from;
-    while i < end {
+    for i in p.from..p.to {
         c += (floor <= spot::rank_key(spot::read_key(spots, 12 * i))) as usize;
-        i += 1;
     }
     c
 }
@@ -118,36 +104,30 @@ fn piece_at(plan: Plan, i: usize) -> Piece
     plan.pieces[at]
 }
 
-// The first of the blocks that stand which has, with its right neighbour, 64 spots left of a rank key of at least floor; or the number of blocks that stand.
-fn ripe_at(spots: &[u8], plan: Plan, floor: u64) -> usize
+// The first of the blocks that stand which has, with its right neighbour, 64 spots left of a rank key of at least floor.
+fn ripe_at(spots: &[u8], plan: Plan, floor: u64) -> Option<usize>
     requires { PlanShaped spots.now plan }
-    ensures { RipeAt spots.now plan floor result × (result ≤ 8) }
+    ensures { MatchOption result (RipeAt spots.now plan floor plan.stands) (λ i. RipeAt spots.now plan floor i × (i + 1 < plan.stands)) }
 {
-    let n = plan.stands;
-    let mut i = 0;
-    while i + 1 < n {
+    let pairs = plan.stands.saturating_sub(1);
+    for i in 0..pairs {
         let here = count_left(spots, piece_at(plan, i), floor);
         let next = count_left(spots, piece_at(plan, i + 1), floor);
         if here + next == 64 {
-            return i;
+            return Some(i);
         }
-        i += 1;
     }
-    n
+    None
 }
 
 // The i-th of n entries is replaced, and those behind the next one move up.
-fn closed(order: [usize; 8], i: usize, n: usize, block: usize) -> [usize; 8]
+pub fn closed(order: [usize; 8], i: usize, n: usize, block: usize) -> [usize; 8]
     requires { (i + 1 < n) × (n ≤ 8) }
     ensures { (length result ≡ 8) × (take (n - 1) result ≡ closed_up order i n block) }
 {
     let mut next = order;
     next[i] = block;
-    let mut j = i + 1;
-    while j + 1 < n {
-        next[j] = order[j + 1];
-        j += 1;
-    }
+    next.copy_within(i + 2..n, i + 1);
     next
 }
 
@@ -157,12 +137,9 @@ fn ended_at(pieces: [Piece; 16], at: usize, key: u64) -> [Piece; 16]
     ensures { result ≡ ended_at pieces at key }
 {
     let mut next = pieces;
-    let p = pieces[at];
     next[at] = Piece {
-        from: p.from,
-        to: p.to,
-        floor: p.floor,
         ended: key,
+        ..pieces[at]
     };
     next
 }
@@ -198,11 +175,10 @@ fn pass(spots: &[u8], plan: Plan, r: u64) -> Plan
     requires { PlanShaped spots.now plan × (r < 18446744073709551615) }
     ensures { PassedRank spots.now plan r result }
 {
-    let i = ripe_at(spots, plan, r + 1);
-    if i + 1 < plan.stands {
-        return fused(plan, i, r);
+    match ripe_at(spots, plan, r + 1) {
+        Some(i) => fused(plan, i, r),
+        None => plan,
     }
-    plan
 }
 
 // The whole sweep over the first n spots.
@@ -212,12 +188,10 @@ pub fn plan_of(spots: &[u8], n: usize) -> Plan
 {
     let mut plan = start(n);
     let mut floor: u64 = 0;
-    let mut passed = 0;
-    while passed < n {
+    for passed in 0..n {
         let r = next_rank(spots, n, floor);
         plan = pass(spots, plan, r);
         floor = r + 1;
-        passed += 1;
     }
     plan
 }

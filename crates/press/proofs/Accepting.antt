@@ -157,31 +157,25 @@ accepted-spots bytes s h b =
 
 -- ---- what pressing leaves
 
-module _ (s lent : List ℕ) {r : Answer} {number : ℕ} (told : number ≡ press_number (length lent) s) (answers : r ≡ answer number 0) where
-  answered-by : r ≡ answer (press_number (length lent) s) 0
-  answered-by = answers ∙ ap (λ (k : ℕ). answer k 0) told
-
-  number_of : r.number ≡ number
-  number_of = ap (λ (a : Answer). a.number) answers
-
-  pub refused : (number ≡ 0 → ⊥) → PressPost s lent r lent
+module _ (s lent : List ℕ) {r : Answer} (answered : r ≡ answer (press_number (length lent) s) 0) where
+  pub left-alone : (r.number ≡ 0 → ⊥) → PressPost s lent r lent
   unfolding tour_left
-  refused h =
+  left-alone h =
       record {
-        answered = answered-by;
-        tour = unchanged number h ∙ ap (λ (k : ℕ). tour_left k (spots_given s) lent) (sym number_of);
-        short = λ e. absurd (h (sym number_of ∙ e));
+        answered = answered;
+        tour = unchanged r.number h;
+        short = λ e. absurd (h e);
       }
     where
       unchanged : (k : ℕ) → (k ≡ 0 → ⊥) → lent ≡ tour_left k (spots_given s) lent
       unchanged zero g = absurd (g refl)
       unchanged (suc k) g = refl
 
-  pub tour-pressed : {lent' : List ℕ} → number ≡ 0 → TourWritten (spots_given s) lent lent' → PressPost s lent r lent'
+  pub tour-pressed : {lent' : List ℕ} → r.number ≡ 0 → TourWritten (spots_given s) lent lent' → PressPost s lent r lent'
   unfolding tour_left
   tour-pressed z w =
       record {
-        answered = answered-by;
-        tour = w.bytes ∙ ap (λ (k : ℕ). tour_left k (spots_given s) lent) (sym (number_of ∙ z));
+        answered = answered;
+        tour = w.bytes ∙ ap (λ (k : ℕ). tour_left k (spots_given s) lent) (sym z);
         short = λ e. w.short;
       }

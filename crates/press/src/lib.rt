@@ -5,11 +5,13 @@ ghost use Rattle.std.specs.Prelude.{◌≡◌, true, ◌+◌, ◌*◌, ◌≤◌
 ghost use Rattle.octets.specs.Lists.{rising};
 ghost use Rattle.octets.specs.Bytes.{put_bytes};
 ghost use Rattle.spot.specs.Spots.{spots_bytes, keys_from, limited_from};
-ghost use Rattle.block.specs.Answers.{answer};
+ghost use Rattle.block.specs.Answers.{answer, told};
 ghost use Rattle.sweep.specs.Pressed.{padded, catalogue, tiles_bytes, tile_entry_bytes, tiles};
 ghost use Rattle.plan.specs.Plans.{piece_spots, piece_tile, made_by};
 ghost use Rattle.press.specs.Press.{spots_given, pressable, press_number, PressPost};
 ghost use Rattle.press.specs.Writing.{PressReady, PieceReady, PlanReady, TourWritten, extent_of, with_higher, fields_bytes, head_bytes};
+
+use block::Refusal;
 
 // The bytes of a block, of the catalogue before its entries, and of an entry.
 const BLOCK_BYTES: usize = 2048;
@@ -22,17 +24,12 @@ const ENTRY_BYTES: usize = 36;
 pub const TOUR_BYTES: usize = 32768;
 
 // The number of spots of a piece, and the lowest and the highest key.
+// Stays: a piece without spots has an entry too, with `NO_KEY` for both, so None would only be written back as that.
 #[derive(Clone, Copy)]
 struct Extent {
     n: usize,
     low: u64,
     high: u64,
-}
-
-fn plain_answer(number: u32) -> block::Answer
-    ensures { result ≡ answer number 0 }
-{
-    block::Answer { number, detail: 0 }
 }
 
 // Whole spots, not too many, and their keys rise.
@@ -55,20 +52,20 @@ fn inside(spots: &[u8], n: usize) -> bool
         & (spot::raw_key(spots, 12 * (n - 1)) < spot::END_KEY)
 }
 
-// The number that pressing answers with: 0 where it is accepted. `bytes` are lent for the tour.
-fn refusal(spots: &[u8], bytes: usize) -> u32
-    ensures { result ≡ press_number bytes spots.now }
+// Whether these spots may be pressed into so many lent bytes.
+fn judge(spots: &[u8], bytes: usize) -> Result<(), Refusal>
+    ensures { told result ≡ answer (press_number bytes spots.now) 0 }
 {
     if bytes < TOUR_BYTES {
-        return 2;
+        return Err(Refusal::LentLength);
     }
     if !pressable(spots) {
-        return 7;
+        return Err(Refusal::NotPressable);
     }
     if !inside(spots, spots.len() / 12) {
-        return 9;
+        return Err(Refusal::PlaceOutside(0));
     }
-    0
+    Ok(())
 }
 
 // The spots of a piece at the front of a block, the rest of it zero.
@@ -77,16 +74,13 @@ fn write_tile(spots: &[u8], p: plan::Piece, s: &mut [u8])
     ensures { s.new ≡ padded (spots_bytes (piece_spots (spots_given spots.now) p)) }
 {
     octets::zero(s, BLOCK_BYTES);
-    let end = p.to;
     let mut at: usize = 0;
-    let mut i = p.from;
-    while i < end {
+    for i in p.from..p.to {
         let x = spot::read_spot(spots, 12 * i);
         if p.floor <= spot::rank_key(x.key) {
             spot::write_spot(s, at, x);
             at += 12;
         }
-        i += 1;
     }
 }
 
@@ -95,14 +89,11 @@ fn write_tiles(spots: &[u8], p: plan::Plan, tour: &mut [u8])
     requires { PlanReady spots.now p × (32768 ≤ length tour.old) }
     ensures { tour.new ≡ put_bytes tour.old 2048 (tiles_bytes (tiles (spots_given spots.now))) }
 {
-    let n = p.count;
-    let mut i = 0;
-    while i < n {
+    for i in 0..p.count {
         let x = p.pieces[i];
         let from = 2048 * (i + 1);
         let to = from + 2048;
         write_tile(spots, x, &mut tour[from..to]);
-        i += 1;
     }
 }
 
@@ -130,24 +121,22 @@ fn extent_of(spots: &[u8], p: plan::Piece) -> Extent
     requires { PieceReady spots.now p }
     ensures { result ≡ extent_of (piece_spots (spots_given spots.now) p) }
 {
-    let end = p.to;
     let mut e = Extent {
         n: 0,
         low: plan::NO_KEY,
         high: plan::NO_KEY,
     };
-    let mut i = p.from;
-    while i < end {
+    for i in p.from..p.to {
         let k = spot::read_key(spots, 12 * i);
         if p.floor <= spot::rank_key(k) {
             e = with_key(e, k);
         }
-        i += 1;
     }
     e
 }
 
 // The key whose passing made a piece.
+// Stays: floor 0 is the least there is, and takes all spots as it stands; `made_by` reads it as none.
 fn made_key(floor: u64) -> u64
     ensures { result ≡ made_by floor }
 {
@@ -191,13 +180,10 @@ fn write_catalogue(spots: &[u8], p: plan::Plan, s: &mut [u8])
     requires { PlanReady spots.now p × (length s.old ≡ 2048) }
     ensures { s.new ≡ catalogue (tiles (spots_given spots.now)) }
 {
-    let n = p.count;
-    write_head(s, n);
-    let mut i = 0;
-    while i < n {
+    write_head(s, p.count);
+    for i in 0..p.count {
         let x = p.pieces[i];
         write_entry(spots, x, s, HEAD_BYTES + ENTRY_BYTES * i);
-        i += 1;
     }
 }
 
@@ -212,13 +198,10 @@ fn write_tour(spots: &[u8], tour: &mut [u8])
 }
 
 // The tour of these spots at the front of `tour`; its length stands in its first four bytes.
-pub fn press(spots: &[u8], tour: &mut [u8]) -> block::Answer
-    ensures { PressPost spots.now tour.old result tour.new }
+pub fn press(spots: &[u8], tour: &mut [u8]) -> Result<(), Refusal>
+    ensures { PressPost spots.now tour.old (told result) tour.new }
 {
-    let number = refusal(spots, tour.len());
-    if number != 0 {
-        return plain_answer(number);
-    }
+    judge(spots, tour.len())?;
     write_tour(spots, tour);
-    plain_answer(0)
+    Ok(())
 }

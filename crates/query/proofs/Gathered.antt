@@ -1,7 +1,7 @@
 -- The spots of a table whose walk is whole, collected at the front of an output.
 -- Assumes nothing.
 use mathlib.Core.Path.{◌≡◌, refl, ap, sym, subst, ◌∙◌}
-use mathlib.Core.Bool.{Bool, true, false, cond, ◌&&◌, true≢false, false≢true}
+use mathlib.Core.Bool.{Bool, true, false, cond, ◌&&◌, true≢false}
 use mathlib.Core.List.{List, [], ◌++◌}
 use Prim.Native.Nat.{ℕ, suc, ◌+◌, ◌-◌, ◌*◌, ◌≤◌, ◌<◌}
 use native.Mathlib.Omega.{arith}
@@ -27,7 +27,8 @@ use Rattle.visit.specs.declared.Span.{Span}
 use Rattle.visit.specs.declared.Path.{Path}
 use Rattle.visit.specs.Visit.{above, named_above, end_of, part_of}
 use Rattle.visit.proofs.Above.{above_root}
-use Rattle.query.specs.declared.Sum.{Sum}
+use Rattle.tally.specs.declared.Tally.{Tally}
+use Rattle.std.specs.Prelude.{Option, None, Some}
 use Rattle.query.specs.Walks.{Collected, Collectable, HeldFront, TableCounted, TableHeld}
 use Rattle.visit.proofs.Roots.{root-low, levels-few, levels-are, root-part}
 
@@ -114,30 +115,30 @@ module _ (t : List ℕ) (q : Query) (h : is_broken (walk_table t q) ≡ false) w
 -- ---- the buffer of a walk from the root
 
 module _ {t : List ℕ} {q : Query} {out out' : List ℕ} where
-  pub table_none : {r : Sum} → length out' ≡ length out → r.ok ≡ false → TableHeld t q out out' r
-  table_none l f = record { sized = l; front = λ h. absurd (false≢true (sym f ∙ h)); spots = λ h. absurd (false≢true (sym f ∙ h)) }
+  pub table_none : length out' ≡ length out → TableHeld t q out out' None
+  table_none l = record { sized = l; front = tt; spots = tt }
 
-  pub table-held : {map' : List ℕ} {root level : ℕ} {y r all : Sum} (span : Span) (path : Path) → root ≡ (head_of t).root → level ≡ (head_of t).levels → span.lo ≡ 0 → end_of span ≡ all_keys
-      → path.n ≡ 0 → above path ≡ [] → ((k : ℕ) → get_or out' k 0 < 256) → y.tally.spots ≡ 0
-      → HeldFront out out' (gains (suc (level - 1)) (store_of t) q (named_above t path) (part_of root (Root root) span) (spots_in out y.tally.spots)) y r
-      → r.ok ≡ true → all.tally.spots ≡ r.tally.spots + 0 → TableCounted t q map' all → TableHeld t q out out' all
-  table-held {map'} {root} {level} {y} {r} {all} span path p l lo hi n none bytes z h o e c =
+  pub table-held : {map' : List ℕ} {root level : ℕ} {y r all : Tally} (span : Span) (path : Path) → root ≡ (head_of t).root → level ≡ (head_of t).levels → span.lo ≡ 0 → end_of span ≡ all_keys
+      → path.n ≡ 0 → above path ≡ [] → ((k : ℕ) → get_or out' k 0 < 256) → y.spots ≡ 0
+      → HeldFront out out' (gains (suc (level - 1)) (store_of t) q (named_above t path) (part_of root (Root root) span) (spots_in out y.spots)) y (Some r)
+      → all.spots ≡ r.spots + 0 → TableCounted t q map' (Some all) → TableHeld t q out out' (Some all)
+  table-held {map'} {root} {level} {y} {r} {all} span path p l lo hi n none bytes z h e c =
       record {
         sized = h.sized;
-        front = λ k room. (collected k room).1 ∙ ap (λ (j : ℕ). spots_bytes (spots (walk_table t q)) ++ drop (12 * j) out) same;
-        spots = λ k room. ap (spots_in out') (sym same) ∙ (collected k room).2;
+        front = λ room. (collected room).1 ∙ ap (λ (j : ℕ). spots_bytes (spots (walk_table t q)) ++ drop (12 * j) out) same;
+        spots = λ room. ap (spots_in out') (sym same) ∙ (collected room).2;
       }
     where
-      same : r.tally.spots ≡ all.tally.spots
+      same : r.spots ≡ all.spots
       same = omega (arith, e)
 
-      collected : all.ok ≡ true → 12 * all.tally.spots ≤ length out
-          → (r.tally.spots ≡ length (spots (walk_table t q))) × (out' ≡ spots_bytes (spots (walk_table t q)) ++ drop (12 * r.tally.spots) out) × (spots_in out' r.tally.spots ≡ spots (walk_table t q))
-      collected k room =
-          root-collected t q (not-true _ (sym c.ok ∙ k)) span path p l lo hi n none out (omega (arith, c.spots k)) bytes
-          (subst (λ (j : ℕ). Collected out out' j (gains (suc (level - 1)) (store_of t) q (named_above t path) (part_of root (Root root) span) (spots_in out j)) r.tally.spots) z
-          (h.front o (omega (arith, same))))
+      collected : 12 * all.spots ≤ length out
+          → (r.spots ≡ length (spots (walk_table t q))) × (out' ≡ spots_bytes (spots (walk_table t q)) ++ drop (12 * r.spots) out) × (spots_in out' r.spots ≡ spots (walk_table t q))
+      collected room =
+          root-collected t q (not-true _ (sym c.ok)) span path p l lo hi n none out (omega (arith, c.spots)) bytes
+          (subst (λ (j : ℕ). Collected out out' j (gains (suc (level - 1)) (store_of t) q (named_above t path) (part_of root (Root root) span) (spots_in out j)) r.spots) z
+          (h.front (omega (arith, same))))
 
 -- a query that the code has made
-pub held-as : {t out out' : List ℕ} {p q : Query} {r : Sum} → q ≡ p → TableHeld t q out out' r → TableHeld t p out out' r
+pub held-as : {t out out' : List ℕ} {p q : Query} {r : Option Tally} → q ≡ p → TableHeld t q out out' r → TableHeld t p out out' r
 held-as {t} {out} {out'} {p} {q} {r} e = subst (λ (x : Query). TableHeld t x out out' r) e

@@ -1,7 +1,7 @@
 -- The walk of a whole table, counted.
 -- Assumes nothing.
 use mathlib.Core.Path.{◌≡◌, refl, ap, ap₂, sym, subst, ◌∙◌}
-use mathlib.Core.Bool.{Bool, true, false, cond, not, ◌&&◌, false≢true}
+use mathlib.Core.Bool.{Bool, true, false, cond, not, ◌&&◌}
 use mathlib.Core.List.{List, [], ◌∷◌, Memᴰ}
 use Prim.Native.Nat.{ℕ, zero, suc, ◌+◌, ◌-◌, ◌≤◌, ◌<◌}
 use native.Mathlib.Omega.{arith}
@@ -30,7 +30,7 @@ use Rattle.visit.specs.declared.Path.{Path}
 use Rattle.visit.specs.Visit.{above, end_of, part_of}
 use Rattle.visit.proofs.Roots.{levels-are, root-part}
 use Rattle.tally.specs.declared.Tally.{Tally}
-use Rattle.query.specs.declared.Sum.{Sum}
+use Rattle.std.specs.Prelude.{Option, None, Some, is_some}
 use Rattle.query.specs.Walks.{Tallied, Counted, TableCounted}
 
 -- no bit of an empty map is set
@@ -64,86 +64,87 @@ module _ (t : List ℕ) (q : Query) where
   found = gains L (store_of t) q [] W []
 
   -- a walk that is not whole
-  no_table : {map' : List ℕ} {r : Sum} → length map' ≡ 512 → r.ok ≡ false → r.tally.spots ≡ 0
+  no_table : {map' : List ℕ} → length map' ≡ 512
       → header_ok (length t) (head_of t) && (obeys L (store_of t) q W && distinct read) ≡ false
-      → TableCounted t q map' r
-  no_table l f s e =
+      → TableCounted t q map' None
+  no_table l e =
       let b : is_broken (walk_table t q) ≡ true = ap is_broken (table-trace t q ∙ ap (λ (x : Bool). cond x (walked found (onto read [])) broken) e) in
       record {
-        ok = f ∙ sym (ap not b);
+        ok = sym (ap not b);
         sized = l;
-        spots = λ h. absurd (false≢true (sym f ∙ h));
-        blocks = λ h. absurd (false≢true (sym f ∙ h));
-        few = omega arith;
-        marks = λ h. absurd (false≢true (sym f ∙ h));
+        spots = tt;
+        blocks = tt;
+        few = tt;
+        marks = tt;
       }
 
-  pub no_header : {map' : List ℕ} {r : Sum} → length map' ≡ 512 → r.ok ≡ false → r.tally.spots ≡ 0 → header_ok (length t) (head_of t) ≡ false → TableCounted t q map' r
-  no_header l f s e = no_table l f s (ap (λ (x : Bool). x && (obeys L (store_of t) q W && distinct read)) e)
+  pub no_header : {map' : List ℕ} → length map' ≡ 512 → header_ok (length t) (head_of t) ≡ false → TableCounted t q map' None
+  no_header l e = no_table l (ap (λ (x : Bool). x && (obeys L (store_of t) q W && distinct read)) e)
 
-  module _ {z seen : List ℕ} {path : Path} {y r : Sum} (ok : header_ok (length t) (head_of t) ≡ true) (e : z ≡ replicate 512 0)
+  module _ {z seen : List ℕ} {path : Path} {y : Tally} {r : Option Tally} (ok : header_ok (length t) (head_of t) ≡ true) (e : z ≡ replicate 512 0)
       (k : Counted t z seen L q path W y r) where
-    fresh-is : obeys L (store_of t) q W && distinct read ≡ r.ok
+    fresh-is : obeys L (store_of t) q W && distinct read ≡ is_some r
     fresh-is =
         ap (λ (x : Bool). obeys L (store_of t) q W && x) (sym (unseen-zeros 512 read)) ∙ ap (λ (m : List ℕ). obeys L (store_of t) q W && unseen m read) (sym e)
         ∙ sym k.ok
 
-    both : header_ok (length t) (head_of t) && (obeys L (store_of t) q W && distinct read) ≡ r.ok
+    both : header_ok (length t) (head_of t) && (obeys L (store_of t) q W && distinct read) ≡ is_some r
     both = ap (λ (x : Bool). x && (obeys L (store_of t) q W && distinct read)) ok ∙ fresh-is
 
     long : length seen ≡ 512
     long = k.sized ∙ ap length e ∙ length-replicate {A = ℕ} 512 0
 
-    pub no_walk : {none : Sum} → r.ok ≡ false → none.ok ≡ false → none.tally.spots ≡ 0 → TableCounted t q seen none
-    no_walk n f s = no_table long f s (both ∙ n)
+    pub no_walk : r ≡ None → TableCounted t q seen None
+    no_walk n = no_table long (both ∙ ap is_some n)
 
-    module _ (n : r.ok ≡ true) where
-      node : (b : ℕ) → Memᴰ b read → InTable t b
-      node = table-visits t ok q (and_left (obeys L (store_of t) q W) (distinct read) (fresh-is ∙ n))
+  module _ {z seen : List ℕ} {path : Path} {y r : Tally} (ok : header_ok (length t) (head_of t) ≡ true) (e : z ≡ replicate 512 0)
+      (k : Counted t z seen L q path W y (Some r)) where
+    node : (b : ℕ) → Memᴰ b read → InTable t b
+    node = table-visits t ok q (and_left (obeys L (store_of t) q W) (distinct read) (fresh-is ok e k))
 
-      low : (b : ℕ) → Memᴰ b read → b < 4096
-      low b i = omega (arith, (node b i).low, header-few t ok)
+    low : (b : ℕ) → Memᴰ b read → b < 4096
+    low b i = omega (arith, (node b i).low, header-few t ok)
 
-      marks-are : seen ≡ marked (replicate 512 0) read
-      marks-are = k.seen n ∙ ap (λ (m : List ℕ). marked m read) e
+    marks-are : seen ≡ marked (replicate 512 0) read
+    marks-are = k.seen ∙ ap (λ (m : List ℕ). marked m read) e
 
-      -- block 0 adds a one
-      more-ones : ones (set_bit seen 0) ≡ suc (ones seen)
-      more-ones =
-          ones-set_bit seen 0 4096 (omega arith) (omega (arith, long))
-          (ap (λ (m : List ℕ). bit m 0) marks-are ∙ still-clear (replicate 512 0) read (length-replicate {A = ℕ} 512 0) (λ b i. ((node b i).some, low b i)) (bit-zeros 512 0))
+    -- block 0 adds a one
+    more-ones : ones (set_bit seen 0) ≡ suc (ones seen)
+    more-ones =
+        ones-set_bit seen 0 4096 (omega arith) (omega (arith, long ok e k))
+        (ap (λ (m : List ℕ). bit m 0) marks-are ∙ still-clear (replicate 512 0) read (length-replicate {A = ℕ} 512 0) (λ b i. ((node b i).some, low b i)) (bit-zeros 512 0))
 
-      -- so that there is room for it
-      pub walk-room : (r.tally.blocks < 4096) × (r.tally.spots ≤ 524288)
-      walk-room =
-          let l : r.tally.blocks < 4096 = omega (arith, (k.tallied n).blocks, more-ones, ones-le-bits (set_bit seen 0) 4096) in
-          (l, omega (arith, (k.tallied n).spots))
+    -- so that there is room for it
+    pub walk-room : (r.blocks < 4096) × (r.spots ≤ 524288)
+    walk-room =
+        let l : r.blocks < 4096 = omega (arith, k.tallied.blocks, more-ones, ones-le-bits (set_bit seen 0) 4096) in
+        (l, omega (arith, k.tallied.spots))
 
-      pub whole-walk : {seen' : List ℕ} {r' : Sum} → above path ≡ [] → y.tally.spots ≡ 0 → seen' ≡ set_bit seen 0
-          → r'.ok ≡ true → r'.tally.blocks ≡ r.tally.blocks + 1 → r'.tally.spots ≡ r.tally.spots + 0 → TableCounted t q seen' r'
-      whole-walk p s d all blocks found_All =
-          record {
-            ok = all ∙ sym (ap (λ (x : Walk). not (is_broken x)) w);
-            sized = ap length d ∙ set_bit-length seen 0 ∙ long;
-            spots = λ h. omega (
-              arith,
-              k.spots n,
-              ap (λ (bs : List ℕ). tally L (store_of t) q (named_by (store_of t) bs) W) p,
-              gains-length L (store_of t) q [] W [],
-              ap (λ (x : Walk). length (spots x)) w,
-            );
-            blocks = λ h. omega (arith, (k.tallied n).blocks, more-ones, ap ones d);
-            few = omega (arith, walk-room.1);
-            marks = λ h.
-                d ∙ ap (λ (m : List ℕ). set_bit m 0) marks-are ∙ marks-make read low ∙ sym (read-onto read)
-                ∙ sym (ap (λ (x : Walk). read_map (blocks_read x)) w);
-          }
-        where
-          w : walk_table t q ≡ walked found (onto read [])
-          w = table-trace t q ∙ ap (λ (x : Bool). cond x (walked found (onto read [])) broken) (both ∙ n)
+    pub whole-walk : {seen' : List ℕ} {r' : Tally} → above path ≡ [] → y.spots ≡ 0 → seen' ≡ set_bit seen 0
+        → r'.blocks ≡ r.blocks + 1 → r'.spots ≡ r.spots + 0 → TableCounted t q seen' (Some r')
+    whole-walk p s d blocks found_All =
+        record {
+          ok = sym (ap (λ (x : Walk). not (is_broken x)) w);
+          sized = ap length d ∙ set_bit-length seen 0 ∙ long ok e k;
+          spots = omega (
+            arith,
+            k.spots,
+            ap (λ (bs : List ℕ). tally L (store_of t) q (named_by (store_of t) bs) W) p,
+            gains-length L (store_of t) q [] W [],
+            ap (λ (x : Walk). length (spots x)) w,
+          );
+          blocks = omega (arith, k.tallied.blocks, more-ones, ap ones d);
+          few = omega (arith, walk-room.1);
+          marks =
+              d ∙ ap (λ (m : List ℕ). set_bit m 0) marks-are ∙ marks-make read low ∙ sym (read-onto read)
+              ∙ sym (ap (λ (x : Walk). read_map (blocks_read x)) w);
+        }
+      where
+        w : walk_table t q ≡ walked found (onto read [])
+        w = table-trace t q ∙ ap (λ (x : Bool). cond x (walked found (onto read [])) broken) (both ok e k)
 
 -- the walk from the root, as the code calls it
-pub at-root : (t : List ℕ) (q : Query) (span : Span) {z seen : List ℕ} {path : Path} {y r : Sum} {root level : ℕ} → header_ok (length t) (head_of t) ≡ true
+pub at-root : (t : List ℕ) (q : Query) (span : Span) {z seen : List ℕ} {path : Path} {y : Tally} {r : Option Tally} {root level : ℕ} → header_ok (length t) (head_of t) ≡ true
     → root ≡ (head_of t).root → level ≡ (head_of t).levels → span.lo ≡ 0 → end_of span ≡ all_keys
     → Counted t z seen (suc (level - 1)) q path (part_of root (Root root) span) y r
     → Counted t z seen (head_of t).levels q path (whole (head_of t)) y r
@@ -152,5 +153,5 @@ at-root t q span {z} {seen} {path} {y} {r} {root} {level} ok p l lo hi k =
     (subst (λ (n : ℕ). Counted t z seen n q path (part_of root (Root root) span) y r) (levels-are t ok p l) k)
 
 -- a query that the code has made
-pub counted-as : {t map' : List ℕ} {p q : Query} {r : Sum} → q ≡ p → TableCounted t q map' r → TableCounted t p map' r
+pub counted-as : {t map' : List ℕ} {p q : Query} {r : Option Tally} → q ≡ p → TableCounted t q map' r → TableCounted t p map' r
 counted-as {t} {map'} {p} {q} {r} e = subst (λ (x : Query). TableCounted t x map' r) e

@@ -1,6 +1,6 @@
 -- What the functions of a walk are handed and hand back.
 -- Assumes nothing.
-use Rattle.std.specs.Prelude.{◌≡◌, ℕ, suc, ◌+◌, ◌*◌, ◌^◌, ◌≤◌, ◌<◌, true, not, ◌&&◌, List, ◌++◌, length, drop}
+use Rattle.std.specs.Prelude.{◌≡◌, ℕ, suc, ◌+◌, ◌*◌, ◌^◌, ◌≤◌, ◌<◌, true, not, ◌&&◌, List, ◌++◌, length, drop, Option, is_some, IfSome, OnSome}
 use Rattle.octets.specs.Bitmap.{bit, set_bit, ones_below}
 use Rattle.spot.specs.Spots.{put_all, spots_bytes, spots_in}
 use Rattle.spot.specs.declared.Spot.{Spot}
@@ -17,7 +17,6 @@ use Rattle.visit.specs.Visit.{part_of, named_above, ceiling, Ready, ValidPath, A
 use Rattle.visit.specs.declared.Span.{Span}
 use Rattle.visit.specs.declared.Path.{Path}
 use Rattle.tally.specs.declared.Tally.{Tally}
-use Rattle.query.specs.declared.Sum.{Sum}
 use Rattle.query.specs.Merging.{Orderly}
 
 -- the blocks so far are the ones of the map, with at most 128 spots each
@@ -26,20 +25,20 @@ pub record Tallied (map : List ℕ) (y : Tally) : Type 0 where
   pub spots : y.spots ≤ 128 * y.blocks
 
 -- a node is read: it keeps the rules and is read for the first time, or the walk is broken
-pub record Entered (t map map' : List ℕ) (b level : ℕ) (asked : Asked) (q : Query) (path : Path) (y r : Sum) : Type 0 where
-  pub ok : r.ok ≡ not (bit map b) && node_ok level asked (store_of t b)
+pub record Entered (t map map' : List ℕ) (b level : ℕ) (asked : Asked) (q : Query) (path : Path) (y : Tally) (r : Option Tally) : Type 0 where
+  pub ok : is_some r ≡ not (bit map b) && node_ok level asked (store_of t b)
   pub sized : length map' ≡ length map
-  pub spots : r.ok ≡ true → r.tally.spots ≡ y.tally.spots + length (finds q (named_above t path) (store_of t b))
-  pub seen : r.ok ≡ true → map' ≡ set_bit map b
-  pub tallied : r.ok ≡ true → Tallied map' r.tally
+  pub spots : IfSome r (λ s. s.spots ≡ y.spots + length (finds q (named_above t path) (store_of t b)))
+  pub seen : OnSome r (map' ≡ set_bit map b)
+  pub tallied : IfSome r (λ s. Tallied map' s)
 
 -- a part is walked: every node read keeps the rules and is read for the first time, or the walk is broken
-pub record Counted (t map map' : List ℕ) (l : ℕ) (q : Query) (path : Path) (p : Part) (y r : Sum) : Type 0 where
-  pub ok : r.ok ≡ obeys l (store_of t) q p && unseen map (visits l (store_of t) q p)
+pub record Counted (t map map' : List ℕ) (l : ℕ) (q : Query) (path : Path) (p : Part) (y : Tally) (r : Option Tally) : Type 0 where
+  pub ok : is_some r ≡ obeys l (store_of t) q p && unseen map (visits l (store_of t) q p)
   pub sized : length map' ≡ length map
-  pub spots : r.ok ≡ true → r.tally.spots ≡ y.tally.spots + tally l (store_of t) q (named_above t path) p
-  pub seen : r.ok ≡ true → map' ≡ marked map (visits l (store_of t) q p)
-  pub tallied : r.ok ≡ true → Tallied map' r.tally
+  pub spots : IfSome r (λ s. s.spots ≡ y.spots + tally l (store_of t) q (named_above t path) p)
+  pub seen : OnSome r (map' ≡ marked map (visits l (store_of t) q p))
+  pub tallied : IfSome r (λ s. Tallied map' s)
 
 -- the spots `found` are put among the first n of the output: r are there then, in place order, and the rest is as it was
 pub record Collected (out out'' : List ℕ) (n : ℕ) (after : List Spot) (r : ℕ) : Type 0 where
@@ -60,18 +59,18 @@ pub record GatheredFront (out out'' : List ℕ) (m : ℕ) (found : List Spot) (r
   pub front : 12 * (m + r) ≤ length out → Collected out out'' m (put_all found (spots_in out m)) (m + r)
 
 -- the buffer of a walk: if the walk is whole and its spots fit, they are at the front
-pub record HeldFront (out out'' : List ℕ) (after : List Spot) (y r : Sum) : Type 0 where
+pub record HeldFront (out out'' : List ℕ) (after : List Spot) (y : Tally) (r : Option Tally) : Type 0 where
   pub sized : length out'' ≡ length out
-  pub front : r.ok ≡ true → 12 * r.tally.spots ≤ length out → Collected out out'' y.tally.spots after r.tally.spots
+  pub front : IfSome r (λ s. 12 * s.spots ≤ length out → Collected out out'' y.spots after s.spots)
 
 -- what a walk is handed: a block of the table, a map of its blocks, the nodes above, and the walk so far
-pub record Walkable (t map : List ℕ) (b level : ℕ) (asked : Asked) (path : Path) (y : Sum) : Type 0 where
+pub record Walkable (t map : List ℕ) (b level : ℕ) (asked : Asked) (path : Path) (y : Tally) : Type 0 where
   pub inside : b < blocks_of (length t)
   pub blocks : blocks_of (length t) ≤ 4096
   pub mapped : length map ≡ 512
   pub deep : path.n + level ≤ 6
   pub ancestors : Ancestors t path (ceiling asked)
-  pub tallied : Tallied map y.tally
+  pub tallied : Tallied map y
 
 -- a run of spots that rise may be merged into the first m spots of the output, if it fits
 pub record Mergeable (t out : List ℕ) (at n : ℕ) (q : Query) (p : Path) (m : ℕ) : Type 0 where
@@ -91,18 +90,18 @@ pub record Collectable (t out : List ℕ) (b level : ℕ) (span : Span) (q : Que
   pub order : Orderly (spots_in out m)
   pub room : 12 * (m + tally (suc level) (store_of t) q (named_above t path) (part_of b asked span)) ≤ length out
 
--- a whole table is walked: r says whether the walk is whole, its tally how many blocks it reads and spots it finds, and the map marks what it reads.
+-- a whole table is walked: there is an r where the walk is whole, which says how many blocks it reads and spots it finds, and the map marks what it reads.
 -- "The number read is the count of ones"
-pub record TableCounted (t : List ℕ) (q : Query) (map' : List ℕ) (r : Sum) : Type 0 where
-  pub ok : r.ok ≡ not (is_broken (walk_table t q))
+pub record TableCounted (t : List ℕ) (q : Query) (map' : List ℕ) (r : Option Tally) : Type 0 where
+  pub ok : is_some r ≡ not (is_broken (walk_table t q))
   pub sized : length map' ≡ 512
-  pub spots : r.ok ≡ true → r.tally.spots ≡ length (spots (walk_table t q))
-  pub blocks : r.ok ≡ true → r.tally.blocks ≡ ones map'
-  pub few : r.tally.spots ≤ 524288
-  pub marks : r.ok ≡ true → map' ≡ read_map (blocks_read (walk_table t q))
+  pub spots : IfSome r (λ s. s.spots ≡ length (spots (walk_table t q)))
+  pub blocks : IfSome r (λ s. s.blocks ≡ ones map')
+  pub few : IfSome r (λ s. s.spots ≤ 524288)
+  pub marks : OnSome r (map' ≡ read_map (blocks_read (walk_table t q)))
 
 -- and if it is whole and its spots fit into the buffer, they are at the front, and the rest is as it was
-pub record TableHeld (t : List ℕ) (q : Query) (out out'' : List ℕ) (r : Sum) : Type 0 where
+pub record TableHeld (t : List ℕ) (q : Query) (out out'' : List ℕ) (r : Option Tally) : Type 0 where
   pub sized : length out'' ≡ length out
-  pub front : r.ok ≡ true → 12 * r.tally.spots ≤ length out → out'' ≡ spots_bytes (spots (walk_table t q)) ++ drop (12 * r.tally.spots) out
-  pub spots : r.ok ≡ true → 12 * r.tally.spots ≤ length out → spots_in out'' r.tally.spots ≡ spots (walk_table t q)
+  pub front : IfSome r (λ s. 12 * s.spots ≤ length out → out'' ≡ spots_bytes (spots (walk_table t q)) ++ drop (12 * s.spots) out)
+  pub spots : IfSome r (λ s. 12 * s.spots ≤ length out → spots_in out'' s.spots ≡ spots (walk_table t q))

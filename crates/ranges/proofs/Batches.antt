@@ -1,12 +1,12 @@
 -- A batch is loaded range by range, and has the ranges of the list that it was loaded from.
 -- Assumes nothing.
 use mathlib.Core.Path.{◌≡◌, refl, sym, ◌∙◌, ap, ap₂, subst}
-use Prim.Native.Nat.{ℕ, zero, suc, ◌+◌, ◌≤◌, ◌<◌}
+use Prim.Native.Nat.{ℕ, zero, suc, ◌+◌, ◌≤◌, ◌<◌, min}
 use mathlib.Core.Bool.{Bool, true, false, cond}
 use mathlib.Core.List.{List}
 use native.Mathlib.Decide.{ℕ_discrete}
 use native.Mathlib.Omega.{arith}
-use borrow.Author.Tests.{ltb-false}
+use borrow.Author.Tests.{ltb-true, ltb-false}
 use lib.Dec.{ltb}
 use lib.ListN.{length, set, take, length-set, length-replicate, length-take}
 use lib.Seq.{get_or-set_same, get_or-set_other, get_or-take, ext_get_or}
@@ -34,6 +34,15 @@ loaded_at rs (suc n) i few h = by (ℕ_discrete i n) (λ g. loaded_at rs n i (om
     by : Dec (i ≡ n) → (i < n → range_at (loaded rs n) i ≡ range_at rs i) → range_at (loaded rs (suc n)) i ≡ range_at rs i
     by (yes q) before = rw q (get_or-set_same (loaded rs n) n (range_at rs n) no_range (let l = loaded-length rs n in omega (arith, l, few)))
     by (no q) before = get_or-set_other (loaded rs n) n i (range_at rs n) no_range q ∙ before (omega (arith, h, q))
+
+-- the lesser of a number and 64 is this
+pub few_min : (n : ℕ) → min n 64 ≡ few_of n
+unfolding few_of
+few_min n = by (ltb n 64) refl
+  where
+    by : (t : Bool) → ltb n 64 ≡ t → min n 64 ≡ cond t n 64
+    by true e = let g : n < 64 = ltb-true n 64 e in omega (arith, g)
+    by false e = let g : 64 ≤ n = ltb-false n 64 e in omega (arith, g)
 
 few-all : (n : ℕ) → n ≤ 64 → few_of n ≡ n
 unfolding few_of

@@ -1,8 +1,11 @@
 // A lent slice of range structs, taken apart by one thin function per range, and held by value from then on.
 #![tactic(auto)]
 
-ghost use Rattle.std.specs.Prelude.{◌≡◌, ◌+◌, ◌*◌, ◌≤◌, ◌<◌, length, set, replicate};
-ghost use Rattle.ranges.specs.Ranges.{range_at, no_range, few_of, batch_of, range_in, ranges_in};
+ghost use Rattle.std.specs.Prelude.{◌≡◌, ◌+◌, ◌*◌, ◌≤◌, ◌<◌, length, replicate};
+ghost use Rattle.ranges.specs.Ranges.{range_at, no_range, batch_of, range_in, ranges_in};
+
+// The most ranges of a batch.
+pub const MOST_RANGES: usize = 64;
 
 // Two places and a lowest rank.
 #[repr(C)]
@@ -14,10 +17,11 @@ pub struct Range {
 }
 
 // How many ranges were handed in, and the first 64 of them.
+// Stays: an array with a number beside it, since nothing here lies on a heap; the number may be above 64.
 #[derive(Clone, Copy)]
 pub struct Batch {
     pub n: usize,
-    pub all: [Range; 64],
+    pub all: [Range; MOST_RANGES],
 }
 
 // One range of the slice.
@@ -28,37 +32,12 @@ pub fn range_at(ranges: &[Range], i: usize) -> Range
     ranges[i]
 }
 
-fn few(n: usize) -> usize
-    ensures { (result ≡ few_of n) × (result ≤ 64) × (result ≤ n) }
-{
-    if n < 64 {
-        return n;
-    }
-    64
-}
-
 // None yet.
-fn no_ranges() -> [Range; 64]
+fn no_ranges() -> [Range; MOST_RANGES]
     ensures { result ≡ replicate 64 no_range }
 {
     let none = Range { x1: 0, x2: 0, y: 0 };
-    [none; 64]
-}
-
-// With r at i.
-fn with_range(all: [Range; 64], i: usize, r: Range) -> [Range; 64]
-    requires { i < 64 }
-    ensures { result ≡ set all i r }
-{
-    let mut next = all;
-    next[i] = r;
-    next
-}
-
-fn batched(n: usize, all: [Range; 64]) -> Batch
-    ensures { result ≡ record { n = n; all = all } }
-{
-    Batch { n, all }
+    [none; MOST_RANGES]
 }
 
 // The ranges of the slice, by value.
@@ -66,16 +45,11 @@ pub fn load(ranges: &[Range]) -> Batch
     ensures { result ≡ batch_of ranges.now }
 {
     let n = ranges.len();
-    let m = few(n);
     let mut all = no_ranges();
-    let mut i = 0;
-    while i < m {
-        let r = range_at(ranges, i);
-        let next = with_range(all, i, r);
-        all = next;
-        i += 1;
+    for i in 0..n.min(MOST_RANGES) {
+        all[i] = range_at(ranges, i);
     }
-    batched(n, all)
+    Batch { n, all }
 }
 
 // A range in bytes: three numbers of four bytes, big-endian and in two's complement.
@@ -95,12 +69,9 @@ pub fn read_batch(bytes: &[u8], at: usize, n: usize) -> Batch
     requires { at + 12 * n ≤ length bytes.now }
     ensures { result ≡ batch_of (ranges_in bytes.now n at) }
 {
-    let m = few(n);
     let mut all = no_ranges();
-    let mut i = 0;
-    while i < m {
+    for i in 0..n.min(MOST_RANGES) {
         all[i] = read_range(bytes, at + 12 * i);
-        i += 1;
     }
-    batched(n, all)
+    Batch { n, all }
 }

@@ -8,6 +8,7 @@ use native.Mathlib.Omega.{arith}
 use lib.Dec.{leb}
 use lib.ListN.{length, drop}
 use borrow.Author.Tests.{le-leb, lt-leb}
+use Rattle.std.specs.Prelude.{Some, None}
 use Rattle.octets.specs.Lists.{every, rising}
 use Rattle.octets.proofs.Tests.{and_both}
 use Rattle.octets.proofs.Records.{length-records}
@@ -24,7 +25,6 @@ use Rattle.tree.specs.Walk.{walk_table, live_spots}
 use Rattle.tree.specs.Sound.{sound}
 use Rattle.tree.proofs.Tables.{live-walk}
 use Rattle.tree.proofs.Limited.{live-limited}
-use Rattle.query.specs.declared.Sum.{Sum}
 use Rattle.rebuild_theory.specs.Build.{Rebuilt}
 use Rattle.build.specs.Building.{Segment}
 use Rattle.renew.specs.Amended.{Amendable, Amended}
@@ -37,54 +37,54 @@ pub amended-none : (w : List ℕ) (n : ℕ) → Amended w w n (spots_in w n) n
 amended-none w n = record { holds = refl; count = sym (length-records (spot_at w) 12 n 0); rest = refl; sized = refl }
 
 -- nothing gathered
-pub renew-broken : {t w w₁ : List ℕ} {r : Sum} (after : List Spot) (b : Bool) → Gathered t w w₁ r → r.ok ≡ false → Renewed t t w w₁ after b false
-renew-broken after b g f =
+pub renew-broken : {t w w₁ : List ℕ} (after : List Spot) (b : Bool) → Gathered t w w₁ None → Renewed t t w w₁ after b false
+renew-broken after b g =
     record {
       sized = refl;
       lent = g.lent;
       rest = g.rest;
-      is = sym (ap (λ (x : Bool). b && x) (sym g.ok ∙ f) ∙ and-false b);
+      is = sym (ap (λ (x : Bool). b && x) (sym g.ok) ∙ and-false b);
       kept = λ h. refl;
       built = λ h. absurd (false≢true h);
     }
 
-module _ {t w w₁ : List ℕ} {r : Sum} (z : table_sized (length t) ≡ true) (lent : length t ≤ length w) (g : Gathered t w w₁ r) (ok : r.ok ≡ true) where
+module _ {t w w₁ : List ℕ} {n : ℕ} (z : table_sized (length t) ≡ true) (lent : length t ≤ length w) (g : Gathered t w w₁ (Some n)) where
   can : layable (length t) (walk_table t everything) ≡ true
-  can = sym g.ok ∙ ok
+  can = sym g.ok
 
   up_is : rising (keys (live_spots t)) ≡ true
   up_is = sym (ap (λ (l : List Spot). rising (keys l)) (live-walk t)) ∙ laid-rises (length t) (walk_table t everything) can
 
-  live-long : length (live_spots t) ≡ r.tally.spots
-  live-long = sym (ap length (g.holds ok)) ∙ length-records (spot_at w₁) 12 r.tally.spots 0
+  live-long : length (live_spots t) ≡ n
+  live-long = sym (ap length (g.holds)) ∙ length-records (spot_at w₁) 12 n 0
 
-  pub renew-few : r.tally.spots ≤ capacity (length t)
+  pub renew-few : n ≤ capacity (length t)
   renew-few = omega (arith, laid-few (length t) (walk_table t everything) can, ap length (live-walk t), live-long)
 
-  room : 12 * (r.tally.spots + 1) ≤ length t
+  room : 12 * (n + 1) ≤ length t
   room = omega (arith, renew-few, blocks-least (length t) z)
 
-  pub renew-amendable : Amendable w₁ r.tally.spots
+  pub renew-amendable : Amendable w₁ n
   renew-amendable =
       record {
         few = omega (arith, renew-few, blocks-most (length t) z);
         room = omega (arith, room, g.lent, lent);
-        rises = ap (λ (l : List Spot). rising (keys l)) (g.holds ok) ∙ up_is;
-        limits = limited-spots w₁ r.tally.spots 0 ∙ ap (λ (l : List Spot). every limited (keys l)) (g.holds ok) ∙ live-limited t;
+        rises = ap (λ (l : List Spot). rising (keys l)) (g.holds) ∙ up_is;
+        limits = limited-spots w₁ n 0 ∙ ap (λ (l : List Spot). every limited (keys l)) (g.holds) ∙ live-limited t;
       }
 
-  module _ {w₂ : List ℕ} {m : ℕ} (f : List Spot → List Spot) (a : Amended w₁ w₂ r.tally.spots (f (spots_in w₁ r.tally.spots)) m) where
+  module _ {w₂ : List ℕ} {m : ℕ} (f : List Spot → List Spot) (a : Amended w₁ w₂ n (f (spots_in w₁ n)) m) where
     holds-is : spots_from w₂ 0 m ≡ f (live_spots t)
-    holds-is = a.holds ∙ ap f (g.holds ok)
+    holds-is = a.holds ∙ ap f (g.holds)
 
     count-is : m ≡ length (f (live_spots t))
-    count-is = a.count ∙ ap (λ (l : List Spot). length (f l)) (g.holds ok)
+    count-is = a.count ∙ ap (λ (l : List Spot). length (f l)) (g.holds)
 
     lent_is : length w₂ ≡ length w
     lent_is = a.sized ∙ g.lent
 
     rest-is : drop (length t) w₂ ≡ drop (length t) w
-    rest-is = drop_more w₂ w₁ (12 * (r.tally.spots + 1)) (length t) room a.rest ∙ g.rest
+    rest-is = drop_more w₂ w₁ (12 * (n + 1)) (length t) room a.rest ∙ g.rest
 
     -- too many
     pub renew-full : capacity (length t) < m → Renewed t t w w₂ (f (live_spots t)) (leb (length (f (live_spots t))) (capacity (length t))) false
@@ -125,7 +125,7 @@ module _ {t w w₁ : List ℕ} {r : Sum} (z : table_sized (length t) ≡ true) (
         }
 
   -- one taken out leaves no more than there were
-  pub out-few : {w₂ : List ℕ} {m : ℕ} (k : ℕ) → Amended w₁ w₂ r.tally.spots (without k (spots_in w₁ r.tally.spots)) m → m ≤ capacity (length t)
+  pub out-few : {w₂ : List ℕ} {m : ℕ} (k : ℕ) → Amended w₁ w₂ n (without k (spots_in w₁ n)) m → m ≤ capacity (length t)
   out-few k a = omega (arith, count-is (without k) a, length_without k (live_spots t), live-long, renew-few)
 
 -- a sound table always takes spots that fit

@@ -10,27 +10,22 @@ ghost use Rattle.renew.specs.Renewed.{Gathered, Renewed};
 
 mod amend;
 
-// The live spots in the scratch, in place order; not ok where a rule is broken.
-pub fn gather(table: &[u8], scratch: &mut [u8]) -> query::Sum
+// How many live spots there are, once they are laid in the scratch in place order; None where a rule is broken.
+pub fn gather(table: &[u8], scratch: &mut [u8]) -> Option<usize>
     requires { (table_sized (length table.now) ≡ true) × (length table.now ≤ length scratch.old) }
     ensures { Gathered table.now scratch.old scratch.new result }
 {
     let mut seen = [0u8; block::MAP_BYTES];
     let everything = spot::everything();
-    let all = query::count_table(table, &mut seen, everything);
-    let mut none = all;
-    none.ok = false;
-    if !all.ok {
-        return none;
-    }
-    if block::capacity_of(table.len()) < all.tally.spots {
-        return none;
+    let all = query::count_table(table, &mut seen, everything)?;
+    if block::capacity_of(table.len()) < all.spots {
+        return None;
     }
     query::collect_table(table, scratch, everything);
-    if !block::rises(scratch, 0, spot::SPOT_BYTES, all.tally.spots, 0) {
-        return none;
+    if !block::rises(scratch, 0, spot::SPOT_BYTES, all.spots, 0) {
+        return None;
     }
-    all
+    Some(all.spots)
 }
 
 // The live spots laid out anew; false, with the table as it was, where a rule is broken.
@@ -38,11 +33,10 @@ pub fn anew(table: &mut [u8], scratch: &mut [u8]) -> bool
     requires { (table_sized (length table.old) ≡ true) × (length table.old ≤ length scratch.old) }
     ensures { Renewed table.old table.new scratch.old scratch.new (live_spots table.old) true result }
 {
-    let all = gather(table, scratch);
-    if !all.ok {
+    let Some(live) = gather(table, scratch) else {
         return false;
-    }
-    build::build_table(table, scratch, all.tally.spots);
+    };
+    build::build_table(table, scratch, live);
     true
 }
 
@@ -52,11 +46,10 @@ pub fn with_spot(table: &mut [u8], scratch: &mut [u8], s: spot::Spot) -> bool
     requires { (table_sized (length table.old) ≡ true) × (length table.old ≤ length scratch.old) × (limited s.key ≡ true) }
     ensures { Renewed table.old table.new scratch.old scratch.new (put s (without s.key (live_spots table.old))) (leb (length (put s (without s.key (live_spots table.old)))) (capacity (length table.old))) result }
 {
-    let all = gather(table, scratch);
-    if !all.ok {
+    let Some(live) = gather(table, scratch) else {
         return false;
-    }
-    let n = amend::put_in(scratch, all.tally.spots, s);
+    };
+    let n = amend::put_in(scratch, live, s);
     if block::capacity_of(table.len()) < n {
         return false;
     }
@@ -69,11 +62,10 @@ pub fn without_key(table: &mut [u8], scratch: &mut [u8], k: u64) -> bool
     requires { (table_sized (length table.old) ≡ true) × (length table.old ≤ length scratch.old) }
     ensures { Renewed table.old table.new scratch.old scratch.new (without k (live_spots table.old)) true result }
 {
-    let all = gather(table, scratch);
-    if !all.ok {
+    let Some(live) = gather(table, scratch) else {
         return false;
-    }
-    let n = amend::take_out(scratch, all.tally.spots, k);
+    };
+    let n = amend::take_out(scratch, live, k);
     build::build_table(table, scratch, n);
     true
 }

@@ -12,9 +12,16 @@ ghost use Rattle.memo.specs.Known.{Known, StillKnown};
 ghost use Rattle.query.specs.Walks.{TableCounted, TableHeld};
 ghost use Rattle.report.specs.Reports.{written, Reportable, Reported, Turnable, Givable};
 
-// A Report counted: whether its walk is whole, the blocks read and the spots found; `seen` becomes the map of the blocks read. If the spots fit, they are at the front
-// of `few`.
-pub fn size(table: &[u8], x1: i32, x2: i32, y: i32, seen: &mut [u8], few: &mut [u8]) -> query::Sum
+// A Report counted: the blocks read and the spots found, or None where its walk is broken; `seen` becomes the map of the blocks read. If the spots fit, they are at
+// the front of `few`.
+pub fn size(
+    table: &[u8],
+    x1: i32,
+    x2: i32,
+    y: i32,
+    seen: &mut [u8],
+    few: &mut [u8],
+) -> Option<tally::Tally>
     requires { (table_sized (length table.now) ≡ true) × (seen.old ≡ replicate 512 0) }
     ensures { TableCounted table.now (query x1 x2 y) seen.new result × TableHeld table.now (query x1 x2 y) few.old few.new result }
 {
@@ -30,7 +37,7 @@ pub fn size_known(
     seen: &mut [u8],
     few: &mut [u8],
     known: &mut [[u64; 6]],
-) -> query::Sum
+) -> Option<tally::Tally>
     requires { (table_sized (length table.now) ≡ true) × (seen.old ≡ replicate 512 0) × Known table.now known.old }
     ensures { TableCounted table.now (query x1 x2 y) seen.new result × TableHeld table.now (query x1 x2 y) few.old few.new result × StillKnown table.now known.old known.new }
 {

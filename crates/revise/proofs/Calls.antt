@@ -24,9 +24,8 @@ use Rattle.tree.specs.Sound.{sound}
 use Rattle.tree.specs.Walk.{walk_table, is_broken, spots, live_spots, live_count}
 use Rattle.tree.proofs.Tables.{sound-header, count-finds}
 use Rattle.visit.proofs.Roots.{sized-long}
-use Rattle.lookup.specs.Answers.{looked_up, LookupPost}
-use Rattle.lookup.specs.declared.Looked.{Looked}
-use Rattle.lookup.specs.declared.Looked.TheVariants.{Live, Nothing, Broken}
+use Rattle.lookup.specs.Answers.{Looked, broken, looked_up, LookupPost}
+use Rattle.std.specs.Prelude.{Ok, Some, None}
 use Rattle.lookup.proofs.Laws.{Says, looked-says, looked-whole}
 use Rattle.revise.specs.Numbers.{add_number}
 use Rattle.revise.specs.Revising.{Lent, Leaves, WithinPost, Revised}
@@ -72,7 +71,7 @@ not-four : (n : ℕ) → has n (0 ∷ 3 ∷ []) ≡ true → n ≡ 4 → ⊥
 not-four n h e = ⊎_elim (λ (z : n ≡ 0). omega arith) (λ (z : n ≡ 3). omega arith) (two_ways n h)
 
 -- the bound is known, and the spots are no more; they are as many where the figure in block 0 was exact
-pub revised-within : {t t' w w' : List ℕ} {bound m : ℕ} {after : ℕ → Option ℕ} {n : ℕ} (k due : ℕ) (outcomes : List ℕ) → (looked_up t k ≡ Broken → ⊥)
+pub revised-within : {t t' w w' : List ℕ} {bound m : ℕ} {after : ℕ → Option ℕ} {n : ℕ} (k due : ℕ) (outcomes : List ℕ) → (looked_up t k ≡ broken → ⊥)
     → has 0 outcomes ≡ true → has 3 outcomes ≡ true → (sound t ≡ true → due ≡ 0) → (sound t ≡ true → m ≤ bound)
     → (sound t ≡ true → (head_of t).bound ≡ live_count t → m ≡ bound)
     → WithinPost t t' w w' bound m after n → Revised t t' w w' k due outcomes after n
@@ -105,20 +104,20 @@ module _ (t : List ℕ) (k : ℕ) where
   says-live : Says (looked_up t k) (live t k)
   says-live = looked-says (record { is = refl })
 
-  found-live : {a : ℕ} → looked_up t k ≡ Live a → live t k ≡ some a
+  found-live : {a : ℕ} → looked_up t k ≡ Ok (Some a) → live t k ≡ some a
   found-live e = subst (λ (x : Looked). Says x (live t k)) e says-live
 
-  found_none : looked_up t k ≡ Nothing → live t k ≡ none
+  found_none : looked_up t k ≡ Ok None → live t k ≡ none
   found_none e = subst (λ (x : Looked). Says x (live t k)) e says-live
 
-  live-whole : {a : ℕ} → looked_up t k ≡ Live a → looked_up t k ≡ Broken → ⊥
+  live-whole : {a : ℕ} → looked_up t k ≡ Ok (Some a) → looked_up t k ≡ broken → ⊥
   live-whole e h = let z : ◌≡◌ {A = ℕ} 0 1 = cc in omega arith
 
-  none-whole : looked_up t k ≡ Nothing → looked_up t k ≡ Broken → ⊥
+  none-whole : looked_up t k ≡ Ok None → looked_up t k ≡ broken → ⊥
   none-whole e h = let z : ◌≡◌ {A = ℕ} 0 1 = cc in omega arith
 
   -- block 0 is on every path
-  pub header-breaks : header_ok (length t) (head_of t) ≡ false → looked_up t k ≡ Broken
+  pub header-breaks : header_ok (length t) (head_of t) ≡ false → looked_up t k ≡ broken
   unfolding looked_up
   header-breaks e = rw e
 
@@ -141,12 +140,12 @@ module _ (t w : List ℕ) (s : Spot) where
   pub add-header : (b : Bool) → b ≡ header_ok (length t) (head_of t) → b ≡ false → Added t t w w s 3
   add-header b e h = revised-header t w s.key (add_due t s) _ _ b refl e h
 
-  pub add-lost : {r : Looked} → LookupPost t s.key r → r ≡ Broken → Added t t w w s 3
+  pub add-lost : {r : Looked} → LookupPost t s.key r → r ≡ broken → Added t t w w s 3
   add-lost g e = revised-broken t w s.key (add_due t s) _ _ refl (λ h. looked-whole g h e)
 
   module _ {t' w' : List ℕ} {n : ℕ} where
     -- one of its key goes out
-    pub add-replaced : {bound a : ℕ} → bound ≡ (head_of t).bound → looked_up t s.key ≡ Live a → PutWithin t t' w w' s bound n → Added t t' w w' s n
+    pub add-replaced : {bound a : ℕ} → bound ≡ (head_of t).bound → looked_up t s.key ≡ Ok (Some a) → PutWithin t t' w w' s bound n → Added t t' w w' s n
     add-replaced {bound} {a} e l g =
         let there : live t s.key ≡ some a = found-live t s.key l in
         revised-within s.key (add_due t s) _ (live-whole t s.key l) refl refl
@@ -155,7 +154,7 @@ module _ (t w : List ℕ) (s : Spot) where
         (λ h x. omega (arith, put_same t h s there, e, x))
         g
 
-    module _ (l : looked_up t s.key ≡ Nothing) where
+    module _ (l : looked_up t s.key ≡ Ok None) where
       -- the bound is below capacity
       pub add-below : {bound : ℕ} → bound ≡ (head_of t).bound → bound < capacity (length t) → PutWithin t t' w w' s (bound + 1) n → Added t t' w w' s n
       add-below e f g =
@@ -176,7 +175,7 @@ module _ (t w : List ℕ) (s : Spot) where
 
   -- there are as many as there may be
   pub add_turned : {all : ℕ} (ok : Bool) → ok ≡ not (is_broken (walk_table t everything)) → ok ≡ true → all ≡ length (spots (walk_table t everything))
-      → capacity (length t) ≤ all → looked_up t s.key ≡ Nothing
+      → capacity (length t) ≤ all → looked_up t s.key ≡ Ok None
       → Added t t w w s 4
   add_turned ok told e count l found =
       let many : capacity (length t) ≤ live_count t = omega (arith, count, live-counted t) in
@@ -205,15 +204,15 @@ module _ (t w : List ℕ) (k : ℕ) where
   pub drop-header : (b : Bool) → b ≡ header_ok (length t) (head_of t) → b ≡ false → Dropped t t w w k 3
   drop-header b e h = revised-header t w k 0 _ _ b refl e h
 
-  pub drop-lost : {r : Looked} → LookupPost t k r → r ≡ Broken → Dropped t t w w k 3
+  pub drop-lost : {r : Looked} → LookupPost t k r → r ≡ broken → Dropped t t w w k 3
   drop-lost g e = revised-broken t w k 0 _ _ refl (λ h. looked-whole g h e)
 
   -- a key is live, and the bound is 0
-  pub drop-uncounted : {bound a : ℕ} → bound ≡ (head_of t).bound → looked_up t k ≡ Live a → bound ≡ 0 → Dropped t t w w k 3
+  pub drop-uncounted : {bound a : ℕ} → bound ≡ (head_of t).bound → looked_up t k ≡ Ok (Some a) → bound ≡ 0 → Dropped t t w w k 3
   drop-uncounted e l z = revised-broken t w k 0 _ _ refl (λ h. omega (arith, out_one t h k (found-live t k l), count_most t h))
 
   -- a key that is not live: to take it out changes nothing
-  pub drop-none : looked_up t k ≡ Nothing → Dropped t t w w k 0
+  pub drop-none : looked_up t k ≡ Ok None → Dropped t t w w k 0
   unfolding with_key
   drop-none e =
       record {
@@ -232,7 +231,7 @@ module _ (t w : List ℕ) (k : ℕ) where
       go false j h = refl
 
   -- the bound falls
-  pub drop-live : {t' w' : List ℕ} {n bound a : ℕ} → bound ≡ (head_of t).bound → looked_up t k ≡ Live a → WithinPost t t' w w' (bound - 1) (length (without k (live_spots t))) (with_key k none (live t)) n
+  pub drop-live : {t' w' : List ℕ} {n bound a : ℕ} → bound ≡ (head_of t).bound → looked_up t k ≡ Ok (Some a) → WithinPost t t' w w' (bound - 1) (length (without k (live_spots t))) (with_key k none (live t)) n
       → Dropped t t' w w' k n
   drop-live {a = a} e l g =
       let there : live t k ≡ some a = found-live t k l in

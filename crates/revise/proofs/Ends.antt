@@ -1,9 +1,12 @@
 -- One change in the tree, or where that does not go laid out anew: one law for each way that this ends.
 -- Assumes nothing.
 use mathlib.Core.Path.{◌≡◌, refl, ap, sym, subst, ◌∙◌}
-use mathlib.Core.Logic.{◌≢◌, ◌⊎◌, inl, inr, ⊎_elim}
+use mathlib.Core.Logic.{◌≢◌}
 use mathlib.Core.Bool.{Bool, true, false, true≢false}
 use mathlib.Core.List.{List}
+use Rattle.std.specs.Prelude.{⊤, Option as Maybe, Some, None, Result, Ok, Err, unwrap_or}
+use Rattle.block.specs.declared.Refusal.{Refusal}
+use Rattle.block.specs.Answers.{told}
 use mathlib.Core.Option.{Option}
 use Prim.Native.Nat.{ℕ, ◌≤◌}
 use native.Mathlib.Omega.{arith}
@@ -20,86 +23,90 @@ use Rattle.tree.proofs.Tables.{sound-from}
 use Rattle.rebuild_theory.proofs.Rebuilt.{rebuilt-live, rebuilt-spots, rebuilt-sound}
 use Rattle.batch.specs.Batches.{batch_says}
 use Rattle.change.specs.Changing.{ChangedBy}
-use Rattle.change.specs.declared.Outcome.{Outcome}
-use Rattle.change.specs.declared.Outcome.TheVariants.{Done, NoRoom, Broken}
+use Rattle.fill.specs.declared.Failure.{Failure}
+use Rattle.fill.specs.declared.Failure.TheVariants.{NoRoom, Broken}
 use Rattle.renew.specs.Renewed.{Renewed}
 use Rattle.renew.proofs.Renewing.{renewed-whole}
-use Rattle.revise.specs.declared.Step.TheVariants.{Answer, Anew}
 use Rattle.revise.specs.Revising.{Lent, Leaves, WithinPost}
 use Rattle.revise.specs.Steps.{step_after}
+use Rattle.std.proofs.lemmas.Option.{none-some}
 use Rattle.revise.proofs.Counts.{Planned, spots-are, live-are}
 
-no-room-not-done : {r : Outcome} → r ≡ NoRoom → r ≡ Done → ⊥
-no-room-not-done e d = let z : ◌≡◌ {A = ℕ} 0 1 = cc in omega arith
+broken-not-room : Broken ≡ NoRoom → ⊥
+broken-not-room e = let z : ◌≡◌ {A = ℕ} 0 1 = cc in omega arith
 
-broken-not-done : {r : Outcome} → r ≡ Broken → r ≡ Done → ⊥
-broken-not-done e d = let z : ◌≡◌ {A = ℕ} 0 1 = cc in omega arith
+err-not-ok : {e : Failure} → ◌≡◌ {A = Result ⊤ Failure} (Err e) (Ok tt) → ⊥
+err-not-ok e = let z : ◌≡◌ {A = ℕ} 0 1 = cc in omega arith
 
--- a change that is answered was taken in, or met a block that breaks a rule
-answered : (r : Outcome) {n : ℕ} → step_after r ≡ Answer n → ((r ≡ Done) × (0 ≡ n)) ⊎ ((r ≡ Broken) × (3 ≡ n))
-answered Done e = inl (refl, cc)
-answered Broken e = inr (refl, cc)
-answered NoRoom e = let z : ◌≡◌ {A = ℕ} 0 1 = cc in let no : ⊥ = omega arith in absurd no
-
-step-anew : (r : Outcome) → step_after r ≡ Anew → r ≡ NoRoom
-step-anew Done e = let z : ◌≡◌ {A = ℕ} 0 1 = cc in let no : ⊥ = omega arith in absurd no
-step-anew Broken e = let z : ◌≡◌ {A = ℕ} 0 1 = cc in let no : ⊥ = omega arith in absurd no
-step-anew NoRoom e = refl
-
-module _ {t t₁ w w₁ : List ℕ} {ss : List Spot} {ks : List ℕ} {bound : ℕ} {r : Outcome} (g : ChangedBy t t₁ w w₁ ss ks bound r) {ys : List Spot} {after : ℕ → Option ℕ}
-    (p : Planned t ys after) where
+module _ {t t₁ w w₁ : List ℕ} {ss : List Spot} {ks : List ℕ} {bound : ℕ} {r : Result ⊤ Failure} (g : ChangedBy t t₁ w w₁ ss ks bound r) where
   leaves_by : {n : ℕ} → (n ≢ 0 → t₁ ≡ t) → n ≢ 4 → Leaves t t₁ w w₁ n
   leaves_by k d = record { sized = g.sized; lent_length = g.lent_length; rest = g.rest; kept = k; untouched = λ n. absurd (d n); light = λ s y. g.light y }
 
-  -- the tree took it
-  within-tree : r ≡ Done → ((k : ℕ) → batch_says ss ks k (live t k) ≡ after k) → WithinPost t t₁ w w₁ bound (length ys) after 0
-  within-tree e says =
+-- the tree took it
+module _ {t t₁ w w₁ : List ℕ} {ss : List Spot} {ks : List ℕ} {bound : ℕ} (g : ChangedBy t t₁ w w₁ ss ks bound (Ok tt)) {ys : List Spot} {after : ℕ → Option ℕ} (p : Planned t ys after) where
+  pub within-tree : ((k : ℕ) → batch_says ss ks k (live t k) ≡ after k) → WithinPost t t₁ w w₁ bound (length ys) after 0
+  within-tree says =
       record {
-        leaves = leaves_by (λ n. absurd (n refl)) (λ n. omega arith);
+        leaves = leaves_by g (λ n. absurd (n refl)) (λ n. omega arith);
         numbers = refl;
         accepted = λ s f. refl;
-        stays_sound = λ s f. sound-from t₁ (g.shaped e s) (omega (arith, f, ap length (spots s), g.bound_is e));
+        stays_sound = λ s f. sound-from t₁ (g.shaped s) (omega (arith, f, ap length (spots s), g.bound_is));
         live_after = λ s f. lives s;
-        exact = λ s f. g.bound_is e ∙ sym f ∙ sym (live-are t₁ ∙ ap length (spots s));
+        exact = λ s f. g.bound_is ∙ sym f ∙ sym (live-are t₁ ∙ ap length (spots s));
       }
     where
       lives : sound t ≡ true → (k : ℕ) → live t₁ k ≡ after k
-      lives s k = g.live_is e s k ∙ says k
+      lives s k = g.live_is s k ∙ says k
 
       spots : sound t ≡ true → live_spots t₁ ≡ ys
-      spots s = spots-are p s (g.shaped e s) (lives s)
+      spots s = spots-are p s (g.shaped s) (lives s)
 
-  -- a block that it read breaks a rule
-  within-lost : r ≡ Broken → WithinPost t t₁ w w₁ bound (length ys) after 3
-  within-lost e =
-      record {
-        leaves = leaves_by (λ n. g.kept (broken-not-done e)) (λ n. omega arith);
-        numbers = refl;
-        accepted = λ s f. absurd (g.whole s e);
-        stays_sound = λ s f. absurd (g.whole s e);
-        live_after = λ s f. absurd (g.whole s e);
-        exact = λ s f. absurd (g.whole s e);
-      }
+-- a block that it read breaks a rule
+pub within-lost : {t t₁ w w₁ : List ℕ} {ss : List Spot} {ks : List ℕ} {bound : ℕ} (ys : List Spot) (after : ℕ → Option ℕ) → ChangedBy t t₁ w w₁ ss ks bound (Err Broken)
+    → WithinPost t t₁ w w₁ bound (length ys) after 3
+within-lost ys after g =
+    record {
+      leaves = leaves_by g (λ n. g.kept) (λ n. omega arith);
+      numbers = refl;
+      accepted = λ s f. absurd (broken-not-room (g.whole s));
+      stays_sound = λ s f. absurd (broken-not-room (g.whole s));
+      live_after = λ s f. absurd (broken-not-room (g.whole s));
+      exact = λ s f. absurd (broken-not-room (g.whole s));
+    }
 
-  pub within-answered : {n : ℕ} → step_after r ≡ Answer n → ((k : ℕ) → batch_says ss ks k (live t k) ≡ after k) → WithinPost t t₁ w w₁ bound (length ys) after n
-  within-answered e says =
-      ⊎_elim (λ d. subst (λ (n : ℕ). WithinPost t t₁ w w₁ bound (length ys) after n) d.1 (within-tree d.0 says))
-      (λ d. subst (λ (n : ℕ). WithinPost t t₁ w w₁ bound (length ys) after n) d.1 (within-lost d.0))
-      (answered r e)
+-- a change that is answered was taken in, or met a block that breaks a rule
+answer-is : {q r : Result ⊤ Refusal} → Some q ≡ Some r → q ≡ r
+answer-is {q} e = ap (λ (o : Maybe (Result ⊤ Refusal)). unwrap_or o q) e
+
+pub within-answered : {t t₁ w w₁ : List ℕ} {ss : List Spot} {ks : List ℕ} {bound : ℕ} {q : Result ⊤ Refusal} (r : Result ⊤ Failure) {ys : List Spot} {after : ℕ → Option ℕ} → ChangedBy t t₁ w w₁ ss ks bound r
+    → Planned t ys after → step_after r ≡ Some q → ((k : ℕ) → batch_says ss ks k (live t k) ≡ after k) → WithinPost t t₁ w w₁ bound (length ys) after (told q).number
+within-answered {t} {t₁} {w} {w₁} {bound = bound} (Ok x) {ys} {after} g p e says =
+    subst (λ (m : Result ⊤ Refusal). WithinPost t t₁ w w₁ bound (length ys) after (told m).number) (answer-is e) (within-tree g p says)
+within-answered {t} {t₁} {w} {w₁} {bound = bound} (Err Broken) {ys} {after} g p e says =
+    subst (λ (m : Result ⊤ Refusal). WithinPost t t₁ w w₁ bound (length ys) after (told m).number) (answer-is e) (within-lost ys after g)
+within-answered (Err NoRoom) g p e says = absurd (none-some _ e)
+
+pub plain-answered : {q : Result ⊤ Refusal} (r : Result ⊤ Failure) → step_after r ≡ Some q → (told q).detail ≡ 0
+plain-answered (Ok x) e = subst (λ (m : Result ⊤ Refusal). (told m).detail ≡ 0) (answer-is e) refl
+plain-answered (Err Broken) e = subst (λ (m : Result ⊤ Refusal). (told m).detail ≡ 0) (answer-is e) refl
+plain-answered (Err NoRoom) e = absurd (none-some _ e)
+
+-- one that is not had no room
+pub step-anew : (r : Result ⊤ Failure) → step_after r ≡ None → r ≡ Err NoRoom
+step-anew (Ok x) e = absurd (none-some _ (sym e))
+step-anew (Err Broken) e = absurd (none-some _ (sym e))
+step-anew (Err NoRoom) e = refl
 
 -- the change may be followed by a renewal
-pub lent_again : {t t₁ w w₁ : List ℕ} {ss : List Spot} {ks : List ℕ} {bound : ℕ} {r : Outcome} → Lent t w → ChangedBy t t₁ w w₁ ss ks bound r
+pub lent_again : {t t₁ w w₁ : List ℕ} {ss : List Spot} {ks : List ℕ} {bound : ℕ} {r : Result ⊤ Failure} → Lent t w → ChangedBy t t₁ w w₁ ss ks bound r
     → (table_sized (length t₁) ≡ true) × (length t₁ ≤ length w₁)
 lent_again l g = (ap table_sized g.sized ∙ l.sized, omega (arith, g.sized, g.lent_length, l.room))
 
 -- it had no room, and the table is as it was: then the spots `ys` makes of it are laid out
-module _ {t t₁ w w₁ : List ℕ} {ss : List Spot} {ks : List ℕ} {bound : ℕ} {r : Outcome} (g : ChangedBy t t₁ w w₁ ss ks bound r) (step : step_after r ≡ Anew)
+module _ {t t₁ w w₁ : List ℕ} {ss : List Spot} {ks : List ℕ} {bound : ℕ} (g : ChangedBy t t₁ w w₁ ss ks bound (Err NoRoom))
     (ys : List ℕ → List Spot) (fits : List ℕ → Bool) {after : ℕ → Option ℕ} (p : Planned t (ys t) after) {t₂ w₂ : List ℕ} {q : Bool} (a₁ : Renewed t₁ t₂ w₁ w₂ (ys t₁) (fits t₁) q) where
-  e : r ≡ NoRoom
-  e = step-anew r step
-
   a : Renewed t t₂ w₁ w₂ (ys t) (fits t) q
-  a = subst (λ (x : List ℕ). Renewed x t₂ w₁ w₂ (ys x) (fits x) q) (g.kept (no-room-not-done e)) a₁
+  a = subst (λ (x : List ℕ). Renewed x t₂ w₁ w₂ (ys x) (fits x) q) g.kept a₁
 
   leaves-anew : {n : ℕ} → (n ≢ 0 → t₂ ≡ t) → n ≢ 4 → Leaves t t₂ w w₂ n
   leaves-anew k d =
@@ -109,7 +116,7 @@ module _ {t t₁ w w₁ : List ℕ} {ss : List Spot} {ks : List ℕ} {bound : �
         rest = a.rest ∙ g.rest;
         kept = k;
         untouched = λ n. absurd (d n);
-        light = λ s y. absurd (no-room-not-done e (g.ready s y));
+        light = λ s y. absurd (err-not-ok (g.ready s y));
       }
 
   pub within-anew : q ≡ true → WithinPost t t₂ w w₂ bound (length (ys t)) after 0

@@ -8,8 +8,7 @@ use Rattle.block.specs.Header.{head_of}
 use Rattle.tree.specs.Lookup.{live}
 use Rattle.tree.specs.Sound.{sound}
 use Rattle.tree.specs.Walk.{live_count}
-use Rattle.lookup.specs.Answers.{looked_up}
-use Rattle.lookup.specs.declared.Looked.TheVariants.{Broken}
+use Rattle.lookup.specs.Answers.{looked_up, broken}
 use Rattle.change.specs.Room.{roomy, root_of}
 use Rattle.revise.specs.Numbers.{Full}
 
@@ -40,7 +39,7 @@ pub record WithinPost (t t' w w' : List ℕ) (bound spots : ℕ) (after : ℕ �
 -- the whole of Add and Withdraw but for the lengths: j is the key, `due` the number on a sound table, `outcomes` are all that may come
 pub record Revised (t t' w w' : List ℕ) (j due : ℕ) (outcomes : List ℕ) (after : ℕ → Option ℕ) (number : ℕ) : Type 0 where
   pub leaves : Leaves t t' w w' number
-  pub path : looked_up t j ≡ Broken → number ≡ 3
+  pub path : looked_up t j ≡ broken → number ≡ 3
   pub full : number ≡ 4 → Full t j
   pub numbers : has number outcomes ≡ true
   pub number_is : sound t ≡ true → number ≡ due

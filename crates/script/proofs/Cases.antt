@@ -24,7 +24,7 @@ use Rattle.table.specs.Calls.{Call, format, add, withdraw, report, top, count, c
 use Rattle.table.specs.Queries.{ReportPost, ManyPost, TopPost, TopWithinPost, CountPost, CheckPost}
 use Rattle.table.specs.Updates.{FormatPost, AddPost, WithdrawPost, RebuildPost, ApplyPost}
 use Rattle.demands.specs.History.{Promised}
-use Rattle.within.specs.declared.Said.{Said}
+use Rattle.script.specs.declared.Said.{Said}
 use Rattle.script.specs.Script.{all_ranges, call_of, call_at}
 use Rattle.script.specs.Run.{plainly, event_of, Called, CalledAlone}
 use Rattle.script.proofs.Ranged.{signed-fits-word, ranges-fit, message-fits}

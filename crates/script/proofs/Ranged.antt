@@ -17,10 +17,9 @@ use Rattle.octets.specs.Bytes.{be}
 use Rattle.octets.specs.Lists.{every, records}
 use Rattle.octets.proofs.Bytes.{be-lt}
 use Rattle.octets.proofs.Records.{length-records, records-append, every-records, tests-make}
-use Rattle.octets.proofs.Tests.{and_both, every-right}
+use Rattle.octets.proofs.Tests.{and_both, every-left, every-right}
 use Rattle.spot.specs.Keys.{signed32}
 use Rattle.spot.proofs.Signed.{fits_signed}
-use Rattle.node.proofs.Fits.{every_take}
 use Rattle.block.specs.declared.Answer.{Answer}
 use Rattle.ranges.specs.Ranges.{range_in}
 use Rattle.table.specs.Calls.{apply, range_fits, arguments_fit}
@@ -82,7 +81,9 @@ module _ (g : List ℕ) (from n i k : ℕ) (ei : i ≡ min from (length g)) (ek 
 
 -- a test that all pass is passed by a part of them
 every-part : {A : Type 0} (f : A → Bool) (a b : ℕ) (l : List A) → every f l ≡ true → every f (take b (drop a l)) ≡ true
-every-part f a b l h = every_take f b (drop a l) (every-right f (take a l) (drop a l) (rw take-append-drop h))
+every-part f a b l h =
+    let behind : every f (drop a l) ≡ true = every-right f (take a l) (drop a l) (rw take-append-drop h) in
+    every-left f (take b (drop a l)) (drop b (drop a l)) (rw take-append-drop behind)
 
 -- bytes
 all-bytes : (g : List ℕ) → ((i : ℕ) → get_or g i 0 < 256) → every (λ b. ltb b 256) g ≡ true

@@ -18,7 +18,7 @@ use Rattle.table.specs.Calls.{Call, Lengths}
 use Rattle.demands.specs.Model.{four_bytes, complement}
 use Rattle.demands.specs.History.{Event}
 use Rattle.demands.proofs.Orders.{four_bytes_lem}
-use Rattle.within.specs.declared.Said.{Said}
+use Rattle.script.specs.declared.Said.{Said}
 use Rattle.script.specs.Script.{Step, call_at, step_at, steps_of, lent_to}
 use Rattle.script.specs.Run.{Called, event_of, event_in, StepCalled, entry, Turned, RunState, run_state, output_of, passed, held_after, InTurn, AllInTurn, entries, Run, run_lengths}
 use Rattle.script.proofs.Fronts.{put_back, front-lent, front-left, rest-left}

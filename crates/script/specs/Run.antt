@@ -9,7 +9,7 @@ use Rattle.tree.specs.Sound.{sound}
 use Rattle.table.specs.Calls.{Call, kind, takes_scratch, is_query, is_counting, has_ceiling, Lengths, arguments_fit}
 use Rattle.demands.specs.Model.{begun_empty, four_bytes, complement}
 use Rattle.demands.specs.History.{Event, MetBy, History, AllAgreed, lengths_in, certain_in}
-use Rattle.within.specs.declared.Said.{Said}
+use Rattle.script.specs.declared.Said.{Said}
 use Rattle.script.specs.Script.{Step, Telling, calls_in, call_at, steps_of, lent_to, log_part, log_after}
 
 -- an answer without a ceiling

@@ -1,7 +1,7 @@
 // A script of calls, run over a table that is formatted first; what the calls answer and hand out goes into a log. What calls hand in, ranges and messages, stands beside it.
 #![tactic(auto)]
 
-ghost use Rattle.std.specs.Prelude.{◌≡◌, ◌+◌, ◌*◌, ◌≤◌, min, length, take, drop};
+ghost use Rattle.std.specs.Prelude.{◌≡◌, ◌+◌, ◌*◌, ◌≤◌, length, take, drop};
 ghost use Rattle.octets.specs.Bytes.{be};
 ghost use Rattle.ranges.specs.Ranges.{batch_of};
 ghost use Rattle.table.specs.Updates.{ApplyPost};
@@ -9,22 +9,13 @@ ghost use Rattle.demands.specs.Model.{complement};
 ghost use Rattle.script.specs.Script.{all_ranges, call_at, step_at, log_part};
 ghost use Rattle.script.specs.Run.{plainly, event_of, Called, CalledAlone, StepCalled, Turned, Run, run_state, run_lengths, Ran};
 
-fn smaller(a: usize, b: usize) -> usize
-    ensures { result ≡ min a b }
-{
-    if a < b {
-        return a;
-    }
-    b
-}
-
 // n of the ranges, from one on, or those that there are.
 fn ranges_from(handed: &[u8], from: usize, n: usize) -> ranges::Batch
     ensures { result ≡ batch_of (take n (drop from (all_ranges handed.now))) }
 {
     let all = handed.len() / 12;
-    let first = smaller(from, all);
-    ranges::read_batch(handed, 12 * first, smaller(n, all - first))
+    let first = from.min(all);
+    ranges::read_batch(handed, 12 * first, n.min(all - first))
 }
 
 // A signed number in two's complement.
@@ -34,11 +25,18 @@ fn complement(z: i32) -> u64
     (spot::bias(z) + 2147483648) % 4294967296
 }
 
+// What a call says: its answer, and the ceiling beside it.
+#[derive(Clone, Copy)]
+struct Said {
+    answer: block::Answer,
+    ceiling: i32,
+}
+
 // An answer without a ceiling.
-fn plain(a: block::Answer) -> within::Said
+fn plain(a: block::Answer) -> Said
     ensures { result ≡ plainly a }
 {
-    within::Said {
+    Said {
         answer: a,
         ceiling: 0,
     }
@@ -53,22 +51,15 @@ fn call_alone(script: &[u8], at: usize, table: &mut [u8], scratch: &mut [u8]) ->
     let a = spot::read_i32(script, at + 4);
     let b = spot::read_i32(script, at + 8);
     let c = octets::read32(script, at + 12) as u32;
-    if op == 0 {
-        return table::format(table);
+    // Stays: a number for a call, since call_of reads it from the script's bytes.
+    match op {
+        0 => block::told(table::format(table)),
+        1 => block::told(table::add(table, scratch, a, b, c)),
+        2 => block::told(table::withdraw(table, scratch, a, b)),
+        5 => block::answer_of(table::count(table)),
+        6 => block::yes_or_no(table::check(table)),
+        _ => block::told(table::rebuild(table, scratch)),
     }
-    if op == 1 {
-        return table::add(table, scratch, a, b, c);
-    }
-    if op == 2 {
-        return table::withdraw(table, scratch, a, b);
-    }
-    if op == 5 {
-        return table::count(table);
-    }
-    if op == 6 {
-        return table::check(table);
-    }
-    table::rebuild(table, scratch)
 }
 
 // Applies the message of the call that begins at a byte of the script: so many bytes, from one on, or those that there are.
@@ -83,9 +74,9 @@ fn apply_at(
     ensures { ApplyPost (take (be 4 script.now (at + 8)) (drop (be 4 script.now (at + 4)) handed.now)) table.old scratch.old result table.new scratch.new }
 {
     let all = handed.len();
-    let from = smaller(octets::read32(script, at + 4) as usize, all);
-    let end = from + smaller(octets::read32(script, at + 8) as usize, all - from);
-    apply::apply(table, scratch, &handed[from..end])
+    let from = (octets::read32(script, at + 4) as usize).min(all);
+    let end = from + (octets::read32(script, at + 8) as usize).min(all - from);
+    block::told(apply::apply(table, scratch, &handed[from..end]))
 }
 
 // Makes the call that begins at a byte of the script, with all that is lent.
@@ -98,7 +89,7 @@ fn call(
     read_map: &mut [u8],
     counts: &mut [u32],
     output: &mut [u8],
-) -> within::Said
+) -> Said
     requires { at + 20 ≤ length script.now }
     ensures { Called table.old (event_of (call_at handed.now script.now at) scratch.old read_map.old counts.old output.old result table.new scratch.new read_map.new counts.new output.new) }
 {
@@ -108,20 +99,24 @@ fn call(
     let c = octets::read32(script, at + 12) as u32;
     if op == 3 {
         let y = spot::read_i32(script, at + 12);
-        return plain(table::report(table, a, b, y, output, read_map));
+        return plain(block::answer_of(table::report(table, a, b, y, output, read_map)));
     }
     if op == 4 {
-        return plain(table::top(table, a, b, c, output, read_map));
+        return plain(block::answer_of(table::top(table, a, b, c, output, read_map)));
     }
     if op == 8 {
         let from = octets::read32(script, at + 4) as usize;
         let n = octets::read32(script, at + 8) as usize;
         let batch = ranges_from(handed, from, n);
-        return plain(many::report_batch(table, batch, counts, output, read_map));
+        return plain(block::answer_of(many::report_batch(table, batch, counts, output, read_map)));
     }
     if op == 9 {
         let d = octets::read32(script, at + 16) as u32;
-        return within::say(table, a, b, c, d, output, read_map);
+        let said = within::say(table, a, b, c, d, output, read_map);
+        return Said {
+            answer: block::answer_of(said.answer),
+            ceiling: said.ceiling,
+        };
     }
     if op > 9 {
         return plain(apply_at(script, at, handed, table, scratch));
@@ -139,14 +134,14 @@ fn step(
     read_map: &mut [u8],
     counts: &mut [u32],
     output: &mut [u8],
-) -> within::Said
+) -> Said
     requires { at + 36 ≤ length script.now }
     ensures { StepCalled (step_at handed.now script.now at) table.old scratch.old read_map.old counts.old output.old result table.new scratch.new read_map.new counts.new output.new }
 {
-    let a = smaller(octets::read32(script, at + 20) as usize, output.len());
-    let b = smaller(octets::read32(script, at + 24) as usize, read_map.len());
-    let c = smaller(octets::read32(script, at + 28) as usize, scratch.len());
-    let d = smaller(octets::read32(script, at + 32) as usize, counts.len());
+    let a = (octets::read32(script, at + 20) as usize).min(output.len());
+    let b = (octets::read32(script, at + 24) as usize).min(read_map.len());
+    let c = (octets::read32(script, at + 28) as usize).min(scratch.len());
+    let d = (octets::read32(script, at + 32) as usize).min(counts.len());
     call(
         script,
         at,
@@ -203,9 +198,8 @@ fn make_calls(
     requires { (36 * n ≤ length script.now) × (12 ≤ part) × (part * n ≤ length log.old) }
     ensures { Run script.now handed.now n (run_lengths table.old scratch.old read_map.old counts.old part) (run_state table.old scratch.old read_map.old counts.old log.old) table.new scratch.new read_map.new counts.new log.new }
 {
-    let mut i = 0;
     let mut at = 0;
-    while i < n {
+    for i in 0..n {
         let end = at + part;
         turn(
             script,
@@ -218,7 +212,6 @@ fn make_calls(
             &mut log[at..end],
         );
         at = end;
-        i += 1;
     }
 }
 
@@ -233,6 +226,7 @@ fn part_of(bytes: usize, n: usize) -> usize
 }
 
 // Formats the table and makes the calls of the script; false, with nothing changed, where the table's size or the log's does not do.
+// Stays: Ran speaks of a truth value.
 pub fn run(
     script: &[u8],
     handed: &[u8],
@@ -252,7 +246,8 @@ pub fn run(
     if part < 12 {
         return false;
     }
-    table::format(table);
+    // Not refused: the size was tested.
+    let _ = table::format(table);
     make_calls(
         script, n, handed, table, scratch, read_map, counts, log, part,
     );

@@ -2,14 +2,16 @@
 -- Assumes nothing.
 use mathlib.Core.Path.{◌≡◌, refl, ap, sym, ◌∙◌, subst, subst⁻¹}
 use mathlib.Core.Logic.{◌⊎◌, inl, inr, ⊎_elim}
-use mathlib.Core.Bool.{Bool, true, false, not, cond, false≢true}
+use mathlib.Core.Bool.{Bool, true, false, not, cond}
 use mathlib.Core.List.Memᴰ
 use mathlib.Core.List.{List, [], ◌∷◌, ◌++◌, Memᴰ}
+use Rattle.std.specs.Prelude.{Some, None, IfSome, is_some, unwrap_or, option_to_list}
+use Rattle.std.specs.Prelude as maybe
 use mathlib.Core.Option.{Option}
 use Prim.Native.Nat.{ℕ, suc, ◌-◌, ◌≤◌, ◌<◌}
 use native.Mathlib.Omega.{arith}
 use lib.ListN.{length, take, drop, length-append}
-use Rattle.octets.proofs.Tests.{cond-mem, keep-mem}
+use Rattle.octets.proofs.Tests.{keep-mem}
 use Rattle.octets.specs.Sets.{Apart}
 use Rattle.octets.proofs.Lists.{mem-more, mem-three}
 use Rattle.spot.specs.Keys.{within}
@@ -45,7 +47,6 @@ use Rattle.edit.specs.Edits.{held_in}
 use Rattle.journal.specs.Journal.{Kept}
 use Rattle.journal.proofs.Kept.{undoable-kept}
 use Rattle.fill.specs.Filling.{Workable}
-use Rattle.fill.proofs.Works.{work-kept}
 use Rattle.fill.proofs.Turns.{deeper}
 use Rattle.spare.specs.declared.Spare.{Spare}
 use Rattle.spare.specs.Spares.{spare_of}
@@ -54,58 +55,53 @@ use Rattle.batch.specs.declared.Picked.{Picked}
 use Rattle.batch.specs.Batches.{batch_says, Parted, by_inserts, by_deletes, Picking, PutBack}
 use Rattle.batch.proofs.Opened.{child-range}
 use Rattle.settle.specs.declared.Settled.{Settled}
-use Rattle.settle.specs.declared.Worked.{Worked}
-use Rattle.settle.specs.Settling.{LowsFit, Opened, WorkedTo, Pushable, WorkPost, SettledTo, WhereSound, SettlePost}
+use Rattle.fill.specs.declared.Failure.{Failure}
+use Rattle.fill.specs.declared.Failure.TheVariants.{NoRoom}
+use Rattle.settle.specs.Settling.{became_as, LowsFit, Opened, WorkedTo, Pushable, Roomless, WorkDone, SettledTo, WhereSound, SettleDone, SettleFailed}
 use Rattle.settle.proofs.Lows.{lows-as, zero-put, lows-both}
-
--- the answer, in other words
-pub work-as : {t t' s' map' : List ℕ} {level : ℕ} {n : NodeValue} {spare : Spare} {left : ℕ} {r q : Worked} → r ≡ q → WorkPost t t' s' map' level n spare left q → WorkPost t t' s' map' level n spare left r
-work-as {t} {t'} {s'} {map'} {level} {n} {spare} {left} e p = subst⁻¹ (λ (v : Worked). WorkPost t t' s' map' level n spare left v) e p
 
 -- ---- nothing was handed down
 
--- it failed
-pub push-fails : {t s map t' s' map' : List ℕ} {level : ℕ} {n : NodeValue} {spare : Spare} {left : ℕ} (broken : Bool) (left' : ℕ) → Pushable t s map n level spare left → Kept t s map t' s' map' → left' ≤ left
-    → ((lo hi : ℕ) (f : ℕ → Option ℕ) → Opened (store_of t) level lo hi n spare left f → broken ≡ false) → WorkPost t t' s' map' level n spare left (record { ok = false; broken = broken; node = n; left = left' })
-push-fails broken left' w k h whole =
-    record {
-      works = work-kept w.works k;
-      fewer = h;
-      zero = λ o. absurd (false≢true o);
-      more = λ o. absurd (false≢true o);
-      most_i = omega arith;
-      most_d = omega arith;
-      leaf = λ o. absurd (false≢true o);
-      done = λ o. absurd (false≢true o);
-      whole = whole;
-    }
-
 -- nothing is too large
 pub push-none : {t s map : List ℕ} {level : ℕ} {n : NodeValue} {spare : Spare} {left : ℕ} → Pushable t s map n level spare left
-    → WorkPost t t s map level n spare left (record { ok = true; broken = false; node = n; left = left })
+    → WorkDone t t s map level n spare left (record { node = n; left = left })
 push-none {t} {level = level} {n = n} {spare = spare} {left = left} w =
     record {
       works = w.works;
       fewer = omega arith;
-      zero = λ o. w.zero;
-      more = λ o. omega arith;
+      zero = w.zero;
+      more = omega arith;
       most_i = omega arith;
       most_d = omega arith;
-      leaf = λ o z. refl;
-      done = λ e lo hi f o.
+      leaf = λ z. refl;
+      done = λ lo hi f o.
           record {
             rank = o.rank;
             going = going_start level lo hi (store_of t) (spare_of spare left) o.rank (entries_of n.entries) (held_in n) f o.node o.free;
             lows_fit = o.lows_fit;
           };
-      whole = λ lo hi f o. refl;
     }
 
 -- ---- one entry became one or two
 
-cond-cons : (b : Bool) (f g : Entry) → cond b (f ∷ g ∷ []) (f ∷ []) ≡ f ∷ cond b (g ∷ []) []
-cond-cons true f g = refl
-cond-cons false f g = refl
+-- the second, where there is one
+pub others : maybe.Option Entry → List Entry
+others None = []
+others (Some g) = g ∷ []
+
+pub parts-are : (o : maybe.Option Entry) (f : Entry) → f ∷ option_to_list o ≡ cond (is_some o) (f ∷ unwrap_or o f ∷ []) (f ∷ [])
+parts-are None f = refl
+parts-are (Some s) f = refl
+
+others-are : (o : maybe.Option Entry) (f : Entry) → cond (is_some o) (f ∷ unwrap_or o f ∷ []) (f ∷ []) ≡ f ∷ others o
+unfolding others
+others-are None f = refl
+others-are (Some g) f = refl
+
+others-each : (P : Entry → Type 0) (o : maybe.Option Entry) → IfSome o P → (d : Entry) → Memᴰ d (others o) → P d
+unfolding others
+others-each P None h d i = absurd (Memᴰ.not-nil i)
+others-each P (Some g) h d i = ⊎_elim (λ (q : d ≡ g). subst⁻¹ P q h) (λ z. absurd (Memᴰ.not-nil z)) (Memᴰ.cases_cons i)
 
 -- no entry of the others went
 more-put : (us vs fs : List Entry) (e f : Entry) → length (us ++ (e ∷ vs)) ≤ length (us ++ ((f ∷ fs) ++ vs))
@@ -115,24 +111,25 @@ member-put : (us vs fs : List Entry) (e f : Entry) {d : Entry} → Memᴰ d (us 
 member-put us vs fs e f i =
     ⊎_elim (λ j. ⊎_elim inl (λ k. inr (inl k)) (Memᴰ.cases_cons j)) (λ j. inr (inr (mem-more us e vs j))) (mem-three us (f ∷ fs) vs i)
 
-module _ (b : Bool) (lo hi : ℕ) (e f g : Entry) (order : lo ≤ hi) (apart : b ≡ true → (lo < g.low) × (g.low < hi)) where
-  steps-put : Steps lo hi (f ∷ cond b (g ∷ []) [])
-  steps-put = go b apart
-    where
-      go : (b : Bool) → (b ≡ true → (lo < g.low) × (g.low < hi)) → Steps lo hi (f ∷ cond b (g ∷ []) [])
-      go true a = let z = a refl in (let y = z.0 in omega arith, (let y = z.1 in omega arith, tt))
-      go false a = (order, tt)
+steps-put : (o : maybe.Option Entry) (lo hi : ℕ) (f : Entry) → lo ≤ hi → IfSome o (λ d. (lo < d.low) × (d.low < hi)) → Steps lo hi (f ∷ others o)
+unfolding others
+steps-put None lo hi f order a = (order, tt)
+steps-put (Some g) lo hi f order a = (let y = a.0 in omega arith, (let y = a.1 in omega arith, tt))
 
 -- the parts that the child became, by its entries
-became-parts : (P : List Part → Type 0) (b : Bool) (lo hi block : ℕ) (f g : Entry) → f.block ≡ block
-    → P (cond b (part block (Child f) lo g.low ∷ part g.block (Child g) g.low hi ∷ []) (part block (Child f) lo hi ∷ [])) → P (parts lo hi (f ∷ cond b (g ∷ []) []))
-became-parts P true lo hi block f g e h = subst⁻¹ (λ (v : ℕ). P (part v (Child f) lo g.low ∷ part g.block (Child g) g.low hi ∷ [])) e h
-became-parts P false lo hi block f g e h = subst⁻¹ (λ (v : ℕ). P (part v (Child f) lo hi ∷ [])) e h
+became-parts : (P : List Part → Type 0) (o : maybe.Option Entry) (lo hi block : ℕ) (e f : Entry) → f.block ≡ block → P (became_as block (Child e) lo hi f o) → P (parts lo hi (f ∷ others o))
+unfolding others
+became-parts P (Some g) lo hi block e f q h = subst⁻¹ (λ (v : ℕ). P (part v (Child f) lo g.low ∷ part g.block (Child g) g.low hi ∷ [])) q h
+became-parts P None lo hi block e f q h = subst⁻¹ (λ (v : ℕ). P (part v (Child f) lo hi ∷ [])) q h
 
-lows-put : (b : Bool) (lo hi : ℕ) (us vs : List Entry) (e f g : Entry) → f.low ≡ e.low → (b ≡ true → (start lo us e.low < g.low) × (g.low < next_low vs hi))
-    → (b ≡ true → within lo hi g.low ≡ true) → LowsFit lo hi (us ++ (e ∷ vs)) → LowsFit lo hi (us ++ ((f ∷ cond b (g ∷ []) []) ++ vs))
-lows-put true lo hi us vs e f g h a w z = lows-both lo hi us e f g vs h (a refl).0 (a refl).1 (w refl) z
-lows-put false lo hi us vs e f g h a w z = lows-as lo hi (us ++ (e ∷ vs)) (us ++ ((f ∷ []) ++ vs)) (lows-same us e f vs h) z
+lows-put : (o : maybe.Option Entry) (lo hi : ℕ) (us vs : List Entry) (e f : Entry) → f.low ≡ e.low → IfSome o (λ g. (start lo us e.low < g.low) × (g.low < next_low vs hi))
+    → lo ≤ start lo us e.low → next_low vs hi ≤ hi → LowsFit lo hi (us ++ (e ∷ vs)) → LowsFit lo hi (us ++ ((f ∷ others o) ++ vs))
+unfolding others
+lows-put (Some g) lo hi us vs e f h a x y z =
+    let u = a.0 in
+    let v = a.1 in
+    lows-both lo hi us e f g vs h u v (within-yes lo hi g.low (omega arith) (omega arith)) z
+lows-put None lo hi us vs e f h a x y z = lows-as lo hi (us ++ (e ∷ vs)) (us ++ ((f ∷ []) ++ vs)) (lows-same us e f vs h) z
 
 -- ---- the node over them
 
@@ -192,13 +189,13 @@ module _ (t : List ℕ) (l : ℕ) (n : NodeValue) (p : Picked) (e : Entry) (spar
   at-child Then h =
       h c₀.lo c₀.hi bounds.2 (legal-part lo hi c₀.lo c₀.hi o.legal bounds.0 bounds.1) (first-low lo us vs e lows_fit.zero) batch-I batch-D child.0 child.1
 
-  pub child-whole : {t₁ : List ℕ} {r : Settled} → SettlePost t t₁ l e.block (Child e) (held p.inserts) (named p.deletes) spare left r → r.broken ≡ false
-  child-whole {r = r} sp = at-child (λ a b. r.broken ≡ false) sp.whole
+  pub child-whole : {q : Failure} → SettleFailed t l e.block (Child e) (held p.inserts) (named p.deletes) spare left q → q ≡ NoRoom
+  child-whole {q} h = at-child (λ a b. q ≡ NoRoom) h.whole
 
   -- it was settled by the store y, and its entries put back in m
-  module _ (t₁ : List ℕ) (m : NodeValue) (r : Settled) (sp : SettlePost t t₁ l e.block (Child e) (held p.inserts) (named p.deletes) spare left r) (ok : r.ok ≡ true)
+  module _ (t₁ : List ℕ) (m : NodeValue) (r : Settled) (sp : SettleDone t t₁ l e.block (Child e) (held p.inserts) (named p.deletes) spare left r)
       (same : held_in m ≡ held_in p.node)
-      (back : entries_of m.entries ≡ take p.child (entries_of n.entries) ++ ((r.first ∷ cond r.two (r.second ∷ []) []) ++ drop (suc p.child) (entries_of n.entries))) where
+      (back : entries_of m.entries ≡ take p.child (entries_of n.entries) ++ ((r.first ∷ others r.second) ++ drop (suc p.child) (entries_of n.entries))) where
     abbrev y : Store
     y = store_of t₁
 
@@ -206,16 +203,16 @@ module _ (t : List ℕ) (l : ℕ) (n : NodeValue) (p : Picked) (e : Entry) (spar
     S' = spare_of spare r.left
 
     abbrev fs : List Entry
-    fs = cond r.two (r.second ∷ []) []
+    fs = others r.second
 
     low : r.first.low ≡ e.low
-    low = sp.low ok
+    low = sp.low
 
     settled : SettledTo x y l e.block (Child e) c₀.lo c₀.hi (held p.inserts) (named p.deletes) spare left r
-    settled = at-child (λ a b. SettledTo x y l e.block (Child e) a b (held p.inserts) (named p.deletes) spare left r) (sp.done ok)
+    settled = at-child (λ a b. SettledTo x y l e.block (Child e) a b (held p.inserts) (named p.deletes) spare left r) sp.done
 
     steps : Steps c₀.lo c₀.hi (r.first ∷ fs)
-    steps = steps-put r.two c₀.lo c₀.hi e r.first r.second bounds.2 settled.apart
+    steps = steps-put r.second c₀.lo c₀.hi r.first bounds.2 settled.apart
 
     -- what the batch says of a key, where d is found in the child
     abbrev Word : (ℕ → Option ℕ → Option ℕ) → Type 0
@@ -224,7 +221,7 @@ module _ (t : List ℕ) (l : ℕ) (n : NodeValue) (p : Picked) (e : Entry) (spar
     changed : Word (λ k d. batch_says (held p.inserts) (named p.deletes) k d)
     changed =
         became-parts (λ (ps : List Part). Changed (suc l) (Taken S S') x (c₀ ∷ []) y ps (λ k. batch_says (held p.inserts) (named p.deletes) k (lookup (suc l) x k c₀)))
-        r.two c₀.lo c₀.hi e.block r.first r.second (sp.block ok) settled.changed
+        r.second c₀.lo c₀.hi e.block e r.first sp.block settled.changed
 
     less : Within S' S
     less = spare-less spare r.left left sp.fewer
@@ -254,20 +251,19 @@ module _ (t : List ℕ) (l : ℕ) (n : NodeValue) (p : Picked) (e : Entry) (spar
               (subst⁻¹ (λ (es : List Entry). Going (suc l) lo hi x S (us ++ (e ∷ vs)) y S' o.rank es (held_in m) f) back
               (subst⁻¹ (λ (v : Held). Going (suc l) lo hi x S (us ++ (e ∷ vs)) y S' o.rank (us ++ ((r.first ∷ fs) ++ vs)) v f) same g));
           lows_fit = subst⁻¹ (λ (es : List Entry). LowsFit lo hi es) back
-              (lows-put r.two lo hi us vs e r.first r.second low settled.apart
-              (λ z. let q = settled.apart z in let a = q.0 in let b = q.1 in within-yes lo hi r.second.low (omega (arith, bounds.0)) (omega (arith, bounds.1))) lows_fit);
+              (lows-put r.second lo hi us vs e r.first low settled.apart bounds.0 bounds.1 lows_fit);
         }
 
 -- ---- what push promises
 
 -- the child could not be settled
-pub push-stops : {t s map t₁ s₁ map₁ : List ℕ} {level : ℕ} {n : NodeValue} {p : Picked} {e : Entry} {r : Settled} {spare : Spare} {left : ℕ} → Pushable t s map n level spare left
-    → Kept t s map t₁ s₁ map₁ → (level ≡ 0 → ⊥) → EntryAt (entries_of n.entries) p.child e → Picking n p
-    → SettlePost t t₁ (level - 1) e.block (Child e) (held p.inserts) (named p.deletes) spare left r
-    → WorkPost t t₁ s₁ map₁ level n spare left (record { ok = false; broken = r.broken; node = n; left = r.left })
-push-stops {t} {level = level} {n = n} {p = p} {e = e} {r = r} {spare = spare} {left = left} w k inner a pk sp =
-    push-fails r.broken r.left w k sp.fewer
-    (λ lo hi f. subst⁻¹ (λ (v : ℕ). Opened (store_of t) v lo hi n spare left f → r.broken ≡ false) (deeper level inner) (λ o. child-whole t (level - 1) n p e spare left a pk lo hi f o sp))
+pub push-stops : {t : List ℕ} {level : ℕ} {n : NodeValue} {p : Picked} {e : Entry} {spare : Spare} {left : ℕ} {q : Failure} → (level ≡ 0 → ⊥) → EntryAt (entries_of n.entries) p.child e → Picking n p
+    → SettleFailed t (level - 1) e.block (Child e) (held p.inserts) (named p.deletes) spare left q → Roomless t level n spare left q
+push-stops {t} {level} {n} {p} {e} {spare} {left} {q} inner a pk sp =
+    record {
+      whole = λ lo hi f.
+          subst⁻¹ (λ (v : ℕ). Opened (store_of t) v lo hi n spare left f → q ≡ NoRoom) (deeper level inner) (λ o. child-whole t (level - 1) n p e spare left a pk lo hi f o sp);
+    }
 
 few-backs : (b : Bool) (f g : Entry) → length (cond b (f ∷ g ∷ []) (f ∷ [])) ≤ 2
 few-backs true f g = omega arith
@@ -275,8 +271,8 @@ few-backs false f g = omega arith
 
 module _ {t s map t₁ s₁ map₁ : List ℕ} {level : ℕ} {n m : NodeValue} {p : Picked} {e : Entry} {r : Settled} {spare : Spare} {left : ℕ} (w : Pushable t s map n level spare left)
     (k : Kept t s map t₁ s₁ map₁) (inner : level ≡ 0 → ⊥) (room : n.entries.n < 8) (a : EntryAt (entries_of n.entries) p.child e) (pk : Picking n p)
-    (sp : SettlePost t t₁ (level - 1) e.block (Child e) (held p.inserts) (named p.deletes) spare left r) (ok : r.ok ≡ true)
-    (pb : PutBack p.node p.child (cond r.two (r.first ∷ r.second ∷ []) (r.first ∷ [])) m) where
+    (sp : SettleDone t t₁ (level - 1) e.block (Child e) (held p.inserts) (named p.deletes) spare left r)
+    (pb : PutBack p.node p.child (cond (is_some r.second) (r.first ∷ unwrap_or r.second r.first ∷ []) (r.first ∷ [])) m) where
   abbrev ds : List Entry
   ds = entries_of n.entries
 
@@ -287,26 +283,38 @@ module _ {t s map t₁ s₁ map₁ : List ℕ} {level : ℕ} {n m : NodeValue} {
   es₂ = drop (suc p.child) ds
 
   abbrev gs : List Entry
-  gs = cond r.two (r.second ∷ []) []
+  gs = others r.second
 
   entries-back : entries_of m.entries ≡ es₁ ++ ((r.first ∷ gs) ++ es₂)
   entries-back =
       pb.entries
-      ∙ ap (λ (v : Entries). take p.child (entries_of v) ++ (cond r.two (r.first ∷ r.second ∷ []) (r.first ∷ []) ++ drop (suc p.child) (entries_of v))) pk.entries
-      ∙ ap (λ (q : List Entry). es₁ ++ (q ++ es₂)) (cond-cons r.two r.first r.second)
+      ∙ ap (λ (v : Entries). take p.child (entries_of v) ++ (cond (is_some r.second) (r.first ∷ unwrap_or r.second r.first ∷ []) (r.first ∷ []) ++ drop (suc p.child) (entries_of v))) pk.entries
+      ∙ ap (λ (q : List Entry). es₁ ++ (q ++ es₂)) (others-are r.second r.first)
 
   held_back : held_in m ≡ held_in p.node
   held_back = λ i. record { points = held (pb.points i); inserts = held (pb.inserts i); deletes = named (pb.deletes i) }
 
   -- what holds of the entries before and of the new ones holds of all
-  each_back : (P : Entry → Type 0) → ((d : Entry) → Memᴰ d ds → P d) → P r.first → (r.two ≡ true → P r.second) → (d : Entry) → Memᴰ d (entries_of m.entries) → P d
+  each_back : (P : Entry → Type 0) → ((d : Entry) → Memᴰ d ds → P d) → P r.first → IfSome r.second P → (d : Entry) → Memᴰ d (entries_of m.entries) → P d
   each_back P old f g d i =
       ⊎_elim (λ (q : d ≡ r.first). subst⁻¹ P q f)
-      (λ j. ⊎_elim
-      (λ v. ⊎_elim (λ u. ⊎_elim (λ (q : d ≡ r.second). subst⁻¹ P q (g u.0)) (λ z. absurd (Memᴰ.not-nil z)) (Memᴰ.cases_cons u.1)) (λ u. absurd (Memᴰ.not-nil u)) (cond-mem r.two (r.second ∷ []) [] v))
-      (λ v. old d (subst⁻¹ (λ (q : List Entry). Memᴰ d q) a.split v))
-      j)
+      (λ j. ⊎_elim (others-each P r.second g d) (λ v. old d (subst⁻¹ (λ (q : List Entry). Memᴰ d q) a.split v)) j)
       (member-put es₁ es₂ gs e r.first (subst (λ (q : List Entry). Memᴰ d q) entries-back i))
+
+  -- what is said of the second, where there is one, and of the table's length
+  second-fits : IfSome r.second EntryFits
+  second-fits = go r.second sp.second
+    where
+      go : (o : maybe.Option Entry) → IfSome o (λ d. (1 ≤ d.block) × (d.block < blocks_of (length t)) × EntryFits d) → IfSome o EntryFits
+      go None h = tt
+      go (Some g) h = h.2
+
+  second-inside : IfSome r.second (λ d. (1 ≤ d.block) × (d.block < blocks_of (length t₁)))
+  second-inside = go r.second sp.second
+    where
+      go : (o : maybe.Option Entry) → IfSome o (λ d. (1 ≤ d.block) × (d.block < blocks_of (length t)) × EntryFits d) → IfSome o (λ d. (1 ≤ d.block) × (d.block < blocks_of (length t₁)))
+      go None h = tt
+      go (Some g) h = (h.0, rw k.table h.1)
 
   works-back : Workable t₁ s₁ map₁ m level
   works-back =
@@ -315,11 +323,11 @@ module _ {t s map t₁ s₁ map₁ : List ℕ} {level : ℕ} {n m : NodeValue} {
         undoable = undoable-kept k v.undoable;
         tidy = record { points = subst⁻¹ Ordered pb.points pk.tidy.points; inserts = subst⁻¹ Ordered pb.inserts pk.tidy.inserts; deletes = subst⁻¹ OrderedKeys pb.deletes pk.tidy.deletes };
         entries = record {
-          few = let z : p.node.entries.n ≡ n.entries.n = ap (λ (q : Entries). q.n) pk.entries in omega (arith, pb.count, few-backs r.two r.first r.second);
-          each = each_back EntryFits v.entries.each (sp.fits ok) (λ z. (sp.second ok z).2);
+          few = let z : p.node.entries.n ≡ n.entries.n = ap (λ (q : Entries). q.n) pk.entries in omega (arith, pb.count, few-backs (is_some r.second) r.first (unwrap_or r.second r.first));
+          each = each_back EntryFits v.entries.each sp.fits second-fits;
         };
         inside = each_back (λ d. (1 ≤ d.block) × (d.block < blocks_of (length t₁))) (λ d i. let z = v.inside d i in (z.0, rw k.table z.1))
-            (let z = v.inside e a.there in let q = sp.block ok in (omega (arith, z.0), rw k.table (omega (arith, z.1)))) (λ z. let q = sp.second ok z in (q.0, rw k.table q.1));
+            (let z = v.inside e a.there in let q = sp.block in (omega (arith, z.0), rw k.table (omega (arith, z.1)))) second-inside;
         level = pb.level ∙ pk.level ∙ v.level;
         deep = v.deep;
         points = let z : m.points.n ≡ n.points.n = ap (λ (q : SpotBuffer). q.n) (pb.points ∙ pk.points) in omega (arith, v.points);
@@ -327,18 +335,17 @@ module _ {t s map t₁ s₁ map₁ : List ℕ} {level : ℕ} {n m : NodeValue} {
         deletes = let z : m.deletes.n ≡ p.node.deletes.n = ap (λ (q : KeyBuffer). q.n) pb.deletes in omega (arith, pk.most_d, v.deletes);
       }
 
-  pub push-done : WorkPost t t₁ s₁ map₁ level n spare left (record { ok = true; broken = false; node = m; left = r.left })
+  pub push-done : WorkDone t t₁ s₁ map₁ level n spare left (record { node = m; left = r.left })
   push-done =
       record {
         works = works-back;
         fewer = sp.fewer;
-        zero = λ o. ap (λ (q : List Entry). zero_first (lows q)) entries-back ∙ zero-put es₁ es₂ gs e r.first (sp.low ok) (ap (λ (q : List Entry). zero_first (lows q)) (sym a.split) ∙ w.zero);
-        more = λ o. let y : length ds ≡ length (es₁ ++ (e ∷ es₂)) = ap length a.split in let z : length (entries_of m.entries) ≡ length (es₁ ++ ((r.first ∷ gs) ++ es₂)) = ap length entries-back in omega (arith, more-put es₁ es₂ gs e r.first);
+        zero = ap (λ (q : List Entry). zero_first (lows q)) entries-back ∙ zero-put es₁ es₂ gs e r.first sp.low (ap (λ (q : List Entry). zero_first (lows q)) (sym a.split) ∙ w.zero);
+        more = let y : length ds ≡ length (es₁ ++ (e ∷ es₂)) = ap length a.split in let z : length (entries_of m.entries) ≡ length (es₁ ++ ((r.first ∷ gs) ++ es₂)) = ap length entries-back in omega (arith, more-put es₁ es₂ gs e r.first);
         most_i = let z : m.inserts.n ≡ p.node.inserts.n = ap (λ (q : SpotBuffer). q.n) pb.inserts in omega (arith, pk.most_i);
         most_d = let z : m.deletes.n ≡ p.node.deletes.n = ap (λ (q : KeyBuffer). q.n) pb.deletes in omega (arith, pk.most_d);
-        leaf = λ o z. absurd (inner z);
-        done = λ o lo hi f.
+        leaf = λ z. absurd (inner z);
+        done = λ lo hi f.
             subst⁻¹ (λ (v : ℕ). Opened (store_of t) v lo hi n spare left f → WorkedTo (store_of t) (store_of t₁) v lo hi n m spare left r.left f) (deeper level inner)
-            (λ o. pushed t (level - 1) n p e spare left a pk lo hi f o t₁ m r sp ok held_back entries-back);
-        whole = λ lo hi f o. refl;
+            (λ o. pushed t (level - 1) n p e spare left a pk lo hi f o t₁ m r sp held_back entries-back);
       }

@@ -2,7 +2,6 @@
 -- Assumes nothing.
 use mathlib.Core.Path.{◌≡◌, ap, sym, ◌∙◌}
 use mathlib.Core.Logic.{inl}
-use mathlib.Core.Bool.{Bool, true, false, true≢false}
 use mathlib.Core.List.Memᴰ
 use mathlib.Core.List.{List, []}
 use mathlib.Core.Option.{Option}
@@ -22,12 +21,12 @@ use Rattle.update_theory.proofs.Change.{changed-trans}
 use Rattle.node.specs.Memory.{entries_of}
 use Rattle.node.specs.declared.NodeValue.{NodeValue}
 use Rattle.edit.specs.Edits.{held_in}
-use Rattle.fill.specs.declared.Filled.{Filled}
-use Rattle.fill.specs.Filling.{FillPost, FilledBy}
+use Rattle.fill.specs.Filling.{FillDone, FillFailed, FilledBy}
 use Rattle.spare.specs.declared.Spare.{Spare}
 use Rattle.spare.specs.Spares.{spare_of}
 use Rattle.settle.specs.declared.Worked.{Worked}
-use Rattle.settle.specs.Settling.{Opened, WorkedTo, WorkPost, RefinePost}
+use Rattle.fill.specs.declared.Failure.{Failure}
+use Rattle.settle.specs.Settling.{Opened, WorkedTo, Roomless, WorkDone, RefineDone}
 use Rattle.settle.proofs.Lows.{lows-as}
 
 -- an update that went on without taking a block
@@ -42,51 +41,46 @@ going-further l lo hi x s es y s₁ r es₁ b f w r₂ es₂ b₂ g h =
       less = g.less;
     }
 
--- the push failed
-pub refine-fails : {t t' s' map' : List ℕ} {level : ℕ} {n : NodeValue} {spare : Spare} {left : ℕ} {w : Worked} → WorkPost t t' s' map' level n spare left w → w.ok ≡ false
-    → RefinePost t t' s' map' level n spare left w
-refine-fails p e =
-    record { work = p; few_i = λ o. absurd (true≢false (sym o ∙ e)); few_d = λ o. absurd (true≢false (sym o ∙ e)); full = λ o. absurd (true≢false (sym o ∙ e)) }
+-- the node was pushed
+module _ {t t₁ s₁ map₁ t₂ s₂ map₂ : List ℕ} {level : ℕ} {n : NodeValue} {spare : Spare} {left : ℕ} {w : Worked} (p : WorkDone t t₁ s₁ map₁ level n spare left w) where
+  -- and could not be filled
+  pub refine-fails : {e : Failure} → FillFailed t₁ t₂ s₂ map₂ level w.node e → Roomless t level n spare left e
+  refine-fails q = record { whole = λ lo hi f before. let a = p.done lo hi f before in q.whole lo hi a.rank f before.legal p.zero a.going.node }
 
--- the node was filled
-module _ {t t₁ s₁ map₁ t₂ s₂ map₂ : List ℕ} {level : ℕ} {n : NodeValue} {spare : Spare} {left : ℕ} {w : Worked} {r : Filled} (p : WorkPost t t₁ s₁ map₁ level n spare left w) (went : w.ok ≡ true)
-    (q : FillPost t₁ t₂ s₂ map₂ level w.node r) (ok : Bool) (all : ok ≡ true → (r.ok ≡ true) × (r.node.inserts.n ≤ 64) × (r.node.deletes.n ≤ 16)) where
-  abbrev m : NodeValue
-  m = r.node
+  -- or was
+  module _ {r : NodeValue} (q : FillDone t₁ t₂ s₂ map₂ level w.node r) where
+    same_length : length (entries_of r.entries) ≡ length (entries_of w.node.entries)
+    same_length = sym (length-lows (entries_of r.entries)) ∙ ap length q.same_lows ∙ length-lows (entries_of w.node.entries)
 
-  same_length : length (entries_of r.node.entries) ≡ length (entries_of w.node.entries)
-  same_length = sym (length-lows (entries_of r.node.entries)) ∙ ap length q.same_lows ∙ length-lows (entries_of w.node.entries)
+    module _ (lo hi : ℕ) (f : ℕ → Option ℕ) (before : Opened (store_of t) level lo hi n spare left f) where
+      pushed : WorkedTo (store_of t) (store_of t₁) level lo hi n w.node spare left w.left f
+      pushed = p.done lo hi f before
 
-  module _ (lo hi : ℕ) (f : ℕ → Option ℕ) (before : Opened (store_of t) level lo hi n spare left f) where
-    pushed : WorkedTo (store_of t) (store_of t₁) level lo hi n w.node spare left w.left f
-    pushed = p.done went lo hi f before
+      filled : FilledBy (store_of t₁) (store_of t₂) level w.node r lo hi f
+      filled = q.done lo hi pushed.rank f before.legal p.zero pushed.going.node
 
-    filled : ok ≡ true → FilledBy (store_of t₁) (store_of t₂) level w.node r.node lo hi f
-    filled o = q.done (all o).0 lo hi pushed.rank f before.legal (p.zero went) pushed.going.node
-
-  pub refine-done : RefinePost t t₂ s₂ map₂ level n spare left (record { ok = ok; broken = r.broken; node = r.node; left = w.left })
-  refine-done =
-      record {
-        work = record {
-          works = q.works;
-          fewer = p.fewer;
-          zero = λ o. ap zero_first q.same_lows ∙ p.zero went;
-          more = λ o. omega (arith, same_length, p.more went);
-          most_i = omega (arith, q.inserts, p.most_i);
-          most_d = omega (arith, q.deletes, p.most_d);
-          leaf = λ o z. same_length ∙ p.leaf went z;
-          done = λ o lo hi f before.
-              let a = pushed lo hi f before in
-              let b = filled lo hi f before o in
-              record {
-                rank = b.rank;
-                going = going-further level lo hi (store_of t) (spare_of spare left) (entries_of n.entries) (store_of t₁) (spare_of spare w.left) a.rank (entries_of w.node.entries) (held_in w.node) f
-                    (store_of t₂) b.rank (entries_of r.node.entries) (held_in r.node) a.going b.loop.going;
-                lows_fit = lows-as lo hi (entries_of w.node.entries) (entries_of r.node.entries) q.same_lows a.lows_fit;
-              };
-          whole = λ lo hi f before. let a = pushed lo hi f before in q.whole lo hi a.rank f before.legal (p.zero went) a.going.node;
-        };
-        few_i = λ o. (all o).1;
-        few_d = λ o. (all o).2;
-        full = λ o lo hi f before. (filled lo hi f before o).full;
-      }
+    pub refine-done : r.inserts.n ≤ 64 → r.deletes.n ≤ 16 → RefineDone t t₂ s₂ map₂ level n spare left (record { node = r; left = w.left })
+    refine-done few_i few_d =
+        record {
+          work = record {
+            works = q.works;
+            fewer = p.fewer;
+            zero = ap zero_first q.same_lows ∙ p.zero;
+            more = omega (arith, same_length, p.more);
+            most_i = omega (arith, q.inserts, p.most_i);
+            most_d = omega (arith, q.deletes, p.most_d);
+            leaf = λ z. same_length ∙ p.leaf z;
+            done = λ lo hi f before.
+                let a = pushed lo hi f before in
+                let b = filled lo hi f before in
+                record {
+                  rank = b.rank;
+                  going = going-further level lo hi (store_of t) (spare_of spare left) (entries_of n.entries) (store_of t₁) (spare_of spare w.left) a.rank (entries_of w.node.entries) (held_in w.node) f
+                      (store_of t₂) b.rank (entries_of r.entries) (held_in r) a.going b.loop.going;
+                  lows_fit = lows-as lo hi (entries_of w.node.entries) (entries_of r.entries) q.same_lows a.lows_fit;
+                };
+          };
+          few_i = few_i;
+          few_d = few_d;
+          full = λ lo hi f before. (filled lo hi f before).full;
+        }

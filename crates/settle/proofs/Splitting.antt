@@ -2,9 +2,9 @@
 -- Assumes nothing.
 use mathlib.Core.Path.{◌≡◌, refl, ap, sym, ◌∙◌, subst, subst⁻¹}
 use mathlib.Core.Logic.{inl, inr, ⊎_elim}
-use mathlib.Core.Bool.{true, false}
 use mathlib.Core.List.Memᴰ
 use mathlib.Core.List.{List, [], ◌∷◌, ◌++◌, Memᴰ}
+use Rattle.std.specs.Prelude.{Some}
 use mathlib.Core.Option.{Option}
 use Prim.Native.Nat.{ℕ, zero, suc, ◌-◌, ◌/◌, ◌≤◌, ◌<◌}
 use native.Mathlib.Omega.{arith}
@@ -43,7 +43,9 @@ use Rattle.spare.specs.Spares.{spare_of}
 use Rattle.spare.proofs.Taking.{spare-less, last-new, spare-step}
 use Rattle.batch.specs.Batches.{CutKey, Lower, Upper}
 use Rattle.settle.specs.declared.Worked.{Worked}
-use Rattle.settle.specs.Settling.{LowsFit, Opened, WorkedTo, RefinePost, StandsFor, Cuttable, PlacedTo, PlacePost}
+use Rattle.fill.specs.declared.Failure.{Failure}
+use Rattle.fill.specs.declared.Failure.TheVariants.{NoRoom}
+use Rattle.settle.specs.Settling.{LowsFit, Opened, WorkedTo, Roomless, RefineDone, StandsFor, Cuttable, PlacedTo, PlaceDone}
 use Rattle.settle.proofs.Aside.{instead, instead-here, instead-else, changed-aside}
 use Rattle.settle.proofs.Halves.{right-same, right-free, left-same, within_both, halves}
 use Rattle.settle.proofs.Lows.{lows-left, lows-right, cut_high, cut_low}
@@ -265,11 +267,11 @@ module _ {t s map : List ℕ} {b level : ℕ} {asked : Asked} {n : NodeValue} {h
         free = λ z i j. free z i (rw (gather_append (reach level (store_of t)) A C) (Memᴰ.append_left (reaches level (store_of t) C) j));
       }
 
-  pub left-whole : {t₁ s₁ map₁ : List ℕ} {w₁ : Worked} → RefinePost t t₁ s₁ map₁ level h.left spare (left - 1) w₁ → w₁.broken ≡ false
-  left-whole p₁ = p₁.work.whole lo sep f left_open
+  pub left-whole : {e : Failure} → Roomless t level h.left spare (left - 1) e → e ≡ NoRoom
+  left-whole p₁ = p₁.whole lo sep f left_open
 
   -- it is stored in the old block, which no child of either half reaches
-  module _ {t₁ s₁ map₁ t₂ : List ℕ} {w₁ : Worked} (p₁ : RefinePost t t₁ s₁ map₁ level h.left spare (left - 1) w₁) (ok₁ : w₁.ok ≡ true) (q₁ : Stored t₁ t₂ b w₁.node)
+  module _ {t₁ s₁ map₁ t₂ : List ℕ} {w₁ : Worked} (p₁ : RefineDone t t₁ s₁ map₁ level h.left spare (left - 1) w₁) (q₁ : Stored t₁ t₂ b w₁.node)
       (sound : Sound (suc level) (store_of t) (part b asked lo hi ∷ [])) (apart : Apart (spare_of spare left) (reaches (suc level) (store_of t) (part b asked lo hi ∷ []))) where
     abbrev S₁ : List ℕ
     S₁ = spare_of spare w₁.left
@@ -281,7 +283,7 @@ module _ {t s map : List ℕ} {b level : ℕ} {asked : Asked} {n : NodeValue} {h
     less₁ = spare-less spare w₁.left (left - 1) p₁.work.fewer
 
     one : WorkedTo (store_of t) (store_of t₁) level lo sep h.left w₁.node spare (left - 1) w₁.left f
-    one = p₁.work.done ok₁ lo sep f left_open
+    one = p₁.work.done lo sep f left_open
 
     right_kept : Same (store_of t) (store_of t₁) (reaches level (store_of t) C)
     right_kept = right-same level S S₁ (store_of t) (store_of t₁) A A' C _ u.cut.sound free less₁ one.going.changed
@@ -321,12 +323,12 @@ module _ {t s map : List ℕ} {b level : ℕ} {asked : Asked} {n : NodeValue} {h
               (subst⁻¹ (λ (bs : List ℕ). Memᴰ z bs) (reaches_same (store_of t) (store_of t₁) level C right_kept) (subst (λ (bs : List ℕ). Memᴰ z bs) reaches₂ j));
         }
 
-    pub right-whole : {t₃ s₃ map₃ : List ℕ} {w₂ : Worked} → RefinePost t₂ t₃ s₃ map₃ level h.right spare w₁.left w₂ → w₂.broken ≡ false
-    right-whole p₂ = p₂.work.whole sep hi f right-open
+    pub right-whole : {e : Failure} → Roomless t₂ level h.right spare w₁.left e → e ≡ NoRoom
+    right-whole p₂ = p₂.whole sep hi f right-open
 
     -- and it is stored in the last of the spare blocks
     module _ {t₃ s₃ map₃ t₄ : List ℕ} {c : ℕ} {d e : Entry} {w₂ : Worked} (some : 0 < left) (last : spare_of spare left ≡ spare_of spare (left - 1) ++ (c ∷ []))
-        (p₂ : RefinePost t₂ t₃ s₃ map₃ level h.right spare w₁.left w₂) (ok₂ : w₂.ok ≡ true) (q₂ : Stored t₃ t₄ c w₂.node)
+        (p₂ : RefineDone t₂ t₃ s₃ map₃ level h.right spare w₁.left w₂) (q₂ : Stored t₃ t₄ c w₂.node)
         (d₁ : EntryFor b (low_of asked) w₁.node d) (d₂ : EntryFor c h.sep w₂.node e) (low : low_of asked ≤ lo) where
       abbrev S₂ : List ℕ
       S₂ = spare_of spare w₂.left
@@ -341,7 +343,7 @@ module _ {t s map : List ℕ} {b level : ℕ} {asked : Asked} {n : NodeValue} {h
       less₂ = spare-less spare w₂.left w₁.left p₂.work.fewer
 
       two : WorkedTo (store_of t₂) (store_of t₃) level sep hi h.right w₂.node spare w₁.left w₂.left f
-      two = p₂.work.done ok₂ sep hi f right-open
+      two = p₂.work.done sep hi f right-open
 
       not_taken : Taken S₁ S₂ b → ⊥
       not_taken v = own (less₀ b (less₁ b v.0))
@@ -399,34 +401,33 @@ module _ {t s map : List ℕ} {b level : ℕ} {asked : Asked} {n : NodeValue} {h
           (λ z v i. apart z v.0 (Memᴰ.append_left [] i)) (λ z v. (less₀ z v.0, v.1)) (λ z v. ⊎_elim (λ j. inl (j, v.1)) inr (spare-step spare left c some st.less st.spares.once last z v.0))
           (new.0, λ i. new.1 (less₁ c (less₂ c i))) (λ v. new.1 v.0) (let z = u.low in omega arith) (let z = u.high in omega arith) kids
           stays
-          (refined-shape (Child d) (ground-left st hv cuts d) p₁ ok₁ b lo sep d₁.block left_open.legal one.lows_fit (p₁.full ok₁ lo sep f left_open) (let z = d₁.low in omega arith) (d₁.agree (blocks_of (length t₁))))
+          (refined-shape (Child d) (ground-left st hv cuts d) p₁ b lo sep d₁.block left_open.legal one.lows_fit (p₁.full lo sep f left_open) (let z = d₁.low in omega arith) (d₁.agree (blocks_of (length t₁))))
           opens
-          (refined-shape (Child e) (ground-right st hv cuts e) p₂ ok₂ c sep hi d₂.block right-open.legal two.lows_fit (p₂.full ok₂ sep hi f right-open) (let z = d₂.low in omega arith) (d₂.agree (blocks_of (length t₃))))
+          (refined-shape (Child e) (ground-right st hv cuts e) p₂ c sep hi d₂.block right-open.legal two.lows_fit (p₂.full sep hi f right-open) (let z = d₂.low in omega arith) (d₂.agree (blocks_of (length t₃))))
           (stored-else t₃ t₄ c w₂.node q₂ b other ∙ two.going.changed.kept b off₂ not_taken ∙ q₁.here)
           q₂.here
           (λ z i j. stored-else t₃ t₄ c w₂.node q₂ z j ∙ sym (instead-else b (store_of t₁ b) (store_of t₃) z i))
 
-      placed : PlacedTo (store_of t) (store_of t₄) level b asked lo hi spare left (record { ok = true; broken = false; two = true; first = d; second = e; left = w₂.left }) f
+      placed : PlacedTo (store_of t) (store_of t₄) level b asked lo hi spare left (record { first = d; second = Some e; left = w₂.left }) f
       placed =
           record {
             changed = subst⁻¹ (λ (v : ℕ). Changed (suc level) (Taken (spare_of spare left) S₂) (store_of t) (part b asked lo hi ∷ []) (store_of t₄) (part b (Child d) lo v ∷ part e.block (Child e) v hi ∷ []) f) d₂.low
                 (subst⁻¹ (λ (v : ℕ). Changed (suc level) (Taken (spare_of spare left) S₂) (store_of t) (part b asked lo hi ∷ []) (store_of t₄) (part b (Child d) lo sep ∷ part v (Child e) sep hi ∷ []) f) d₂.block changed);
-            apart = λ q. let z = d₂.low in (let a = u.low in omega arith, let a = u.high in omega arith);
+            apart = let z = d₂.low in (let a = u.low in omega arith, let a = u.high in omega arith);
           }
 
 pub place-two : {t s map t₁ s₁ map₁ t₂ t₃ s₃ map₃ t₄ : List ℕ} {b level : ℕ} {asked : Asked} {n : NodeValue} {h : Halves} {spare : Spare} {left c : ℕ} {d e : Entry} {w₁ w₂ : Worked}
     → StandsFor t s map b level asked n spare left → Cuttable level n → Halved n h
-    → RefinePost t t₁ s₁ map₁ level h.left spare (left - 1) w₁ → w₁.ok ≡ true → Stored t₁ t₂ b w₁.node → 0 < left → spare_of spare left ≡ spare_of spare (left - 1) ++ (c ∷ [])
-    → RefinePost t₂ t₃ s₃ map₃ level h.right spare w₁.left w₂ → w₂.ok ≡ true → Stored t₃ t₄ c w₂.node → EntryFor b (low_of asked) w₁.node d → EntryFor c h.sep w₂.node e
-    → PlacePost t t₄ level b asked n spare left (record { ok = true; broken = false; two = true; first = d; second = e; left = w₂.left })
-place-two st cuts hv p₁ ok₁ q₁ some last p₂ ok₂ q₂ d₁ d₂ =
+    → RefineDone t t₁ s₁ map₁ level h.left spare (left - 1) w₁ → Stored t₁ t₂ b w₁.node → 0 < left → spare_of spare left ≡ spare_of spare (left - 1) ++ (c ∷ [])
+    → RefineDone t₂ t₃ s₃ map₃ level h.right spare w₁.left w₂ → Stored t₃ t₄ c w₂.node → EntryFor b (low_of asked) w₁.node d → EntryFor c h.sep w₂.node e
+    → PlaceDone t t₄ level b asked n spare left (record { first = d; second = Some e; left = w₂.left })
+place-two st cuts hv p₁ q₁ some last p₂ q₂ d₁ d₂ =
     let i = last-inside st.spares st.less last in
     record {
       fewer = omega (arith, p₁.work.fewer, p₂.work.fewer);
-      block = λ v. d₁.block;
-      low = λ v. d₁.low;
-      fits = λ v. d₁.fits (block-few st.undoable st.inside);
-      second = λ v g. let z = d₂.block in (omega (arith, i.0), omega (arith, i.1), d₂.fits (block-few st.undoable i.1));
-      done = λ v lo hi f low sound apart o. placed st cuts hv lo hi f o p₁ ok₁ q₁ sound apart some last p₂ ok₂ q₂ d₁ d₂ low;
-      whole = λ lo hi f low sound apart o. refl;
+      block = d₁.block;
+      low = d₁.low;
+      fits = d₁.fits (block-few st.undoable st.inside);
+      second = let z = d₂.block in (omega (arith, i.0), omega (arith, i.1), d₂.fits (block-few st.undoable i.1));
+      done = λ lo hi f low sound apart o. placed st cuts hv lo hi f o p₁ q₁ sound apart some last p₂ q₂ d₁ d₂ low;
     }

@@ -2,8 +2,9 @@
 -- Assumes nothing.
 use mathlib.Core.Path.{◌≡◌}
 use mathlib.Core.Logic.{inl, inr}
-use mathlib.Core.Bool.{Bool, false, ◌&&◌}
+use mathlib.Core.Bool.{Bool, ◌&&◌}
 use mathlib.Core.List.{List}
+use Rattle.std.specs.Prelude.{None}
 use Prim.Native.Nat.{ℕ}
 use lib.Dec.{ltb, leb}
 use borrow.Author.Tests.{ltb-true, ltb-false, leb-true}
@@ -23,8 +24,7 @@ split-inner n more z =
 
 -- a node was stored in block b, and this is its entry
 pub record StoredOne (t t' : List ℕ) (b floor : ℕ) (n : NodeValue) (left : ℕ) (r : Settled) : Type 0 where
-  pub whole : r.broken ≡ false
-  pub one : r.two ≡ false
+  pub one : r.second ≡ None
   pub spare : r.left ≡ left
   pub first : EntryFor b floor n r.first
   pub stored : Stored t t' b n

@@ -5,6 +5,8 @@ use mathlib.Core.Logic.{inl, inr}
 use mathlib.Core.Bool.{Bool, true, false, cond, ◌||◌, true≢false}
 use mathlib.Core.List.Memᴰ
 use mathlib.Core.List.{List, [], ◌∷◌, Memᴰ}
+use Rattle.std.specs.Prelude.{IfSome, Result, Ok, Err}
+use Rattle.std.specs.Prelude as maybe
 use mathlib.Core.Option.{Option}
 use Prim.Native.Nat.{ℕ, suc, ◌≤◌, ◌<◌}
 use native.Mathlib.Omega.{arith}
@@ -37,18 +39,19 @@ use Rattle.update_theory.specs.Rounds.{FilledUp}
 use Rattle.update_theory.proofs.Close.{Shape}
 use Rattle.update_theory.proofs.Going.{going_done}
 use Rattle.update_theory.proofs.Loose.{opened, reach_step}
-use Rattle.node.specs.Memory.{entries_of, node_in}
+use Rattle.node.specs.Memory.{entries_of, node_in, EntryFits}
 use Rattle.node.specs.declared.NodeValue.{NodeValue}
 use Rattle.node.proofs.Laws.{stored-else}
 use Rattle.edit.specs.Edits.{held_in}
 use Rattle.journal.specs.Journal.{Undoable}
+use Rattle.fill.specs.declared.Failure.{Failure}
 use Rattle.spare.specs.declared.Spare.{Spare}
 use Rattle.spare.specs.Spares.{spare_of}
 use Rattle.batch.specs.Batches.{batch_says}
 use Rattle.settle.specs.declared.Settled.{Settled}
 use Rattle.settle.specs.declared.Worked.{Worked}
 use Rattle.settle.proofs.Stores.{StoredOne}
-use Rattle.settle.specs.Settling.{again, became, LowsFit, Opened, WorkedTo, RefinePost, StandsFor, PlacedTo, OnOpen, PlacePost, SettlePost}
+use Rattle.settle.specs.Settling.{again, became_as, LowsFit, Opened, WorkedTo, RefineDone, StandsFor, PlacedTo, PlaceDone, PlacePost, SettleFailed, SettlePost}
 
 -- ---- the shape of a node that was worked on
 
@@ -59,7 +62,7 @@ pub record Ground (level : ℕ) (a : Asked) (n : NodeValue) : Type 0 where
   pub leaf_i : level ≡ 0 → n.inserts.n ≡ 0
   pub leaf_d : level ≡ 0 → n.deletes.n ≡ 0
 
-module _ {t t' s' map' : List ℕ} {level : ℕ} {n : NodeValue} {spare : Spare} {left : ℕ} {w : Worked} (a : Asked) (g : Ground level a n) (p : RefinePost t t' s' map' level n spare left w) (ok : w.ok ≡ true) where
+module _ {t t' s' map' : List ℕ} {level : ℕ} {n : NodeValue} {spare : Spare} {left : ℕ} {w : Worked} (a : Asked) (g : Ground level a n) (p : RefineDone t t' s' map' level n spare left w) where
   abbrev m : NodeValue
   m = w.node
 
@@ -71,10 +74,10 @@ module _ {t t' s' map' : List ℕ} {level : ℕ} {n : NodeValue} {spare : Spare}
   count = go (eqb m.level 0) refl
     where
       go : (q : Bool) → eqb m.level 0 ≡ q → cond q (is_empty (entries_of m.entries)) (all (leb (fewest a) (length (entries_of m.entries)) ∷ leb (length (entries_of m.entries)) 8 ∷ [])) ≡ true
-      go true e = let z : level ≡ 0 = sym p.work.works.level ∙ eqb-true m.level 0 e in none-length (entries_of m.entries) (omega (arith, p.work.leaf ok z, g.leaf_e z))
+      go true e = let z : level ≡ 0 = sym p.work.works.level ∙ eqb-true m.level 0 e in none-length (entries_of m.entries) (omega (arith, p.work.leaf z, g.leaf_e z))
       go false e =
           let z = g.least (λ h. true≢false (sym (eq-eqb m.level 0 (p.work.works.level ∙ h)) ∙ e)) in
-          all_cons _ _ (le-leb (fewest a) (length (entries_of m.entries)) (omega (arith, p.work.more ok)))
+          all_cons _ _ (le-leb (fewest a) (length (entries_of m.entries)) (omega (arith, p.work.more)))
           (all_cons _ _ (le-leb (length (entries_of m.entries)) 8 (let y = length-take m.entries.n m.entries.list in omega (arith, p.work.works.entries.few))) all_nil)
 
   leaf : leaf_buffers_empty (node_in room m) ≡ true
@@ -94,7 +97,7 @@ module _ {t t' s' map' : List ℕ} {level : ℕ} {n : NodeValue} {spare : Spare}
       let a = length-take m.points.n m.points.spots in
       let b = length-take m.inserts.n m.inserts.spots in
       let c = length-take m.deletes.n m.deletes.keys in
-      sizes-filled (node_in room m) h (omega (arith, p.work.works.points)) (omega (arith, p.few_i ok)) (omega (arith, p.few_d ok))
+      sizes-filled (node_in room m) h (omega (arith, p.work.works.points)) (omega (arith, p.few_i)) (omega (arith, p.few_d))
   sizes (inr h) = sizes-lowest (node_in room m) h.0 h.1 h.2 h.3
 
   pub refined-shape : (b lo hi : ℕ) → stands_in a ≡ b → Legal lo hi → LowsFit lo hi (entries_of w.node.entries) → FilledUp (entries_of w.node.entries) (held_in w.node) → low_of a ≤ lo
@@ -143,23 +146,9 @@ again-own (Child d) e b h g = h
 pub block-few : {t s map : List ℕ} {b : ℕ} → Undoable t s map → b < blocks_of (length t) → b < 65536
 block-few u h = omega (arith, u.most)
 
--- it failed
-pub place-fails : {t t' : List ℕ} {level b : ℕ} {asked : Asked} {n : NodeValue} {spare : Spare} {left : ℕ} {r : Settled} {broken : Bool} → r.ok ≡ false → r.left ≤ left → r.broken ≡ broken
-    → OnOpen t level b asked n spare left (λ lo hi f. broken ≡ false) → PlacePost t t' level b asked n spare left r
-place-fails e h said whole =
-    record {
-      fewer = h;
-      block = λ o. absurd (true≢false (sym o ∙ e));
-      low = λ o. absurd (true≢false (sym o ∙ e));
-      fits = λ o. absurd (true≢false (sym o ∙ e));
-      second = λ o. absurd (true≢false (sym o ∙ e));
-      done = λ o. absurd (true≢false (sym o ∙ e));
-      whole = λ lo hi f low sound apart o. said ∙ whole lo hi f low sound apart o;
-    }
-
 -- the node n that stands for block b became w .node, and was stored there
 module _ {t s map t₁ s₁ map₁ t₂ : List ℕ} {level b : ℕ} {asked : Asked} {n : NodeValue} {spare : Spare} {left : ℕ} {w : Worked} {r : Settled}
-    (st : StandsFor t s map b level asked n spare left) (p : RefinePost t t₁ s₁ map₁ level n spare left w) (ok : w.ok ≡ true) (q : StoredOne t₁ t₂ b (low_of asked) w.node w.left r) where
+    (st : StandsFor t s map b level asked n spare left) (p : RefineDone t t₁ s₁ map₁ level n spare left w) (q : StoredOne t₁ t₂ b (low_of asked) w.node w.left r) where
   ground : Ground level (again asked r.first) n
   ground =
       record {
@@ -172,14 +161,14 @@ module _ {t s map t₁ s₁ map₁ t₂ : List ℕ} {level b : ℕ} {asked : Ask
   module _ (lo hi : ℕ) (f : ℕ → Option ℕ) (low : low_of asked ≤ lo) (sound : Sound (suc level) (store_of t) (part b asked lo hi ∷ []))
       (apart : Apart (spare_of spare left) (reaches (suc level) (store_of t) (part b asked lo hi ∷ []))) (o : Opened (store_of t) level lo hi n spare left f) where
     worked : WorkedTo (store_of t) (store_of t₁) level lo hi n w.node spare left w.left f
-    worked = p.work.done ok lo hi f o
+    worked = p.work.done lo hi f o
 
     changed : Changed (suc level) (Taken (spare_of spare left) (spare_of spare w.left)) (store_of t) (part b asked lo hi ∷ []) (store_of t₂) (part b (again asked r.first) lo hi ∷ []) f
     changed =
         going_done level (store_of t) (store_of t₁) (store_of t₂) (part b asked lo hi) (again asked r.first) (spare_of spare left) (spare_of spare w.left) worked.rank (node_in (blocks_of (length t₁)) w.node) f sound
         (λ z i j. apart z i (Memᴰ.append_left [] j))
         (subst (λ (es : List Entry). Going level lo hi (store_of t) (spare_of spare left) es (store_of t₁) (spare_of spare w.left) worked.rank (entries_of w.node.entries) (held_in w.node) f) st.same worked.going)
-        (refined-shape (again asked r.first) ground p ok b lo hi (again-own asked r.first b q.first.block (opened level (store_of t) (part b asked lo hi) sound).own) o.legal worked.lows_fit (p.full ok lo hi f o) (again-low asked r.first lo q.first.low low)
+        (refined-shape (again asked r.first) ground p b lo hi (again-own asked r.first b q.first.block (opened level (store_of t) (part b asked lo hi) sound).own) o.legal worked.lows_fit (p.full lo hi f o) (again-low asked r.first lo q.first.low low)
         (again-agrees asked r.first (node_in (blocks_of (length t₁)) w.node) (q.first.agree (blocks_of (length t₁)))))
         q.stored.here
         (stored-else t₁ t₂ b w.node q.stored)
@@ -187,39 +176,29 @@ module _ {t s map t₁ s₁ map₁ t₂ : List ℕ} {level b : ℕ} {asked : Ask
     placed : PlacedTo (store_of t) (store_of t₂) level b asked lo hi spare left r f
     placed =
         record {
-          changed = subst⁻¹ (λ (v : ℕ). Changed (suc level) (Taken (spare_of spare left) (spare_of spare v)) (store_of t) (part b asked lo hi ∷ []) (store_of t₂) (became b asked lo hi r) f) q.spare
-              (subst⁻¹ (λ (two : Bool). Changed (suc level) (Taken (spare_of spare left) (spare_of spare w.left)) (store_of t) (part b asked lo hi ∷ []) (store_of t₂)
-              (cond two (part b (Child r.first) lo r.second.low ∷ part r.second.block (Child r.second) r.second.low hi ∷ []) (part b (again asked r.first) lo hi ∷ [])) f) q.one changed);
-          apart = λ e. absurd (true≢false (sym e ∙ q.one));
+          changed = subst⁻¹ (λ (v : ℕ). Changed (suc level) (Taken (spare_of spare left) (spare_of spare v)) (store_of t) (part b asked lo hi ∷ []) (store_of t₂) (became_as b asked lo hi r.first r.second) f) q.spare
+              (subst⁻¹ (λ (o : maybe.Option Entry). Changed (suc level) (Taken (spare_of spare left) (spare_of spare w.left)) (store_of t) (part b asked lo hi ∷ []) (store_of t₂) (became_as b asked lo hi r.first o) f) q.one changed);
+          apart = subst⁻¹ (λ (o : maybe.Option Entry). IfSome o (λ d. (lo < d.low) × (d.low < hi))) q.one tt;
         }
 
-  pub place-one : PlacePost t t₂ level b asked n spare left r
+  pub place-one : PlaceDone t t₂ level b asked n spare left r
   place-one =
       record {
         fewer = let z = q.spare in omega (arith, p.work.fewer);
-        block = λ e. q.first.block;
-        low = λ e. q.first.low;
-        fits = λ e. q.first.fits (block-few st.undoable st.inside);
-        second = λ e g. absurd (true≢false (sym g ∙ q.one));
-        done = λ e lo hi f low sound apart o. placed lo hi f low sound apart o;
-        whole = λ lo hi f low sound apart o. q.whole;
+        block = q.first.block;
+        low = q.first.low;
+        fits = q.first.fits (block-few st.undoable st.inside);
+        second = subst⁻¹ (λ (o : maybe.Option Entry). IfSome o (λ d. (1 ≤ d.block) × (d.block < blocks_of (length t)) × EntryFits d)) q.one tt;
+        done = λ lo hi f low sound apart o. placed lo hi f low sound apart o;
       }
 
 -- ---- what settle promises
 
 -- the block breaks a rule: then the part was not sound
-pub settle-refused : {t t' : List ℕ} {level b : ℕ} {asked : Asked} {ss : List Spot} {ks : List ℕ} {spare : Spare} {left : ℕ} {r : Settled} → r.ok ≡ false → r.left ≤ left
-    → node_ok level asked (store_of t b) ≡ false → SettlePost t t' level b asked ss ks spare left r
-settle-refused {t} {level = level} {b = b} {asked = asked} e h refused =
-    record {
-      fewer = h;
-      block = λ o. absurd (true≢false (sym o ∙ e));
-      low = λ o. absurd (true≢false (sym o ∙ e));
-      fits = λ o. absurd (true≢false (sym o ∙ e));
-      second = λ o. absurd (true≢false (sym o ∙ e));
-      done = λ o. absurd (true≢false (sym o ∙ e));
-      whole = λ lo hi order legal low in_i in_d sound apart. absurd (true≢false (sym (opened level (store_of t) (part b asked lo hi) sound).ok ∙ refused));
-    }
+pub settle-refused : {t : List ℕ} {level b : ℕ} {asked : Asked} {ss : List Spot} {ks : List ℕ} {spare : Spare} {left : ℕ} {e : Failure}
+    → node_ok level asked (store_of t b) ≡ false → SettleFailed t level b asked ss ks spare left e
+settle-refused {t} {level = level} {b = b} {asked = asked} refused =
+    record { whole = λ lo hi order legal low in_i in_d sound apart. absurd (true≢false (sym (opened level (store_of t) (part b asked lo hi) sound).ok ∙ refused)) }
 
 -- what a node in memory finds that took in a batch, in the range [lo, hi)
 abbrev pub Received : List ℕ → ℕ → ℕ → Asked → List Spot → List ℕ → NodeValue → Type 0
@@ -244,23 +223,28 @@ standing-open {t} {b = b} {level = level} {asked = asked} {spare = spare} {left 
           (λ z i j. apart z i (Memᴰ.append_left [] (subst⁻¹ (λ (bs : List ℕ). Memᴰ z bs) (reach_step level (store_of t) (part b asked lo hi)) (Memᴰ.tail j))));
     }
 
--- the node was stored
-pub settle-placed : {t s map t' : List ℕ} {b level : ℕ} {asked : Asked} {ss : List Spot} {ks : List ℕ} {n : NodeValue} {spare : Spare} {left : ℕ} {r : Settled} → StandsFor t s map b level asked n spare left
-    → Received t level b asked ss ks n → PlacePost t t' level b asked n spare left r → SettlePost t t' level b asked ss ks spare left r
-settle-placed {t} {b = b} {level = level} {asked = asked} {ss = ss} {ks = ks} {n = n} {spare = spare} {left = left} st rec p =
-    record {
-      fewer = p.fewer;
-      block = p.block;
-      low = p.low;
-      fits = p.fits;
-      second = p.second;
-      done = λ ok lo hi order legal low in_i in_d sound apart.
-          let d = p.done ok lo hi (λ k. batch_says ss ks k (lookup (suc level) (store_of t) k (part b asked lo hi))) low sound apart (stood lo hi order legal in_i in_d sound apart) in
-          record { changed = d.changed; apart = d.apart };
-      whole = λ lo hi order legal low in_i in_d sound apart. p.whole lo hi (λ k. batch_says ss ks k (lookup (suc level) (store_of t) k (part b asked lo hi))) low sound apart (stood lo hi order legal in_i in_d sound apart);
-    }
-  where
-    stood : (lo hi : ℕ) → lo ≤ hi → Legal lo hi → ((k : ℕ) → Memᴰ k (keys ss) → within lo hi k ≡ true) → ((k : ℕ) → Memᴰ k ks → within lo hi k ≡ true)
-        → Sound (suc level) (store_of t) (part b asked lo hi ∷ []) → Apart (spare_of spare left) (reaches (suc level) (store_of t) (part b asked lo hi ∷ []))
-        → Opened (store_of t) level lo hi n spare left (λ k. batch_says ss ks k (lookup (suc level) (store_of t) k (part b asked lo hi)))
-    stood lo hi order legal in_i in_d sound apart = let o = rec lo hi order (legal-full lo hi legal) in_i in_d sound in standing-open st lo hi o.0 (λ k. batch_says ss ks k (lookup (suc level) (store_of t) k (part b asked lo hi))) order legal sound apart o.1
+-- the node was stored, or not
+module _ {t s map : List ℕ} (t' : List ℕ) {b level : ℕ} {asked : Asked} (ss : List Spot) (ks : List ℕ) {n : NodeValue} {spare : Spare} {left : ℕ} (st : StandsFor t s map b level asked n spare left)
+    (rec : Received t level b asked ss ks n) where
+  abbrev says : ℕ → ℕ → ℕ → Option ℕ
+  says lo hi k = batch_says ss ks k (lookup (suc level) (store_of t) k (part b asked lo hi))
+
+  stood : (lo hi : ℕ) → lo ≤ hi → Legal lo hi → ((k : ℕ) → Memᴰ k (keys ss) → within lo hi k ≡ true) → ((k : ℕ) → Memᴰ k ks → within lo hi k ≡ true)
+      → Sound (suc level) (store_of t) (part b asked lo hi ∷ []) → Apart (spare_of spare left) (reaches (suc level) (store_of t) (part b asked lo hi ∷ []))
+      → Opened (store_of t) level lo hi n spare left (says lo hi)
+  stood lo hi order legal in_i in_d sound apart = let o = rec lo hi order (legal-full lo hi legal) in_i in_d sound in standing-open st lo hi o.0 (says lo hi) order legal sound apart o.1
+
+  pub settle-placed : (r : Result Settled Failure) → PlacePost t t' level b asked n spare left r → SettlePost t t' level b asked ss ks spare left r
+  settle-placed (Ok r) p =
+      record {
+        fewer = p.fewer;
+        block = p.block;
+        low = p.low;
+        fits = p.fits;
+        second = p.second;
+        done = λ lo hi order legal low in_i in_d sound apart.
+            let d = p.done lo hi (says lo hi) low sound apart (stood lo hi order legal in_i in_d sound apart) in
+            record { changed = d.changed; apart = d.apart };
+      }
+  settle-placed (Err e) p =
+      record { whole = λ lo hi order legal low in_i in_d sound apart. p.whole lo hi (says lo hi) low sound apart (stood lo hi order legal in_i in_d sound apart) }

@@ -2,15 +2,15 @@
 -- Assumes nothing.
 use mathlib.Core.Path.{◌≡◌, refl, sym, subst⁻¹, ◌∙◌}
 use mathlib.Core.Logic.{◌⊎◌, inl, inr}
-use mathlib.Core.Bool.{Bool, true, false, ◌&&◌, ◌||◌, true≢false}
+use mathlib.Core.Bool.{false, ◌||◌, true≢false}
 use mathlib.Core.List.Memᴰ
 use mathlib.Core.List.{List, [], ◌∷◌, ◌++◌, Memᴰ}
 use Prim.Native.Nat.{ℕ, ◌-◌, ◌≤◌, ◌<◌}
 use native.Mathlib.Omega.{arith}
 use lib.ListN.{length}
 use lib.Dec.{eqb, leb, ltb}
-use borrow.Author.Tests.{eq-eqb, leb-true, leb-false, ltb-false}
-use Rattle.octets.proofs.Tests.{and_left, and_right, neither}
+use borrow.Author.Tests.{eq-eqb, leb-false, ltb-false}
+use Rattle.octets.proofs.Tests.{neither}
 use Rattle.spot.specs.declared.Spot.{Spot}
 use Rattle.block.specs.declared.Asked.{Asked}
 use Rattle.block.specs.Table.{blocks_of}
@@ -24,7 +24,7 @@ use Rattle.fill.proofs.Works.{work-stores}
 use Rattle.batch.specs.Batches.{TakenIn}
 use Rattle.batch.proofs.Opened.{taken-open}
 use Rattle.settle.specs.declared.Worked.{Worked}
-use Rattle.settle.specs.Settling.{Cuttable, RefinePost}
+use Rattle.settle.specs.Settling.{Cuttable, RefineDone}
 use Rattle.settle.proofs.Storing.{Received}
 
 -- a node that has a child, and room for one more
@@ -36,10 +36,8 @@ may-push level k e =
     (λ z. true≢false (sym (eq-eqb level 0 z) ∙ b.0), omega (arith, no_zero), leb-false 8 k a.1)
 
 -- the sizes with which a node may be stored
-pub sizes-right : (a : Bool) (i d : ℕ) → ((a && leb i 64) && leb d 16) ≡ true → (a ≡ true) × (i ≤ 64) × (d ≤ 16)
-sizes-right a i d e =
-    let b = and_left (a && leb i 64) (leb d 16) e in
-    (and_left a (leb i 64) b, leb-true i 64 (and_right a (leb i 64) b), leb-true d 16 (and_right (a && leb i 64) (leb d 16) e))
+pub sizes-right : (i d : ℕ) → (ltb 64 i || ltb 16 d) ≡ false → (i ≤ 64) × (d ≤ 16)
+sizes-right i d e = let a = neither (ltb 64 i) (ltb 16 d) e in (ltb-false 64 i a.0, ltb-false 16 d a.1)
 
 -- two halves of few points
 pub both-few : (i j : ℕ) → (ltb 64 i || ltb 64 j) ≡ false → (i ≤ 64) × (j ≤ 64)
@@ -51,8 +49,8 @@ cut-halves n (inl c) = let z = c.2 in inl (c.1, omega arith)
 cut-halves n (inr c) = inr c.1
 
 -- what was refined may be stored
-pub refined-stores : {t t' s' map' : List ℕ} {level : ℕ} {n : NodeValue} {spare : Spare} {left : ℕ} {w : Worked} → RefinePost t t' s' map' level n spare left w → w.ok ≡ true → Storable w.node
-refined-stores p ok = work-stores p.work.works (p.work.zero ok) (p.few_i ok) (p.few_d ok)
+pub refined-stores : {t t' s' map' : List ℕ} {level : ℕ} {n : NodeValue} {spare : Spare} {left : ℕ} {w : Worked} → RefineDone t t' s' map' level n spare left w → Storable w.node
+refined-stores p = work-stores p.work.works p.work.zero p.few_i p.few_d
 
 -- spare blocks of a table are spare in another of its length
 pub spares-kept : (t u : List ℕ) (s : Spare) → length u ≡ length t → SpareFits t s → SpareFits u s

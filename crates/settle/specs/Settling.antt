@@ -1,8 +1,9 @@
--- What settle, push and the functions between them are handed and hand back. They answer `ok` only where all went well; then, where the part was sound, the
--- one or two parts that it became are sound, and say of every key what the batch says, else what was said before. Where the part was sound they never answer
--- `broken` (`whole`). Whatever they answer, the journal can still tell what was.
+-- What settle, push and the functions between them are handed and hand back. They answer `Ok` only where all went well; then, where the part was sound, the
+-- one or two parts that it became are sound, and say of every key what the batch says, else what was said before. Where the part was sound they fail at most for
+-- want of room. Whatever they answer, the journal can still tell what was.
 -- Assumes nothing.
-use Rattle.std.specs.Prelude.{◌≡◌, ℕ, suc, ◌≤◌, ◌<◌, ◌⊎◌, Bool, true, false, cond, length}
+use Rattle.std.specs.Prelude.{◌≡◌, ℕ, suc, ◌≤◌, ◌<◌, ◌⊎◌, Bool, true, false, length, Some, None, IfSome, Result, MatchResult}
+use Rattle.std.specs.Prelude as maybe
 use mathlib.Core.List.{List, [], ◌∷◌, Memᴰ}
 use Rattle.std.proofs.Math.Option.{Option}
 use Rattle.octets.specs.Lists.{every, rest, rising}
@@ -27,6 +28,8 @@ use Rattle.node.specs.Memory.{entries_of, EntriesFit, EntryFits, Loaded, Stored}
 use Rattle.node.specs.declared.NodeValue.{NodeValue}
 use Rattle.edit.specs.Edits.{held_in, Tidy, EntryFor}
 use Rattle.journal.specs.Journal.{Undoable}
+use Rattle.fill.specs.declared.Failure.{Failure}
+use Rattle.fill.specs.declared.Failure.TheVariants.{NoRoom}
 use Rattle.fill.specs.Filling.{Inside, Workable}
 use Rattle.spare.specs.declared.Spare.{Spare}
 use Rattle.spare.specs.Spares.{spare_of, SpareFits}
@@ -41,17 +44,18 @@ again (Root b) e = Root b
 again (Child d) e = Child e
 
 -- what the part at block b with the range [lo, hi) became: itself again, or two, apart at the low of the second
+abbrev pub became_as : ℕ → Asked → ℕ → ℕ → Entry → maybe.Option Entry → List Part
+became_as b asked lo hi e (Some d) = part b (Child e) lo d.low ∷ part d.block (Child d) d.low hi ∷ []
+became_as b asked lo hi e None = part b (again asked e) lo hi ∷ []
+
 abbrev pub became : ℕ → Asked → ℕ → ℕ → Settled → List Part
-became b asked lo hi r =
-    cond r.two
-    (part b (Child r.first) lo r.second.low ∷ part r.second.block (Child r.second) r.second.low hi ∷ [])
-    (part b (again asked r.first) lo hi ∷ [])
+became b asked lo hi r = became_as b asked lo hi r.first r.second
 
 -- a part was settled with the inserts ss and the deletes ks
 pub record SettledTo (x y : Store) (level b : ℕ) (asked : Asked) (lo hi : ℕ) (ss : List Spot) (ks : List ℕ) (spare : Spare) (left : ℕ) (r : Settled) : Type 0 where
   pub changed : Changed (suc level) (Taken (spare_of spare left) (spare_of spare r.left)) x (part b asked lo hi ∷ []) y (became b asked lo hi r)
       (λ k. batch_says ss ks k (lookup (suc level) x k (part b asked lo hi)))
-  pub apart : r.two ≡ true → (lo < r.second.low) × (r.second.low < hi)
+  pub apart : IfSome r.second (λ d. (lo < d.low) × (d.low < hi))
 
 -- the part at block b may be settled: the block is of the table, and so are the spare blocks
 pub record Settleable (t s map : List ℕ) (b level : ℕ) (ni nd : ℕ) (spare : Spare) (left : ℕ) : Type 0 where
@@ -72,14 +76,19 @@ WhereSound t level b asked ss ks spare left Then =
     → Sound (suc level) (store_of t) (part b asked lo hi ∷ []) → Apart (spare_of spare left) (reaches (suc level) (store_of t) (part b asked lo hi ∷ []))
     → Then lo hi
 
-pub record SettlePost (t t' : List ℕ) (level b : ℕ) (asked : Asked) (ss : List Spot) (ks : List ℕ) (spare : Spare) (left : ℕ) (r : Settled) : Type 0 where
+pub record SettleDone (t t' : List ℕ) (level b : ℕ) (asked : Asked) (ss : List Spot) (ks : List ℕ) (spare : Spare) (left : ℕ) (r : Settled) : Type 0 where
   pub fewer : r.left ≤ left
-  pub block : r.ok ≡ true → r.first.block ≡ b
-  pub low : r.ok ≡ true → r.first.low ≡ low_of asked
-  pub fits : r.ok ≡ true → EntryFits r.first
-  pub second : r.ok ≡ true → r.two ≡ true → (1 ≤ r.second.block) × (r.second.block < blocks_of (length t)) × EntryFits r.second
-  pub done : r.ok ≡ true → WhereSound t level b asked ss ks spare left (λ lo hi. SettledTo (store_of t) (store_of t') level b asked lo hi ss ks spare left r)
-  pub whole : WhereSound t level b asked ss ks spare left (λ lo hi. r.broken ≡ false)
+  pub block : r.first.block ≡ b
+  pub low : r.first.low ≡ low_of asked
+  pub fits : EntryFits r.first
+  pub second : IfSome r.second (λ d. (1 ≤ d.block) × (d.block < blocks_of (length t)) × EntryFits d)
+  pub done : WhereSound t level b asked ss ks spare left (λ lo hi. SettledTo (store_of t) (store_of t') level b asked lo hi ss ks spare left r)
+
+pub record SettleFailed (t : List ℕ) (level b : ℕ) (asked : Asked) (ss : List Spot) (ks : List ℕ) (spare : Spare) (left : ℕ) (e : Failure) : Type 0 where
+  pub whole : WhereSound t level b asked ss ks spare left (λ lo hi. e ≡ NoRoom)
+
+abbrev pub SettlePost : List ℕ → List ℕ → ℕ → ℕ → Asked → List Spot → List ℕ → Spare → ℕ → Result Settled Failure → Type 0
+SettlePost t t' level b asked ss ks spare left r = MatchResult r (SettleDone t t' level b asked ss ks spare left) (SettleFailed t level b asked ss ks spare left)
 
 -- the lows of a node's entries: the first's is 0, the others rise within the range
 pub record LowsFit (lo hi : ℕ) (es : List Entry) : Type 0 where
@@ -111,24 +120,34 @@ pub record Pushable (t s map : List ℕ) (n : NodeValue) (level : ℕ) (spare : 
   pub rise : rising (rest (lows (entries_of n.entries))) ≡ true
 
 -- push: the node again, over the store as it is then
-pub record WorkPost (t t' s' map' : List ℕ) (level : ℕ) (n : NodeValue) (spare : Spare) (left : ℕ) (r : Worked) : Type 0 where
+pub record WorkDone (t t' s' map' : List ℕ) (level : ℕ) (n : NodeValue) (spare : Spare) (left : ℕ) (r : Worked) : Type 0 where
   pub works : Workable t' s' map' r.node level
   pub fewer : r.left ≤ left
-  pub zero : r.ok ≡ true → zero_first (lows (entries_of r.node.entries)) ≡ true
-  pub more : r.ok ≡ true → length (entries_of n.entries) ≤ length (entries_of r.node.entries)
+  pub zero : zero_first (lows (entries_of r.node.entries)) ≡ true
+  pub more : length (entries_of n.entries) ≤ length (entries_of r.node.entries)
   pub most_i : r.node.inserts.n ≤ n.inserts.n
   pub most_d : r.node.deletes.n ≤ n.deletes.n
-  pub leaf : r.ok ≡ true → level ≡ 0 → length (entries_of r.node.entries) ≡ length (entries_of n.entries)
-  pub done : r.ok ≡ true → (lo hi : ℕ) (f : ℕ → Option ℕ) → Opened (store_of t) level lo hi n spare left f
+  pub leaf : level ≡ 0 → length (entries_of r.node.entries) ≡ length (entries_of n.entries)
+  pub done : (lo hi : ℕ) (f : ℕ → Option ℕ) → Opened (store_of t) level lo hi n spare left f
       → WorkedTo (store_of t) (store_of t') level lo hi n r.node spare left r.left f
-  pub whole : (lo hi : ℕ) (f : ℕ → Option ℕ) → Opened (store_of t) level lo hi n spare left f → r.broken ≡ false
+
+-- a node could not be worked on: where it stood open, for want of room
+pub record Roomless (t : List ℕ) (level : ℕ) (n : NodeValue) (spare : Spare) (left : ℕ) (e : Failure) : Type 0 where
+  pub whole : (lo hi : ℕ) (f : ℕ → Option ℕ) → Opened (store_of t) level lo hi n spare left f → e ≡ NoRoom
+
+pub record WorkFailed (t t' s' map' : List ℕ) (level : ℕ) (n : NodeValue) (spare : Spare) (left : ℕ) (e : Failure) : Type 0 where
+  pub undoable : Undoable t' s' map'
+  pub roomless : Roomless t level n spare left e
+
+abbrev pub WorkPost : List ℕ → List ℕ → List ℕ → List ℕ → ℕ → NodeValue → Spare → ℕ → Result Worked Failure → Type 0
+WorkPost t t' s' map' level n spare left r = MatchResult r (WorkDone t t' s' map' level n spare left) (WorkFailed t t' s' map' level n spare left)
 
 -- the push and the filling of one node: the sizes are right then, and P is filled, or nothing is left below
-pub record RefinePost (t t' s' map' : List ℕ) (level : ℕ) (n : NodeValue) (spare : Spare) (left : ℕ) (r : Worked) : Type 0 where
-  pub work : WorkPost t t' s' map' level n spare left r
-  pub few_i : r.ok ≡ true → r.node.inserts.n ≤ 64
-  pub few_d : r.ok ≡ true → r.node.deletes.n ≤ 16
-  pub full : r.ok ≡ true → (lo hi : ℕ) (f : ℕ → Option ℕ) → Opened (store_of t) level lo hi n spare left f → FilledUp (entries_of r.node.entries) (held_in r.node)
+pub record RefineDone (t t' s' map' : List ℕ) (level : ℕ) (n : NodeValue) (spare : Spare) (left : ℕ) (r : Worked) : Type 0 where
+  pub work : WorkDone t t' s' map' level n spare left r
+  pub few_i : r.node.inserts.n ≤ 64
+  pub few_d : r.node.deletes.n ≤ 16
+  pub full : (lo hi : ℕ) (f : ℕ → Option ℕ) → Opened (store_of t) level lo hi n spare left f → FilledUp (entries_of r.node.entries) (held_in r.node)
 
 -- "A leaf has no children": a leaf is cut in two where it has over 64 points, an inner node where it has eight children
 pub record SplitWhen (n : NodeValue) (r : Bool) : Type 0 where
@@ -165,7 +184,7 @@ Cuttable depth n = ((depth ≡ 0) × (n.entries.n ≡ 0) × (64 < n.points.n)) �
 -- such a node was stored, as one part or as two, and f is found through it
 pub record PlacedTo (x y : Store) (level b : ℕ) (asked : Asked) (lo hi : ℕ) (spare : Spare) (left : ℕ) (r : Settled) (f : ℕ → Option ℕ) : Type 0 where
   pub changed : Changed (suc level) (Taken (spare_of spare left) (spare_of spare r.left)) x (part b asked lo hi ∷ []) y (became b asked lo hi r) f
-  pub apart : r.two ≡ true → (lo < r.second.low) × (r.second.low < hi)
+  pub apart : IfSome r.second (λ d. (lo < d.low) × (d.low < hi))
 
 -- what holds where the part is sound and the node that stands for it is open
 abbrev pub OnOpen : List ℕ → ℕ → ℕ → Asked → NodeValue → Spare → ℕ → (ℕ → ℕ → (ℕ → Option ℕ) → Type 0) → Type 0
@@ -174,27 +193,33 @@ OnOpen t level b asked n spare left Then =
     → Apart (spare_of spare left) (reaches (suc level) (store_of t) (part b asked lo hi ∷ [])) → Opened (store_of t) level lo hi n spare left f
     → Then lo hi f
 
-pub record PlacePost (t t' : List ℕ) (level b : ℕ) (asked : Asked) (n : NodeValue) (spare : Spare) (left : ℕ) (r : Settled) : Type 0 where
+pub record PlaceDone (t t' : List ℕ) (level b : ℕ) (asked : Asked) (n : NodeValue) (spare : Spare) (left : ℕ) (r : Settled) : Type 0 where
   pub fewer : r.left ≤ left
-  pub block : r.ok ≡ true → r.first.block ≡ b
-  pub low : r.ok ≡ true → r.first.low ≡ low_of asked
-  pub fits : r.ok ≡ true → EntryFits r.first
-  pub second : r.ok ≡ true → r.two ≡ true → (1 ≤ r.second.block) × (r.second.block < blocks_of (length t)) × EntryFits r.second
-  pub done : r.ok ≡ true → OnOpen t level b asked n spare left (λ lo hi f. PlacedTo (store_of t) (store_of t') level b asked lo hi spare left r f)
-  pub whole : OnOpen t level b asked n spare left (λ lo hi f. r.broken ≡ false)
+  pub block : r.first.block ≡ b
+  pub low : r.first.low ≡ low_of asked
+  pub fits : EntryFits r.first
+  pub second : IfSome r.second (λ d. (1 ≤ d.block) × (d.block < blocks_of (length t)) × EntryFits d)
+  pub done : OnOpen t level b asked n spare left (λ lo hi f. PlacedTo (store_of t) (store_of t') level b asked lo hi spare left r f)
+
+pub record PlaceFailed (t : List ℕ) (level b : ℕ) (asked : Asked) (n : NodeValue) (spare : Spare) (left : ℕ) (e : Failure) : Type 0 where
+  pub whole : OnOpen t level b asked n spare left (λ lo hi f. e ≡ NoRoom)
+
+abbrev pub PlacePost : List ℕ → List ℕ → ℕ → ℕ → Asked → NodeValue → Spare → ℕ → Result Settled Failure → Type 0
+PlacePost t t' level b asked n spare left r = MatchResult r (PlaceDone t t' level b asked n spare left) (PlaceFailed t level b asked n spare left)
 
 -- A node was worked on and stored in block b, and this is its entry: what it was between, and the tables then, nobody is handed.
-pub record FinishPost (t t' : List ℕ) (b floor level : ℕ) (n : NodeValue) (spare : Spare) (left : ℕ) (r : Finished) : Type 0 where
+pub record FinishDone (t t' : List ℕ) (b floor level : ℕ) (n : NodeValue) (spare : Spare) (left : ℕ) (r : Finished) : Type 0 where
   pub table : List ℕ
   pub scratch : List ℕ
   pub marks : List ℕ
   pub work : Worked
-  pub refined : RefinePost t table scratch marks level n spare left work
+  pub refined : RefineDone t table scratch marks level n spare left work
   pub same : r.left ≡ work.left
-  pub whole : r.ok ≡ false → r.broken ≡ work.broken
-  pub went : r.ok ≡ true → work.ok ≡ true
-  pub stored : r.ok ≡ true → Stored table t' b work.node
-  pub entry : r.ok ≡ true → EntryFor b floor work.node r.entry
+  pub stored : Stored table t' b work.node
+  pub entry : EntryFor b floor work.node r.entry
+
+abbrev pub FinishPost : List ℕ → List ℕ → ℕ → ℕ → ℕ → NodeValue → Spare → ℕ → Result Finished Failure → Type 0
+FinishPost t t' b floor level n spare left r = MatchResult r (FinishDone t t' b floor level n spare left) (Roomless t level n spare left)
 
 -- a block that keeps the rules, and a batch for it
 pub record Arriving (t : List ℕ) (b ni nd : ℕ) : Type 0 where

@@ -8,23 +8,17 @@ ghost use Rattle.buffer.specs.Buffer.{held, named};
 ghost use Rattle.journal.specs.Journal.{Kept};
 ghost use Rattle.settle.specs.Settling.{Settleable, SettlePost, Pushable, WorkPost, SplitWhen, StandsFor, Cuttable, PlacePost, FinishPost, Arriving, Arrived};
 
-// A part after settling: one entry, or two, and how many spare blocks are left. Where it is not ok, `broken` says that a block that was read breaks a rule;
-// else there was no room. So it is below.
+// A part after settling: its entry, the second one where it became two, and how many spare blocks are left.
 #[derive(Clone, Copy)]
 pub struct Settled {
-    pub ok: bool,
-    pub broken: bool,
-    pub two: bool,
     pub first: block::Entry,
-    pub second: block::Entry,
+    pub second: Option<block::Entry>,
     pub left: usize,
 }
 
 // A node in memory that was worked on, and how many spare blocks are left.
 #[derive(Clone, Copy)]
 pub struct Worked {
-    pub ok: bool,
-    pub broken: bool,
     pub node: node::NodeValue,
     pub left: usize,
 }
@@ -32,74 +26,8 @@ pub struct Worked {
 // A node that was worked on and stored: its entry, and how many spare blocks are left.
 #[derive(Clone, Copy)]
 pub struct Finished {
-    pub ok: bool,
-    pub broken: bool,
     pub entry: block::Entry,
     pub left: usize,
-}
-
-fn not_settled(broken: bool, left: usize) -> Settled
-    ensures { (result.ok ≡ false) × (result.left ≡ left) × (result.broken ≡ broken) }
-{
-    let none = block::Entry {
-        block: 0,
-        size: 0,
-        low: 0,
-        top: 0,
-        bottom: 0,
-    };
-    Settled {
-        ok: false,
-        broken,
-        two: false,
-        first: none,
-        second: none,
-        left,
-    }
-}
-
-fn not_finished(broken: bool, left: usize) -> Finished
-    ensures { (result.ok ≡ false) × (result.left ≡ left) × (result.broken ≡ broken) }
-{
-    let entry = block::Entry {
-        block: 0,
-        size: 0,
-        low: 0,
-        top: 0,
-        bottom: 0,
-    };
-    Finished {
-        ok: false,
-        broken,
-        entry,
-        left,
-    }
-}
-
-fn handed(ok: bool, broken: bool, n: node::NodeValue, left: usize) -> Worked
-    ensures { result ≡ record { ok = ok; broken = broken; node = n; left = left } }
-{
-    let node = n;
-    Worked {
-        ok,
-        broken,
-        node,
-        left,
-    }
-}
-
-// The two parts that a part became.
-fn both(first: block::Entry, second: block::Entry, left: usize) -> Settled
-    ensures { result ≡ record { ok = true; broken = false; two = true; first = first; second = second; left = left } }
-{
-    Settled {
-        ok: true,
-        broken: false,
-        two: true,
-        first,
-        second,
-        left,
-    }
 }
 
 // The low of the entry that leads to a node; the root has none.
@@ -149,32 +77,25 @@ pub fn settle(
     deletes: buffer::KeyBuffer,
     spare: spare::Spare,
     left: usize,
-) -> Settled
+) -> Result<Settled, fill::Failure>
     requires { Settleable t.old s.old map.old b level inserts.n deletes.n spare left }
     ensures kept { Kept t.old s.old map.old t.new s.new map.new }
     ensures settled { SettlePost t.old t.new level b asked (held inserts) (named deletes) spare left result }
 {
     if !block::block_ok(t, b, level, asked) {
-        return not_settled(true, left);
+        return Err(fill::Failure::Broken);
     }
     let full = receive(t, b, inserts, deletes);
     if must_split(full) {
         return split(t, s, map, b, asked, level, full, spare, left);
     }
     let low = low_of(asked);
-    let x = finish(t, s, map, b, low, full, level, spare, left);
-    if !x.ok {
-        return not_settled(x.broken, x.left);
-    }
-    let first = x.entry;
-    Settled {
-        ok: true,
-        broken: false,
-        two: false,
-        first,
-        second: first,
+    let x = finish(t, s, map, b, low, full, level, spare, left)?;
+    Ok(Settled {
+        first: x.entry,
+        second: None,
         left: x.left,
-    }
+    })
 }
 
 // The node cut in two: each half is finished by itself, and the right one takes a spare block. The left one is in its block before the right one is worked on.
@@ -189,13 +110,13 @@ fn split(
     n: node::NodeValue,
     spare: spare::Spare,
     left: usize,
-) -> Settled
+) -> Result<Settled, fill::Failure>
     requires { StandsFor t.old s.old map.old b level asked n spare left × Cuttable level n }
     ensures kept { Kept t.old s.old map.old t.new s.new map.new }
     ensures placed { PlacePost t.old t.new level b asked n spare left result }
 {
     if left == 0 {
-        return not_settled(false, 0);
+        return Err(fill::Failure::NoRoom);
     }
     let c = spare::last_of(spare, left);
     let sep = batch::cut_key(n);
@@ -203,17 +124,15 @@ fn split(
     let lower = batch::half(n, sep, false);
     let upper = batch::half(n, sep, true);
     if (64 < lower.points.n) | (64 < upper.points.n) {
-        return not_settled(false, left);
+        return Err(fill::Failure::NoRoom);
     }
-    let x = finish(t, s, map, b, low, lower, level, spare, left - 1);
-    if !x.ok {
-        return not_settled(x.broken, x.left);
-    }
-    let y = finish(t, s, map, c, sep, upper, level, spare, x.left);
-    if !y.ok {
-        return not_settled(y.broken, y.left);
-    }
-    both(x.entry, y.entry, y.left)
+    let x = finish(t, s, map, b, low, lower, level, spare, left - 1)?;
+    let y = finish(t, s, map, c, sep, upper, level, spare, x.left)?;
+    Ok(Settled {
+        first: x.entry,
+        second: Some(y.entry),
+        left: y.left,
+    })
 }
 
 // Pushes where that is needed, fills P, and stores the node in block b. Only its entry comes back, so that no node lives while another is worked on.
@@ -228,28 +147,22 @@ fn finish(
     level: usize,
     spare: spare::Spare,
     left: usize,
-) -> Finished
+) -> Result<Finished, fill::Failure>
     requires { Pushable t.old s.old map.old n level spare left × (b < blocks_of (length t.old)) }
     ensures kept { Kept t.old s.old map.old t.new s.new map.new }
     ensures finished { FinishPost t.old t.new b low level n spare left result }
 {
-    let w = push(t, s, map, n, level, spare, left);
-    if !w.ok {
-        return not_finished(w.broken, w.left);
+    let w = push(t, s, map, n, level, spare, left)?;
+    let full = fill::fill(t, s, map, w.node, level)?;
+    if (64 < full.inserts.n) | (16 < full.deletes.n) {
+        return Err(fill::Failure::NoRoom);
     }
-    let f = fill::fill(t, s, map, w.node, level);
-    let ok = f.ok & (f.node.inserts.n <= 64) & (f.node.deletes.n <= 16);
-    if !ok {
-        return not_finished(f.broken, w.left);
-    }
-    journal::write_node(t, s, map, b, f.node);
-    let entry = edit::entry_for(b, low, f.node);
-    Finished {
-        ok: true,
-        broken: false,
+    journal::write_node(t, s, map, b, full);
+    let entry = edit::entry_for(b, low, full);
+    Ok(Finished {
         entry,
         left: w.left,
-    }
+    })
 }
 
 // Where I or D is too large, hands a batch of it down to the child for which most waits.
@@ -262,16 +175,16 @@ pub fn push(
     level: usize,
     spare: spare::Spare,
     left: usize,
-) -> Worked
+) -> Result<Worked, fill::Failure>
     requires { Pushable t.old s.old map.old n level spare left }
     ensures kept { Kept t.old s.old map.old t.new s.new map.new }
     ensures worked { WorkPost t.old t.new s.new map.new level n spare left result }
 {
     if (n.inserts.n <= 64) & (n.deletes.n <= 16) {
-        return handed(true, false, n, left);
+        return Ok(Worked { node: n, left });
     }
     if (level == 0) | (n.entries.n == 0) | (8 <= n.entries.n) {
-        return handed(false, false, n, left);
+        return Err(fill::Failure::NoRoom);
     }
     let p = batch::pick(n);
     let e = node::entry(n.entries, p.child);
@@ -286,10 +199,7 @@ pub fn push(
         p.deletes,
         spare,
         left,
-    );
-    if !r.ok {
-        return handed(false, r.broken, n, r.left);
-    }
-    let node = batch::put_back(p.node, p.child, r.two, r.first, r.second);
-    handed(true, false, node, r.left)
+    )?;
+    let node = batch::put_back(p.node, p.child, r.first, r.second);
+    Ok(Worked { node, left: r.left })
 }

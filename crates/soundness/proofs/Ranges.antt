@@ -2,7 +2,7 @@
 -- Assumes nothing.
 use mathlib.Core.Path.{◌≡◌, refl, sym, ap, ap₂, subst, ◌∙◌}
 use mathlib.Core.Logic.{⊎_elim}
-use mathlib.Core.Bool.{Bool, true, ◌&&◌, ◌||◌, and-true}
+use mathlib.Core.Bool.{Bool, true, ◌&&◌, and-true}
 use mathlib.Core.List.Memᴰ
 use mathlib.Core.List.{List, [], ◌∷◌, ◌++◌, Memᴰ}
 use Prim.Native.Nat.{ℕ, suc, ◌+◌, ◌-◌, ◌*◌, ◌≤◌, ◌<◌}
@@ -19,7 +19,6 @@ use Rattle.octets.proofs.Records.{records-more}
 use Rattle.octets.proofs.Rising.{rising-rest, rising-least, rising-before}
 use Rattle.spot.specs.Keys.{within, limited}
 use Rattle.spot.specs.Spots.{keys, key_at, limited_from}
-use Rattle.spot.proofs.Card.{key_at-lt}
 use Rattle.spot.proofs.Limits.{limited-each}
 use Rattle.spot.proofs.Places.{within-yes, within-from, within-to}
 use Rattle.spot.proofs.Buffers.{keys-records}
@@ -36,7 +35,6 @@ use Rattle.block.proofs.Frames.{part-is}
 use Rattle.tree.specs.Sound.{in_range}
 use Rattle.visit.specs.declared.Span.{Span}
 use Rattle.visit.specs.Visit.{keys_from, Ready, end_of, part_of}
-use Rattle.visit.proofs.Spans.{before-end}
 use Rattle.visit.proofs.Runs.{keys-run, Runs, runs_of, points-ready, inserts-ready, deletes-ready}
 use Rattle.visit.proofs.Children.{lent, few-children}
 
@@ -89,12 +87,11 @@ module _ (f : ℕ → ℕ) (w at : ℕ) where
 pub keys_none : (t : List ℕ) (w n at lo hi : ℕ) → n ≡ 0 → true ≡ every (within lo hi) (keys_from t w n at)
 keys_none t w n at lo hi e = ap (λ (k : ℕ). every (within lo hi) (keys_from t w k at)) (sym e)
 
-pub keys-decide : (t : List ℕ) (w n at : ℕ) (s : Span) (x y : ℕ) → (n ≡ 0 → ⊥) → rising (keys_from t w n at) ≡ true
-    → x ≡ key_at t at → y ≡ key_at t (at + w * (n - 1))
-    → leb s.lo x && (s.endless || ltb y s.hi) ≡ every (within s.lo (end_of s)) (keys_from t w n at)
-keys-decide t w n at s x y d h p q =
-    ap₂ (λ (a b : ℕ). leb s.lo a && (s.endless || ltb b s.hi)) p q
-    ∙ ap (λ (b : Bool). leb s.lo (key_at t at) && b) (before-end s.endless (key_at t (at + w * (n - 1))) s.hi (key_at-lt t (at + w * (n - 1))))
+pub keys-decide : (t : List ℕ) (w n at : ℕ) (s : Span) (x y : ℕ) {r : Bool} → (n ≡ 0 → ⊥) → rising (keys_from t w n at) ≡ true
+    → x ≡ key_at t at → y ≡ key_at t (at + w * (n - 1)) → r ≡ ltb y (end_of s)
+    → leb s.lo x && r ≡ every (within s.lo (end_of s)) (keys_from t w n at)
+keys-decide t w n at s x y d h p q f =
+    ap₂ (λ (a : ℕ) (b : Bool). leb s.lo a && b) p (f ∙ ap (λ (b : ℕ). ltb b (end_of s)) q)
     ∙ ends-decide (key_at t) w at s.lo (end_of s) (n - 1) (subst (λ (k : ℕ). rising (keys_from t w k at) ≡ true) e h)
     ∙ ap (λ (k : ℕ). every (within s.lo (end_of s)) (keys_from t w k at)) (sym e)
   where

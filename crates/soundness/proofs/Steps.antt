@@ -1,6 +1,7 @@
 -- The check of a part, one node and then its children: what `sound_walk` answers at each of its returns.
 -- Assumes nothing.
 use mathlib.Core.Path.{◌≡◌, refl, ap, ap₂, sym, subst, ◌∙◌}
+use Rattle.std.specs.Prelude.{unwrap_or}
 use mathlib.Core.Bool.{Bool, true, false, not, ◌&&◌, and-false, false≢true}
 use mathlib.Core.List.{List, [], ◌∷◌}
 use Prim.Native.Nat.{ℕ, suc, ◌+◌, ◌-◌, ◌*◌, ◌≤◌, ◌<◌}
@@ -127,7 +128,7 @@ module _ {t seen₀ seen : List ℕ} {b level : ℕ} {a : Asked} {span : Span} {
 
   -- the child is the first of those left
   kid-first : Threaded (sound_at level (store_of t)) (reach level (store_of t)) seen₀ seen (left t b span span.lo 0)
-      (part_of e.block (Child e) part ∷ left t b span part.hi (i + 1))
+      (part_of e.block (Child e) part ∷ left t b span (unwrap_or part.hi lo) (i + 1))
   kid-first =
       subst (λ (ps : List Part). Threaded (sound_at level (store_of t)) (reach level (store_of t)) seen₀ seen (left t b span span.lo 0) ps)
       (lent-parts t b i lo span k.below k.entry k.range)
@@ -150,7 +151,7 @@ module _ {t seen₀ seen : List ℕ} {b level : ℕ} {a : Asked} {span : Span} {
         subst (λ (l : ℕ). Checked t seen seen' l (part_of e.block (Child e) part) r) z h
 
     pub kid-next : r ≡ true
-        → Threaded (sound_at level (store_of t)) (reach level (store_of t)) seen₀ seen' (left t b span span.lo 0) (left t b span part.hi (i + 1))
+        → Threaded (sound_at level (store_of t)) (reach level (store_of t)) seen₀ seen' (left t b span span.lo 0) (left t b span (unwrap_or part.hi lo) (i + 1))
     kid-next y = thread-next (sound_at level (store_of t)) (reach level (store_of t)) kid-first kid-fits same.ok y (same.seen y)
 
     pub kid-stop : r ≡ false → kids_fresh t b level span seen₀ ≡ false

@@ -1,7 +1,7 @@
 -- All rules together: the header, the tree with its map, and the count of live spots.
 -- Assumes nothing.
 use mathlib.Core.Path.{◌≡◌, ap, ap₂, sym, ◌∙◌}
-use mathlib.Core.Bool.{Bool, true, false, not, ◌&&◌, and-true, and-false, and_assoc}
+use mathlib.Core.Bool.{Bool, true, false, not, ◌&&◌, and-true, and-false, and_assoc, false≢true}
 use mathlib.Core.List.{List}
 use Prim.Native.Nat.{ℕ}
 use lib.ListN.{length}
@@ -17,7 +17,8 @@ use Rattle.tree.specs.Reach.{reach}
 use Rattle.tree.specs.Sound.{sound_at, map_exact, sound, Shaped}
 use Rattle.tree.specs.Walk.{Walk, is_broken, spots, live_spots, live_count}
 use Rattle.tree.proofs.Tables.{tree-count}
-use Rattle.query.specs.declared.Sum.{Sum}
+use Rattle.tally.specs.declared.Tally.{Tally}
+use Rattle.std.specs.Prelude.{Some, None}
 use Rattle.query.specs.Walks.{TableCounted}
 use Rattle.soundness.specs.Checks.{shaped_below}
 
@@ -47,11 +48,13 @@ module _ (t : List ℕ) where
         record { header = ok; tree = and_left s m below; map = and_right s m below }
 
     -- the walk of every live spot is whole, so the count decides
-    pub count-decides : {map' : List ℕ} {r : Sum} {bound : ℕ} → TableCounted t everything map' r → bound ≡ (head_of t).bound → r.ok && leb r.tally.spots bound ≡ sound t
+    pub count-decides : {map' : List ℕ} {r : Tally} {bound : ℕ} → TableCounted t everything map' (Some r) → bound ≡ (head_of t).bound → leb r.spots bound ≡ sound t
     unfolding live_count
     count-decides {map'} {r} {bound} c e =
         let w = (tree-count t shaped).1 in
-        let g : r.ok ≡ true = c.ok ∙ ap (λ (x : Walk). not (is_broken x)) w in
-        let n : r.tally.spots ≡ length (live_spots t) = c.spots g ∙ ap (λ (x : Walk). length (spots x)) w in
-        ap₂ (λ (x : Bool) (k : ℕ). x && leb k bound) g n ∙ ap (leb (length (live_spots t))) e
+        let n : r.spots ≡ length (live_spots t) = c.spots ∙ ap (λ (x : Walk). length (spots x)) w in
+        ap (λ (k : ℕ). leb k bound) n ∙ ap (leb (length (live_spots t))) e
         ∙ sym (sound-is ∙ ap₂ (λ (x y : Bool). x && (y && leb (live_count t) (head_of t).bound)) ok below)
+
+    pub no-broken : {map' : List ℕ} → TableCounted t everything map' None → ⊥
+    no-broken c = false≢true (c.ok ∙ ap (λ (x : Walk). not (is_broken x)) (tree-count t shaped).1)

@@ -3,7 +3,9 @@
 use mathlib.Core.Path.{◌≡◌, refl, ap, ap₂, sym, subst, ◌∙◌}
 use mathlib.Core.Logic.{⊎_elim}
 use mathlib.Core.Bool.{Bool, true, false, ◌&&◌}
-use mathlib.Core.List.{List}
+use mathlib.Core.List.{List, [], ◌∷◌}
+use lib.Dec.{eqb}
+use lib.Pointwise.{pointwise}
 use Prim.Native.Nat.{ℕ, suc, ◌+◌, ◌-◌, ◌≤◌, ◌<◌}
 use native.Mathlib.Omega.{arith}
 use lib.ListN.{length, get_or, take, drop, replicate, length-take, length-drop, get_or-eq_default}
@@ -27,6 +29,13 @@ use Rattle.visit.specs.declared.Span.{Span}
 use Rattle.visit.specs.Visit.{end_of, part_of}
 use Rattle.visit.proofs.Roots.{header-long, levels-are, root-part}
 use Rattle.soundness.specs.Checks.{Checked, shaped_below}
+
+-- `==` of slices of bytes
+pub equal-same : (xs ys : List ℕ) → pointwise eqb xs ys ≡ same_list xs ys
+equal-same [] [] = refl
+equal-same [] (y ∷ ys) = refl
+equal-same (x ∷ xs) [] = refl
+equal-same (x ∷ xs) (y ∷ ys) = ap (λ (b : Bool). eqb x y && b) (equal-same xs ys)
 
 -- a part of bytes
 part_bytes : (t : List ℕ) (a n : ℕ) → ((i : ℕ) → get_or t i 0 < 256) → Bytes (take n (drop a t))

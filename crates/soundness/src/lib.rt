@@ -24,7 +24,7 @@ pub fn keys_within(t: &[u8], at: usize, w: usize, n: usize, span: visit::Span) -
         return true;
     }
     (span.lo <= spot::read_key(t, at))
-        & (span.endless | (spot::read_key(t, at + w * (n - 1)) < span.hi))
+        & visit::before_end(span, spot::read_key(t, at + w * (n - 1)))
 }
 
 // The keys of the node at b and its entries' lows lie in the span.
@@ -73,31 +73,15 @@ pub fn sound_walk(
     let to = from + block::BLOCK_BYTES;
     let c = block::front_of(&t[from..to]).c;
     let mut lo = span.lo;
-    let mut i = 0;
-    while i < c {
+    for i in 0..c {
         let e = block::entry_at(&t[from..to], i);
         let part = visit::child_span(&t[from..to], i, c, lo, span);
         if !sound_walk(t, seen, e.block, level - 1, block::Asked::Child(e), part) {
             return false;
         }
-        lo = part.hi;
-        i += 1;
+        lo = part.hi.unwrap_or(lo);
     }
     true
-}
-
-// Two maps of blocks are the same.
-pub fn same_map(a: &[u8], b: &[u8]) -> bool
-    requires { (length a.now ≡ 512) × (length b.now ≡ 512) }
-    ensures { result ≡ same_list a.now b.now }
-{
-    let mut same = true;
-    let mut i = 0;
-    while i < block::MAP_BYTES {
-        same = same & (a[i] == b[i]);
-        i += 1;
-    }
-    same
 }
 
 // The map in block 0 marks the blocks reached, each once, and the tree keeps the rules.
@@ -119,7 +103,7 @@ fn tree_ok(t: &[u8]) -> bool
         return false;
     }
     octets::set_bit(&mut seen, 0);
-    same_map(&t[block::MAP_FROM..block::MAP_END], &seen)
+    t[block::MAP_FROM..block::MAP_END] == seen[..]
 }
 
 // The table is sound.
@@ -135,6 +119,8 @@ pub fn is_sound(t: &[u8]) -> bool
     }
     let mut seen = [0u8; block::MAP_BYTES];
     let everything = spot::everything();
-    let all = query::count_table(t, &mut seen, everything);
-    all.ok & (all.tally.spots as u64 <= block::bound_of(t))
+    match query::count_table(t, &mut seen, everything) {
+        Some(all) => all.spots as u64 <= block::bound_of(t),
+        None => false,
+    }
 }

@@ -7,6 +7,7 @@ ghost use Rattle.block.specs.HeaderRules.{header_ok};
 ghost use Rattle.spare.specs.Spares.{spare_of, taken_of, SpareIn, HeadFits, Reheaded, Clear, TakenFits, Marked, HeadTurned};
 
 // Up to eight blocks that the table does not use.
+// Stays: there is no heap, so a fixed array stands here with how many of it are in use.
 #[derive(Clone, Copy)]
 pub struct Spare {
     pub n: usize,
@@ -42,7 +43,7 @@ fn find_clear(map: &mut [u8], blocks: usize) -> Spare
         n: 0,
         blocks: [0; 8],
     };
-    while found.n < 8 {
+    for _ in 0..8usize {
         let b = octets::first_clear(map);
         if blocks <= b {
             return found;
@@ -72,10 +73,8 @@ fn mark_taken(map: &mut [u8], s: Spare, left: usize)
     requires { (length map.old ≡ 512) × TakenFits s left }
     ensures { Marked map.old map.new (taken_of s left) }
 {
-    let mut i = left;
-    while i < s.n {
+    for i in left..s.n {
         octets::set_bit(map, s.blocks[i]);
-        i += 1;
     }
 }
 

@@ -6,7 +6,7 @@ use lib.Seq.{drop-append-add}
 use Rattle.octets.specs.Bytes.{be, bytes_of, put_be}
 use Rattle.octets.proofs.Bytes.{be-cong, be-left, be-right, be-bytes_of, length-bytes_of, put-length, put_other, drop-put-be, put-eq, be-put-same, be-put-other}
 use Rattle.spot.specs.declared.Spot.{Spot}
-use Rattle.spot.specs.Keys.{word, all_keys, turned, key}
+use Rattle.spot.specs.Keys.{word, all_keys, turned}
 use Rattle.spot.specs.Spots.{key_at, spot_at, key_bytes, spot_bytes, put_key, put_spot}
 use Rattle.spot.proofs.Signed.{turned_lt, turned-turned}
 use Rattle.spot.proofs.Halves.{pair_small, high, low}

@@ -21,7 +21,8 @@ use Rattle.tree.specs.ReadMap.{read_map}
 use Rattle.tree.specs.Report.{report_table}
 use Rattle.tree.specs.Sound.{sound}
 use Rattle.query.specs.Walks.{TableCounted}
-use Rattle.query.specs.declared.Sum.{Sum}
+use Rattle.std.specs.Prelude.{Some, None}
+use Rattle.tally.specs.declared.Tally.{Tally}
 use Rattle.report.specs.Reports.{written}
 use Rattle.report.proofs.Reports.{report-blocks, report-whole, report-length}
 use Rattle.table.specs.Calls.{Call, format, report, count, check, kind, Lengths}
@@ -165,30 +166,31 @@ pub told-whole : (ok : Bool) (t : List ℕ) (q : Query) → ok ≡ not (is_broke
 told-whole ok t q e h = not-true (is_broken (walk_table t q)) (sym e ∙ h)
 
 -- Report, counted
-module _ (x1 x2 y : ℤ) (t out map : List ℕ) {seen : List ℕ} {s : Sum} (e : table_sized (length t) ≡ true) (f : length map ≡ 512) (g : TableCounted t (query x1 x2 y) seen s) (r : Answer) where
+module _ (x1 x2 y : ℤ) (t out map : List ℕ) (e : table_sized (length t) ≡ true) (f : length map ≡ 512) (r : Answer) where
   fine : early_number (with_output t out map) (report x1 x2 y) ≡ 0
   fine = number-fine (with_output t out map) (report x1 x2 y) e (eq-eqb (length map) 512 f) refl refl
 
-  whole : s.ok ≡ true → is_broken (report_table t x1 x2 y) ≡ false
-  whole h = report-whole t x1 x2 y ∙ told-whole s.ok t (query x1 x2 y) g.ok h
+  pub report-broken : {seen : List ℕ} → TableCounted t (query x1 x2 y) seen None → r ≡ answer 3 0 → ReportPost x1 x2 y t out map r out map
+  report-broken g a =
+      walk-broken (report_table t x1 x2 y) out map fine r (report-whole t x1 x2 y ∙ told-broken false t (query x1 x2 y) g.ok refl) a
 
-  many : s.ok ≡ true → s.tally.spots ≡ length (spots (report_table t x1 x2 y))
-  many h = g.spots h ∙ sym (report-length t x1 x2 y)
+  module _ {seen : List ℕ} {s : Tally} (g : TableCounted t (query x1 x2 y) seen (Some s)) where
+    whole : is_broken (report_table t x1 x2 y) ≡ false
+    whole = report-whole t x1 x2 y ∙ told-whole true t (query x1 x2 y) g.ok refl
 
-  pub report-broken : s.ok ≡ false → r ≡ answer 3 0 → ReportPost x1 x2 y t out map r out map
-  report-broken h a =
-      walk-broken (report_table t x1 x2 y) out map fine r (report-whole t x1 x2 y ∙ told-broken s.ok t (query x1 x2 y) g.ok h) a
+    many : s.spots ≡ length (spots (report_table t x1 x2 y))
+    many = g.spots ∙ sym (report-length t x1 x2 y)
 
-  pub report-many : s.ok ≡ true → length out / 12 < s.tally.spots → r ≡ answer 5 s.tally.spots → ReportPost x1 x2 y t out map r out map
-  report-many h l a =
-      walk-many (report_table t x1 x2 y) out map fine r (whole h) (subst (λ (i : ℕ). length out / 12 < i) (many h) l) (a ∙ ap (answer 5) (many h))
+    pub report-many : length out / 12 < s.spots → r ≡ answer 5 s.spots → ReportPost x1 x2 y t out map r out map
+    report-many l a =
+        walk-many (report_table t x1 x2 y) out map fine r whole (subst (λ (i : ℕ). length out / 12 < i) many l) (a ∙ ap (answer 5) many)
 
-  pub report-given : (out'' map' : List ℕ) → s.ok ≡ true → s.tally.spots ≤ length out / 12 → r ≡ answer 0 s.tally.spots → out'' ≡ written (spots (report_table t x1 x2 y)) out
-      → map' ≡ seen
-      → ReportPost x1 x2 y t out map r out'' map'
-  report-given out'' map' h l a o m =
-      walk-given (report_table t x1 x2 y) out map fine r out'' map' (whole h) (subst (λ (i : ℕ). i ≤ length out / 12) (many h) l) (a ∙ ap (answer 0) (many h)) o
-      (m ∙ g.marks h ∙ sym (ap read_map (report-blocks t x1 x2 y)))
+    pub report-given : (out'' map' : List ℕ) → s.spots ≤ length out / 12 → r ≡ answer 0 s.spots → out'' ≡ written (spots (report_table t x1 x2 y)) out
+        → map' ≡ seen
+        → ReportPost x1 x2 y t out map r out'' map'
+    report-given out'' map' l a o m =
+        walk-given (report_table t x1 x2 y) out map fine r out'' map' whole (subst (λ (i : ℕ). i ≤ length out / 12) many l) (a ∙ ap (answer 0) many) o
+        (m ∙ g.marks ∙ sym (ap read_map (report-blocks t x1 x2 y)))
 
 -- the map that an accepted call leaves
 pub map_is : (from to to' : List ℕ) → length from ≡ 512 → length to ≡ 512 → to' ≡ take 512 from ++ drop 512 to → to' ≡ from

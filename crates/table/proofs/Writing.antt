@@ -1,7 +1,7 @@
 -- What Top writes where it isn't held: all that is in range, sorted, or what the search finds.
 -- Assumes nothing.
 use mathlib.Core.Path.{◌≡◌, refl, ap, sym, subst, ◌∙◌}
-use mathlib.Core.Bool.{Bool, true, false, not, true≢false}
+use mathlib.Core.Bool.{true, not, true≢false, false≢true, false}
 use mathlib.Core.List.{List, [], ◌∷◌, ◌++◌, Memᴰ}
 use Prim.Native.Nat.{ℕ, suc, ◌+◌, ◌-◌, ◌*◌, ◌%◌, ◌≤◌, ◌<◌}
 use native.Mathlib.Omega.{arith}
@@ -26,12 +26,13 @@ use Rattle.tree.proofs.Limited.{walk-limited}
 use Rattle.tree.proofs.Sources.{read-in-table}
 use Rattle.tree.proofs.BestFirstSums.{sum, Same}
 use Rattle.query.specs.Walks.{TableCounted}
-use Rattle.query.specs.declared.Sum.{Sum}
+use Rattle.tally.specs.declared.Tally.{Tally}
 use Rattle.sort.specs.Sorting.{ByTop}
 use Rattle.sort.proofs.Limits.{limits-at, limits-permuted}
 use Rattle.top.specs.declared.TopTally.{TopTally}
+use Rattle.std.specs.Prelude.{Option, Some, None}
 use Rattle.top.specs.Runs.{Based, TopFront, written}
-use Rattle.table.specs.TopSizes.{Gives, AllCounted, AllWritten, Written}
+use Rattle.table.specs.TopSizes.{AllCounted, AllWritten, Written}
 use Rattle.table.proofs.Ranked.{lowest-walk, whole-there, done-there, last-low, last-ranks, last-walk}
 
 -- ---- all that is in range
@@ -123,16 +124,25 @@ module _ (t : List ℕ) (k n r : ℕ) (seen out out1 out2 : List ℕ) (x1 x2 : �
     full-given : length given ≡ k
     full-given = given-long ∙ full
 
-    pub full-based : (seen' : List ℕ) (q : Query) (z : Sum) → q ≡ top_query x1 x2 (last % word) → TableCounted t q seen' z → Based t x1 x2 k n out seen' out2 n
+    -- the walk from the rank of the last spot is whole
+    full-whole : (q : Query) → q ≡ top_query x1 x2 (last % word) → is_broken (walk_table t q) ≡ false
     unfolding given
-    full-based seen' q z asks counted =
+    full-whole q asks =
         let low = last-low t x1 x2 k given g.whole same b.falls few-given (spots_in out2 (n - 1)) final split full-given in
         let ranks = last-ranks t x1 x2 k given g.whole same b.falls few-given (spots_in out2 (n - 1)) final split full-given in
         let is = last-walk t x1 x2 k given g.whole same b.falls few-given (spots_in out2 (n - 1)) final split full-given in
-        let whole = whole-there t x1 x2 k given g.whole same b.falls few-given (rank_of final.key) (omega arith) is ranks in
+        ap (λ (p : Query). is_broken (walk_table t p)) (asks ∙ ap (top_query x1 x2) rank-read)
+        ∙ whole-there t x1 x2 k given g.whole same b.falls few-given (rank_of final.key) (omega arith) is ranks
+
+    pub full-based : (seen' : List ℕ) (q : Query) (z : Option Tally) → q ≡ top_query x1 x2 (last % word) → TableCounted t q seen' z → Based t x1 x2 k n out seen' out2 n
+    unfolding given
+    full-based seen' q None asks counted = absurd (false≢true (counted.ok ∙ ap not (full-whole q asks)))
+    full-based seen' q (Some z) asks counted =
+        let low = last-low t x1 x2 k given g.whole same b.falls few-given (spots_in out2 (n - 1)) final split full-given in
+        let ranks = last-ranks t x1 x2 k given g.whole same b.falls few-given (spots_in out2 (n - 1)) final split full-given in
+        let is = last-walk t x1 x2 k given g.whole same b.falls few-given (spots_in out2 (n - 1)) final split full-given in
         let query : q ≡ top_query x1 x2 (rank_of final.key) = asks ∙ ap (top_query x1 x2) rank-read in
-        let ok : z.ok ≡ true = counted.ok ∙ ap (λ (p : Query). not (is_broken (walk_table t p))) query ∙ ap not whole in
-        based (rank_of final.key) (omega arith) is ranks seen' (counted.marks ok ∙ ap (λ (p : Query). read_map (blocks_read (walk_table t p))) query)
+        based (rank_of final.key) (omega arith) is ranks seen' (counted.marks ∙ ap (λ (p : Query). read_map (blocks_read (walk_table t p))) query)
 
 -- .. and they have places inside the limits, before they are sorted and after
 pub found-limited : (t : List ℕ) (q : Query) (n r : ℕ) (out out1 : List ℕ) → n ≡ length (spots (walk_table t q)) → Found t q r out out1 → limited_from out1 12 n 0 ≡ true
@@ -155,7 +165,7 @@ module _ (t : List ℕ) (q : Query) (k n r : ℕ) (seen out out1 out2 : List ℕ
             fewer-based t k n r seen out out1 out2 x1 x2 (subst (λ (p : Query). AllCounted t p k seen n) a g) (subst (λ (p : Query). Found t p r out out1) a found) b bytes long room l;
       }
 
-  pub full-written : n ≡ k → 0 < k → (last : ℕ) → last ≡ key_at out2 (12 * (n - 1)) → (seen' : List ℕ) (p : Query) (z : Sum) → p ≡ top_query q.x1 q.x2 (last % word) → TableCounted t p seen' z
+  pub full-written : n ≡ k → 0 < k → (last : ℕ) → last ≡ key_at out2 (12 * (n - 1)) → (seen' : List ℕ) (p : Query) (z : Option Tally) → p ≡ top_query q.x1 q.x2 (last % word) → TableCounted t p seen' z
       → AllWritten t q k n out seen' out2
   unfolding top_query
   full-written full some last read seen' p z asks counted =
@@ -168,15 +178,11 @@ module _ (t : List ℕ) (q : Query) (k n r : ℕ) (seen out out1 out2 : List ℕ
 
 -- ---- what the search finds
 
-pub run-written : (t : List ℕ) (q : Query) (k n : ℕ) (out seen out'' : List ℕ) (z : TopTally) → TopFront t q k n out seen out'' z → Written t q k n out seen out''
-run-written t q k n out seen out'' z v =
+pub run-written : (t : List ℕ) (q : Query) (k n : ℕ) (out seen out'' : List ℕ) (z : Option TopTally) → TopFront t q k n out seen out'' z → Written t q k n out seen out''
+run-written t q k n out seen out'' None v = record { ends = λ x1 x2 a d. absurd (true≢false (ap is_broken (sym (v.fails x1 x2 a refl)) ∙ d.intact)) }
+run-written t q k n out seen out'' (Some s) v =
     record {
       ends = λ x1 x2 a d.
-          let r = v.ends x1 x2 a (whole x1 x2 a d z.ok refl) in
+          let r = v.ends x1 x2 a s refl in
           subst (λ (m : ℕ). Based t x1 x2 k n out seen out'' m) (r.ended.counted ∙ r.ended.done.many ∙ sym d.many) r;
     }
-  where
-    -- a search breaks only where Top's walk does
-    whole : (x1 x2 : ℤ) → q ≡ top_query x1 x2 0 → Gives t x1 x2 k n → (b : Bool) → z.ok ≡ b → z.ok ≡ true
-    whole x1 x2 a d true e = e
-    whole x1 x2 a d false e = absurd (true≢false (sym (ap is_broken (v.fails x1 x2 a e)) ∙ d.intact))

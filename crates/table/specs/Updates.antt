@@ -24,8 +24,7 @@ use Rattle.tree.specs.Reach.{reach, settled}
 use Rattle.tree.specs.Walk.{walk_table, live_spots, live_count}
 use Rattle.tree.specs.Sound.{sound}
 use Rattle.change.specs.Room.{roomy, root_of}
-use Rattle.lookup.specs.Answers.{looked_up}
-use Rattle.lookup.specs.declared.Looked.TheVariants.{Broken}
+use Rattle.lookup.specs.Answers.{looked_up, broken}
 use Rattle.renew.specs.Layable.{layable}
 use Rattle.revise.specs.Numbers.{add_number, Full}
 use Rattle.table.specs.Calls.{Call, format, add, withdraw, rebuild, apply}
@@ -66,7 +65,7 @@ pub record ChangePost (c : Call) (j : ℕ) (due : Answer) (after : ℕ → Optio
   pub detail : r.detail ≡ 0
   -- on every table: 3 where block 0 or a node on the key's path, down to the first that names it, breaks a rule; 4 only where that path and a walk of
   -- everything are whole, the key is not live and no fewer spots than the capacity are counted
-  pub path : early_number (with_scratch t w) c ≡ 0 → looked_up t j ≡ Broken → r.number ≡ 3
+  pub path : early_number (with_scratch t w) c ≡ 0 → looked_up t j ≡ broken → r.number ≡ 3
   pub full : r.number ≡ 4 → Full t j
   -- the figure in block 0: exact before, exact after
   pub exact : sound t ≡ true → (head_of t).bound ≡ live_count t → (head_of t').bound ≡ live_count t'
@@ -98,7 +97,7 @@ pub record RebuildPost (t w : List ℕ) (r : Answer) (t' w' : List ℕ) : Type 0
 -- a message of one change, of the key j, on every table, sound or not: 3 and 4 as Add and Withdraw have them. 3: "block 0, or a node block that is read, breaks a rule
 -- that it and the entry leading to it can show"; 4: "Add: capacity live spots and the identity not live".
 pub record AsOne (t : List ℕ) (j : ℕ) (r : Answer) : Type 0 where
-  pub path : looked_up t j ≡ Broken → r.number ≡ 3
+  pub path : looked_up t j ≡ broken → r.number ≡ 3
   pub full : r.number ≡ 4 → Full t j
 
 -- a message of several changes cs, on every table, sound or not: everything is read and laid out anew, or nothing is written

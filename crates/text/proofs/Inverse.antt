@@ -1,8 +1,7 @@
 -- Reading a command is the inverse of printing it.
 -- Assumes nothing.
-use mathlib.Core.Path.{◌≡◌, refl, ap, sym, ◌∙◌}
-use mathlib.Core.Logic.{◌⊎◌, inl, inr, ⊎_elim}
-use mathlib.Core.Bool.{Bool, true, false, cond, ◌&&◌}
+use mathlib.Core.Path.{◌≡◌, refl, ap, sym, subst, ◌∙◌}
+use mathlib.Core.Bool.{Bool, true, false, cond, ◌&&◌, false≢true}
 use mathlib.Core.List.{List, [], ◌∷◌}
 use Prim.Native.Nat.{ℕ, ◌<◌}
 use native.Mathlib.Omega.{arith}
@@ -10,6 +9,7 @@ use lib.Dec.{eqb}
 use lib.IntN.{ℤ}
 use lib.ListN.{get_or}
 use borrow.Author.Tests.{leb-true, le-leb}
+use Rattle.std.specs.Prelude.{Option, Some, None, unwrap_or, ⊤}
 use Rattle.octets.specs.Lists.{has, same_list}
 use Rattle.octets.proofs.Tests.{and_left, and_right, and_both, same_lists, lists-same}
 use Rattle.spot.specs.Keys.{word, signed32, unsigned32}
@@ -18,7 +18,7 @@ use Rattle.text.specs.Text.{decimal, signed, joined}
 use Rattle.text.specs.Commands.{command_text, fits, Parsed}
 use Rattle.text.specs.Reading.{front, behind, value, integer, command_of, guess}
 use Rattle.text.specs.declared.Command.{Command}
-use Rattle.text.specs.declared.Command.TheVariants.{Add, Withdraw, Report, Top, Bad}
+use Rattle.text.specs.declared.Command.TheVariants.{Add, Withdraw, Report, Top}
 use Rattle.text.proofs.Decimal.{decimal-unspaced}
 use Rattle.text.proofs.Words.{joined-front, joined-behind, joined-first}
 use Rattle.text.proofs.Numbers.{decimal-value, value-lt, integer-signed, integer-fits, signed-unspaced}
@@ -94,7 +94,7 @@ all_three a b c h =
     let g = and_right a (b && c) h in
     record { one = and_left a (b && c) h; two = and_left b c g; three = and_right b c g }
 
-guess-text : (c : Command) → fits c ≡ true → guess (command_text c) ≡ c
+guess-text : (c : Command) → fits c ≡ true → guess (command_text c) ≡ Some c
 unfolding command_of
 guess-text (Add x y n) f =
     let a = all_three (signed32 x) (signed32 y) (unsigned32 n) f in
@@ -107,86 +107,94 @@ guess-text (Report x y z) f =
 guess-text (Top x y n) f =
     let a = all_three (signed32 x) (signed32 y) (unsigned32 n) f in
     guess-number 94 refl x y a.one a.two n a.three
-guess-text Bad f = let z : ◌≡◌ {A = ℕ} 0 1 = cc in absurd (omega arith)
+
+some-one : (c d : Command) → ◌≡◌ {A = Option Command} (Some c) (Some d) → c ≡ d
+some-one c d e = ap (λ (o : Option Command). unwrap_or o c) e
 
 -- two commands with the same text are the same
 text-one : (c d : Command) → fits c ≡ true → fits d ≡ true → command_text c ≡ command_text d → c ≡ d
-text-one c d f g e = sym (guess-text c f) ∙ ap guess e ∙ guess-text d g
+text-one c d f g e = some-one c d (sym (guess-text c f) ∙ ap guess e ∙ guess-text d g)
 
 -- ---- what is made of a line is within 32 bits
 
+-- a command made of these fields, if it is one
+abbrev FitsIfAny : Option Command → Type 0
+FitsIfAny None = ⊤
+FitsIfAny (Some c) = fits c ≡ true
+
 module _ (x y z : ℤ) (n : ℕ) (fx : signed32 x ≡ true) (fy : signed32 y ≡ true) (fz : signed32 z ≡ true) (fn : unsigned32 n ≡ true) where
   chosen-fits : (a b c d : Bool)
-      → let r = cond a (Add x y n) (cond b (Withdraw x y) (cond c (Report x y z) (cond d (Top x y n) Bad))) in
-      (r ≡ Bad → ⊥) → fits r ≡ true
-  chosen-fits true b c d h = and_both (signed32 x) (signed32 y && unsigned32 n) fx (and_both (signed32 y) (unsigned32 n) fy fn)
-  chosen-fits false true c d h = and_both (signed32 x) (signed32 y) fx fy
-  chosen-fits false false true d h = and_both (signed32 x) (signed32 y && signed32 z) fx (and_both (signed32 y) (signed32 z) fy fz)
-  chosen-fits false false false true h = and_both (signed32 x) (signed32 y && unsigned32 n) fx (and_both (signed32 y) (unsigned32 n) fy fn)
-  chosen-fits false false false false h = absurd (h refl)
+      → FitsIfAny (cond a (Some (Add x y n)) (cond b (Some (Withdraw x y)) (cond c (Some (Report x y z)) (cond d (Some (Top x y n)) None))))
+  chosen-fits true b c d = and_both (signed32 x) (signed32 y && unsigned32 n) fx (and_both (signed32 y) (unsigned32 n) fy fn)
+  chosen-fits false true c d = and_both (signed32 x) (signed32 y) fx fy
+  chosen-fits false false true d = and_both (signed32 x) (signed32 y && signed32 z) fx (and_both (signed32 y) (signed32 z) fy fz)
+  chosen-fits false false false true = and_both (signed32 x) (signed32 y && unsigned32 n) fx (and_both (signed32 y) (unsigned32 n) fy fn)
+  chosen-fits false false false false = tt
 
-  command-fits : (k : ℕ) → (command_of k x y z n ≡ Bad → ⊥) → fits (command_of k x y z n) ≡ true
+  command-fits : (k : ℕ) → FitsIfAny (command_of k x y z n)
   unfolding command_of
-  command-fits k h = chosen-fits (eqb k 43) (eqb k 45) (eqb k 63) (eqb k 94) h
+  command-fits k = chosen-fits (eqb k 43) (eqb k 45) (eqb k 63) (eqb k 94)
 
-guess-fits : (l : List ℕ) → (guess l ≡ Bad → ⊥) → fits (guess l) ≡ true
+guess-fits : (l : List ℕ) → FitsIfAny (guess l)
 unfolding guess
-guess-fits l h =
+guess-fits l =
     let a = behind l in
     let b = behind a in
     let c = behind b in
     command-fits (integer (front a)) (integer (front b)) (integer (front c)) (value 0 (front c)) (fits_signed (integer (front a)) (integer-fits (front a)))
     (fits_signed (integer (front b)) (integer-fits (front b))) (fits_signed (integer (front c)) (integer-fits (front c)))
-    (lt-unsigned (value 0 (front c)) (value-lt 0 (front c) (omega arith))) (get_or l 0 0) h
+    (lt-unsigned (value 0 (front c)) (value-lt 0 (front c) (omega arith))) (get_or l 0 0)
 
 -- ---- the answer
 
-module _ (line : List ℕ) (c : Command) (made : c ≡ guess line) where
-  -- a command with the text of the line is what was made of it
-  only : (d : Command) → fits d ≡ true → line ≡ command_text d → c ≡ d
-  only d f t = made ∙ ap guess t ∙ guess-text d f
+abbrev Nothing : Option Command → Type 0
+Nothing None = ⊤
+Nothing (Some c) = ⊥
 
-  pub parse-yes : same_list line (command_text c) ≡ true → Parsed line c
+none-some : (c : Command) → ◌≡◌ {A = Option Command} None (Some c) → ⊥
+none-some c e = subst Nothing e tt
+
+-- a command with the text of the line is what was made of it
+only : (line : List ℕ) (d : Command) → fits d ≡ true → line ≡ command_text d → guess line ≡ Some d
+only line d f t = ap guess t ∙ guess-text d f
+
+module _ (line : List ℕ) (c : Command) (made : Some c ≡ guess line) where
+  pub parse-yes : same_list line (command_text c) ≡ true → Parsed line (Some c)
   parse-yes h =
       record {
-        command = λ e. (rw made (guess-fits line (λ g. e (made ∙ g))), same_lists line (command_text c) h);
-        none =
-            λ (e : c ≡ Bad) d (f : fits d ≡ true) t.
-            let g : fits c ≡ fits d = ap fits (only d f t) in
-            let b : fits c ≡ false = ap fits e in
-            let z : ◌≡◌ {A = ℕ} 0 1 = cc in
-            omega arith;
+        command =
+            λ d e.
+            let f : fits c ≡ true = subst FitsIfAny (sym made) (guess-fits line) in
+            subst (λ (x : Command). (fits x ≡ true) × (line ≡ command_text x)) (some-one c d e) (f, same_lists line (command_text c) h);
+        none = λ e d f t. absurd (none-some c (sym e));
       }
 
-  pub parse-no : same_list line (command_text c) ≡ false → Parsed line Bad
+  pub parse-no : same_list line (command_text c) ≡ false → Parsed line None
   parse-no h =
       record {
-        command = λ e. absurd (e refl);
+        command = λ d e. absurd (none-some d e);
         none =
             λ e d (f : fits d ≡ true) t.
-            let g : same_list line (command_text c) ≡ same_list line line = ap (same_list line) (ap command_text (only d f t) ∙ sym t) in
+            let s : c ≡ d = some-one c d (made ∙ only line d f t) in
+            let g : same_list line (command_text c) ≡ same_list line line = ap (same_list line) (ap command_text s ∙ sym t) in
             let r : same_list line line ≡ true = lists-same line line refl in
-            let z : ◌≡◌ {A = ℕ} 0 1 = cc in
-            omega arith;
+            false≢true (sym h ∙ g ∙ r);
       }
 
-bad-or-not : (r : Command) → (r ≡ Bad) ⊎ (r ≡ Bad → ⊥)
-bad-or-not (Add x y n) = inr (λ (e : Add x y n ≡ Bad). let z : ◌≡◌ {A = ℕ} 0 1 = cc in omega arith)
-bad-or-not (Withdraw x y) = inr (λ (e : Withdraw x y ≡ Bad). let z : ◌≡◌ {A = ℕ} 0 1 = cc in omega arith)
-bad-or-not (Report x y n) = inr (λ (e : Report x y n ≡ Bad). let z : ◌≡◌ {A = ℕ} 0 1 = cc in omega arith)
-bad-or-not (Top x y n) = inr (λ (e : Top x y n ≡ Bad). let z : ◌≡◌ {A = ℕ} 0 1 = cc in omega arith)
-bad-or-not Bad = inl refl
+-- nothing was made of the line
+pub parse-nothing : (line : List ℕ) → None ≡ guess line → Parsed line None
+parse-nothing line made =
+    record { command = λ d e. absurd (none-some d e); none = λ e d (f : fits d ≡ true) t. none-some d (made ∙ only line d f t) }
 
 -- the answer is the inverse of printing: it is the command that the line says
-parse-whole : (line : List ℕ) (r c : Command) → Parsed line r → fits c ≡ true → line ≡ command_text c → r ≡ c
-parse-whole line r c p f t =
-    ⊎_elim (λ (e : r ≡ Bad). absurd (p.none e c f t)) (λ (h : r ≡ Bad → ⊥). text-one r c (p.command h).0 f (sym (p.command h).1 ∙ t))
-    (bad-or-not r)
+parse-whole : (line : List ℕ) (r : Option Command) (c : Command) → Parsed line r → fits c ≡ true → line ≡ command_text c → r ≡ Some c
+parse-whole line None c p f t = absurd (p.none refl c f t)
+parse-whole line (Some d) c p f t =
+    let q = p.command d refl in
+    ap Some (text-one d c q.0 f (sym q.1 ∙ t))
 
 -- so a line has one answer
-pub parsed-one : (line : List ℕ) (r s : Command) → Parsed line r → Parsed line s → r ≡ s
-parsed-one line r s p q =
-    ⊎_elim
-    (λ (e : s ≡ Bad).
-    ⊎_elim (λ (d : r ≡ Bad). d ∙ sym e) (λ (h : r ≡ Bad → ⊥). absurd (q.none e r (p.command h).0 (p.command h).1)) (bad-or-not r))
-    (λ (h : s ≡ Bad → ⊥). parse-whole line r s p (q.command h).0 (q.command h).1) (bad-or-not s)
+pub parsed-one : (line : List ℕ) (r s : Option Command) → Parsed line r → Parsed line s → r ≡ s
+parsed-one line None None p q = refl
+parsed-one line (Some c) None p q = absurd (q.none refl c (p.command c refl).0 (p.command c refl).1)
+parsed-one line r (Some c) p q = parse-whole line r c p (q.command c refl).0 (q.command c refl).1

@@ -1,35 +1,37 @@
 -- The command that a sign and fields make, and the fields of a line.
 -- Assumes nothing.
 use mathlib.Core.Path.{◌≡◌, refl, ap, ◌∙◌}
-use mathlib.Core.List.{List}
-use Prim.Native.Nat.{ℕ}
+use mathlib.Core.List.{List, [], ◌∷◌}
+use Prim.Native.Nat.{ℕ, ◌≤◌}
+use native.Mathlib.Nat.{not-suc-le-zero}
 use lib.IntN.{ℤ}
-use lib.ListN.{get_or, drop}
+use lib.ListN.{length, get_or, drop}
 use borrow.Author.Tests.{ne_eqb}
 use mir.Syntax.{w32}
 use mir.Val.{to_z, of_z}
+use Rattle.std.specs.Prelude.{Some, None}
 use Rattle.text.specs.Reading.{front, behind, value, integer, command_of, guess}
-use Rattle.text.specs.declared.Command.TheVariants.{Add, Withdraw, Report, Top, Bad}
+use Rattle.text.specs.declared.Command.TheVariants.{Add, Withdraw, Report, Top}
 use Rattle.text.proofs.Numbers.{integer-back}
 
 module _ (k : ℕ) (x y z : ℤ) (n : ℕ) where
-  pub made-add : k ≡ 43 → Add x y n ≡ command_of k x y z n
+  pub made-add : k ≡ 43 → Some (Add x y n) ≡ command_of k x y z n
   unfolding command_of
   made-add h = rw h refl
 
-  pub made-withdraw : k ≡ 45 → Withdraw x y ≡ command_of k x y z n
+  pub made-withdraw : k ≡ 45 → Some (Withdraw x y) ≡ command_of k x y z n
   unfolding command_of
   made-withdraw h = rw h refl
 
-  pub made-report : k ≡ 63 → Report x y z ≡ command_of k x y z n
+  pub made-report : k ≡ 63 → Some (Report x y z) ≡ command_of k x y z n
   unfolding command_of
   made-report h = rw h refl
 
-  pub made-top : k ≡ 94 → Top x y n ≡ command_of k x y z n
+  pub made-top : k ≡ 94 → Some (Top x y n) ≡ command_of k x y z n
   unfolding command_of
   made-top h = rw h refl
 
-  pub made_none : (k ≡ 43 → ⊥) → (k ≡ 45 → ⊥) → (k ≡ 63 → ⊥) → (k ≡ 94 → ⊥) → Bad ≡ command_of k x y z n
+  pub made_none : (k ≡ 43 → ⊥) → (k ≡ 45 → ⊥) → (k ≡ 63 → ⊥) → (k ≡ 94 → ⊥) → None ≡ command_of k x y z n
   unfolding command_of
   made_none a b c d = rw (ne_eqb k 43 a, ne_eqb k 45 b, ne_eqb k 63 c, ne_eqb k 94 d)
 
@@ -43,3 +45,9 @@ read-guess l a b c k n x y z da db dc ek ex ey ez en =
     let eb : drop b l ≡ behind (behind l) = db ∙ ap behind ea in
     let ec : drop c l ≡ behind (behind (behind l)) = dc ∙ ap behind eb in
     rw (ek, integer-back x (front (drop a l)) ex, integer-back y (front (drop b l)) ey, integer-back z (front (drop c l)) ez, en, ea, eb, ec)
+
+-- an empty line says nothing
+pub guess_empty : (l : List ℕ) → length l ≤ 0 → None ≡ guess l
+unfolding guess command_of
+guess_empty [] h = refl
+guess_empty (x ∷ l) h = absurd (not-suc-le-zero h)

@@ -1,22 +1,24 @@
 -- A printed number read back.
 -- Assumes nothing.
-use mathlib.Core.Path.{◌≡◌, refl, ap, ◌∙◌}
+use mathlib.Core.Path.{◌≡◌, refl, ap, sym, ◌∙◌}
 use mathlib.Core.Logic.{⊎_elim}
-use mathlib.Core.Bool.{Bool, true, false, cond}
+use mathlib.Core.Bool.{Bool, true, false, cond, ◌&&◌, false≢true}
 use mathlib.Core.List.{List, [], ◌∷◌, ◌++◌}
 use Prim.Native.Nat.{ℕ, zero, suc, ◌+◌, ◌-◌, ◌/◌, ◌%◌, ◌≤◌, ◌<◌}
 use native.Mathlib.Omega.{arith}
 use lib.Dec.{leb, eqb}
-use lib.IntN.{ℤ, pos, negsuc}
-use lib.ListN.{length, get_or, drop}
-use borrow.Author.Tests.{lt-ltb, le-ltb, leb-true, eq-eqb, ne_eqb}
+use lib.IntN.{ℤ, pos, negsuc, nat_abs}
+use lib.Signed.{lt_z}
+use lib.ListN.{get_or, take, drop}
+use lib.Pointwise.{pointwise}
+use borrow.Author.Tests.{lt-ltb, le-ltb, leb-true, ltb-true, ne_eqb}
 use mir.Syntax.{w32}
 use mir.Val.{to_z, of_z}
 use mir.ValLaws.{to_z-of_z}
 use Rattle.octets.specs.Lists.{every, has}
 use Rattle.octets.proofs.Order.{less-or-not}
 use Rattle.octets.proofs.Tests.{and_left}
-use Rattle.spot.specs.Keys.{word, half, biased, unbiased}
+use Rattle.spot.specs.Keys.{word, half, unbiased}
 use Rattle.spot.proofs.Signed.{Fits, unbiased-biased, unbiased-fits}
 use Rattle.text.specs.Text.{digits, decimal, signed}
 use Rattle.text.specs.Reading.{step, value, integer}
@@ -82,27 +84,32 @@ integer-fits w =
 
 -- ---- as the code prints and reads it
 
-pub signed_low : (z : ℤ) (u : ℕ) → Fits z → u ≡ biased z → u < half → 45 ∷ decimal (half - u) ≡ signed z
+pub signed-below : (z : ℤ) → lt_z z (pos 0) ≡ true → 45 ∷ decimal (nat_abs z) ≡ signed z
 unfolding signed
-signed_low (pos n) u f e h = absurd (omega arith)
-signed_low (negsuc n) u f e h = ap (λ (m : ℕ). 45 ∷ decimal m) (omega (arith, f.sfits))
+signed-below (pos n) h = let z : n < 0 = ltb-true n 0 h in absurd (omega arith)
+signed-below (negsuc n) h = refl
 
-pub signed_high : (z : ℤ) (u : ℕ) → Fits z → u ≡ biased z → half ≤ u → decimal (u - half) ≡ signed z
+pub signed-not_below : (z : ℤ) → lt_z z (pos 0) ≡ false → decimal (nat_abs z) ≡ signed z
 unfolding signed
-signed_high (pos n) u f e h = ap decimal (omega arith)
-signed_high (negsuc n) u f e h = absurd (omega (arith, f.sfits))
+signed-not_below (pos n) h = refl
+signed-not_below (negsuc n) h = absurd (false≢true (sym h))
 
-pub not-empty : (w : List ℕ) → get_or w 0 0 ≡ 45 → 1 ≤ length w
-not-empty [] e = absurd (omega arith)
-not-empty (x ∷ w) e = omega arith
+-- the test of the first byte
+minus-first : (w : List ℕ) → pointwise eqb (take 1 w) (45 ∷ []) ≡ eqb (get_or w 0 0) 45
+minus-first [] = refl
+minus-first (x ∷ w) = go (eqb x 45)
+  where
+    go : (b : Bool) → b && true ≡ b
+    go true = refl
+    go false = refl
 
-pub integer-minus : (w : List ℕ) (m : ℕ) → get_or w 0 0 ≡ 45 → m ≡ value 0 (drop 1 w) → unbiased ((half + word - m) % word) ≡ integer w
+pub integer-minus : (w : List ℕ) (m : ℕ) → pointwise eqb (take 1 w) (45 ∷ []) ≡ true → m ≡ value 0 (drop 1 w) → unbiased ((half + word - m) % word) ≡ integer w
 unfolding integer
-integer-minus w m e h = rw (eq-eqb (get_or w 0 0) 45 e) (ap (λ (v : ℕ). unbiased ((half + word - v) % word)) h)
+integer-minus w m e h = rw (sym (minus-first w) ∙ e) (ap (λ (v : ℕ). unbiased ((half + word - v) % word)) h)
 
-pub integer-plus : (w : List ℕ) (m : ℕ) → (get_or w 0 0 ≡ 45 → ⊥) → m ≡ value 0 w → unbiased ((half + m) % word) ≡ integer w
+pub integer-plus : (w : List ℕ) (m : ℕ) → pointwise eqb (take 1 w) (45 ∷ []) ≡ false → m ≡ value 0 w → unbiased ((half + m) % word) ≡ integer w
 unfolding integer
-integer-plus w m e h = rw (ne_eqb (get_or w 0 0) 45 e) (ap (λ (v : ℕ). unbiased ((half + v) % word)) h)
+integer-plus w m e h = rw (sym (minus-first w) ∙ e) (ap (λ (v : ℕ). unbiased ((half + v) % word)) h)
 
 -- the machine's number is the number itself
 pub integer-back : (x : ℤ) (w : List ℕ) → x ≡ integer w → to_z w32 (of_z w32 x) ≡ integer w

@@ -1,15 +1,16 @@
 -- One turn of each loop over a line.
 -- Assumes nothing.
-use mathlib.Core.Path.{◌≡◌, ap, ap₂, sym, ◌∙◌}
-use mathlib.Core.Bool.{Bool, true, false, cond, ◌&&◌}
+use mathlib.Core.Path.{◌≡◌, refl, ap, sym, ◌∙◌}
+use mathlib.Core.Bool.{Bool, cond, ◌&&◌}
 use mathlib.Core.List.{List, [], ◌∷◌}
 use Prim.Native.Nat.{ℕ, suc, ◌+◌, ◌≤◌, ◌<◌}
 use native.Mathlib.Omega.{arith}
+use lib.Dec.{eqb}
+use lib.Pointwise.{pointwise}
 use lib.ListN.{length, get_or, take, drop, drop_of_length-le}
 use lib.Seq.{drop-drop}
 use borrow.Author.Tests.{eq-eqb, ne_eqb}
 use Rattle.octets.specs.Lists.{same_list}
-use Rattle.octets.proofs.Tests.{refuted, same_lists, same_from}
 use Rattle.octets.proofs.Lists.{drop-next}
 use Rattle.text.specs.Reading.{front, behind, step, value}
 use Rattle.text.proofs.Words.{front-take, behind-drop}
@@ -44,21 +45,11 @@ value-end w i n h = rw (drop_of_length-le w {i = i} h)
 
 -- ---- the comparison
 
-pub same-lengths : (a b : List ℕ) → (length a ≡ length b → ⊥) → same_list a b ≡ false
-same-lengths a b h = refuted (same_list a b) (λ (e : same_list a b ≡ true). h (ap length (same_lists a b e)))
-
-module _ (a b : List ℕ) (i : ℕ) (l : i < length a) (m : i < length b) where
-  pub same_next : get_or a i 0 ≡ get_or b i 0 → same_list (drop (i + 1) a) (drop (i + 1) b) ≡ same_list (drop i a) (drop i b)
-  same_next e =
-      sym (same_from a b i l m ∙ ap (λ (t : Bool). t && same_list (drop (i + 1) a) (drop (i + 1) b)) (eq-eqb (get_or a i 0) (get_or b i 0) e))
-
-  pub same-differ : (get_or a i 0 ≡ get_or b i 0 → ⊥) → same_list (drop i a) (drop i b) ≡ false
-  same-differ e =
-      same_from a b i l m
-      ∙ ap (λ (t : Bool). t && same_list (drop (i + 1) a) (drop (i + 1) b)) (ne_eqb (get_or a i 0) (get_or b i 0) e)
-
-pub same_end : (a b : List ℕ) (i : ℕ) → length a ≤ i → length b ≤ i → same_list (drop i a) (drop i b) ≡ true
-same_end a b i l m = ap₂ same_list (drop_of_length-le a {i = i} l) (drop_of_length-le b {i = i} m)
+pub pointwise-same : (a b : List ℕ) → pointwise eqb a b ≡ same_list a b
+pointwise-same [] [] = refl
+pointwise-same [] (y ∷ ys) = refl
+pointwise-same (x ∷ xs) [] = refl
+pointwise-same (x ∷ xs) (y ∷ ys) = ap (λ (t : Bool). eqb x y && t) (pointwise-same xs ys)
 
 -- ---- a word as it lies in a line
 

@@ -1,9 +1,9 @@
 -- What `parse` makes of any line before it prints the command and compares. On the text of a command it is the command.
 -- Assumes nothing.
-use Rattle.std.specs.Prelude.{ℕ, ◌+◌, ◌-◌, ◌*◌, ◌%◌, cond, List, [], ◌∷◌, eqb, ℤ, get_or, drop}
+use Rattle.std.specs.Prelude.{ℕ, ◌+◌, ◌-◌, ◌*◌, ◌%◌, cond, List, [], ◌∷◌, eqb, ℤ, get_or, drop, Option, Some, None}
 use Rattle.spot.specs.Keys.{word, half, unbiased}
 use Rattle.text.specs.declared.Command.{Command}
-use Rattle.text.specs.declared.Command.TheVariants.{Add, Withdraw, Report, Top, Bad}
+use Rattle.text.specs.declared.Command.TheVariants.{Add, Withdraw, Report, Top}
 
 -- the bytes up to the first space, and those behind it
 abbrev pub front : List ℕ → List ℕ
@@ -28,12 +28,12 @@ unfoldable pub integer : List ℕ → ℤ
 integer w = cond (eqb (get_or w 0 0) 45) (unbiased ((half + word - value 0 (drop 1 w)) % word)) (unbiased ((half + value 0 w) % word))
 
 -- the command of this sign with these fields; the third is signed or not
-unfoldable pub command_of : ℕ → ℤ → ℤ → ℤ → ℕ → Command
+unfoldable pub command_of : ℕ → ℤ → ℤ → ℤ → ℕ → Option Command
 command_of k x y z n =
-    cond (eqb k 43) (Add x y n) (cond (eqb k 45) (Withdraw x y) (cond (eqb k 63) (Report x y z) (cond (eqb k 94) (Top x y n) Bad)))
+    cond (eqb k 43) (Some (Add x y n)) (cond (eqb k 45) (Some (Withdraw x y)) (cond (eqb k 63) (Some (Report x y z)) (cond (eqb k 94) (Some (Top x y n)) None)))
 
 -- the words of a line as the fields of a command
-unfoldable pub guess : List ℕ → Command
+unfoldable pub guess : List ℕ → Option Command
 guess line =
     let a = behind line in
     let b = behind a in

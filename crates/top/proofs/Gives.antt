@@ -2,15 +2,16 @@
 -- Assumes nothing.
 use mathlib.Core.Path.{◌≡◌, ap, ap₂, sym, subst, ◌∙◌}
 use mathlib.Core.Logic.{◌⊎◌, inl, inr, ⊎_elim}
-use mathlib.Core.Bool.{Bool, true, false, cond, ◌&&◌}
+use mathlib.Core.Bool.{Bool, true, cond, ◌&&◌}
 use mathlib.Core.List.{List, [], ◌∷◌, ◌++◌}
 use Prim.Native.Nat.{ℕ, ◌+◌, ◌*◌, ◌/◌, ◌≤◌, ◌<◌}
 use native.Mathlib.Omega.{arith}
 use lib.ListN.{length-append}
+use Rattle.std.specs.Prelude.{Option, is_some}
 use lib.Dec.{ltb, eqb}
 use lib.IntN.{ℤ}
-use borrow.Author.Tests.{ltb-true, ltb-false, lt-ltb, eq-eqb, ne_eqb}
-use Rattle.octets.proofs.Order.{same_or_not, less-or-not}
+use borrow.Author.Tests.{ltb-true, eq-eqb, ne_eqb}
+use Rattle.octets.proofs.Order.{same_or_not}
 use Rattle.octets.proofs.Tests.{and_left, and_right}
 use Rattle.spot.specs.Keys.{top_key, rank_of}
 use Rattle.spot.specs.Spots.{put_spot}
@@ -21,7 +22,7 @@ use Rattle.spot.proofs.TopKeys.{top-rank}
 use Rattle.block.specs.NodeRules.{ValidBlock}
 use Rattle.frontier.specs.declared.Pick.{Pick}
 use Rattle.frontier.specs.Frontier.{block_by, slot_by, Chain}
-use Rattle.frontier.specs.Picks.{spot_count, spot_by, found_in, Under, Laddered, next_of, PickedUnder}
+use Rattle.frontier.specs.Picks.{spot_count, spot_by, found_in, Under, Laddered, pick_key, pick_at, pick_more, next_of, PickedUnder}
 use Rattle.frontier.proofs.Chains.{stands-valid}
 use Rattle.frontier.proofs.Spots.{spots-most}
 use Rattle.top.specs.Reading.{shown_of, Underway}
@@ -36,30 +37,30 @@ use Rattle.top.proofs.Outs.{written-more}
 
 module _ {t : List ℕ} {q : Query} {k room : ℕ} {rows heads : List (List ℕ)} {m n : ℕ} {cell : ℕ → ℕ} {base out blocks : List ℕ} {count : ℕ}
     (few : n ≤ 4096) (chain : Chain t rows n) (s : Sofar t q k room rows heads m n cell base out blocks count) where
-  abbrev pick : ℕ → Pick
+  abbrev pick : ℕ → Option Pick
   pick = s.pick
 
   module _ (some : 0 < m) where
     -- the slot of the first row
-    lead-row : First heads (λ i. (pick i).there) (λ i. (pick i).key) (λ i. (pick i).at + 128 * (i + 4096 * (pick i).more)) n
-    lead-row = first-row (λ i. (pick i).there) (λ i. (pick i).key) (λ i. (pick i).at + 128 * (i + 4096 * (pick i).more)) s.headed.held some
+    lead-row : First heads (λ i. is_some (pick i)) (λ i. pick_key (pick i)) (λ i. pick_at (pick i) + 128 * (i + 4096 * pick_more (pick i))) n
+    lead-row = first-row (λ i. is_some (pick i)) (λ i. pick_key (pick i)) (λ i. pick_at (pick i) + 128 * (i + 4096 * pick_more (pick i))) s.headed.held some
 
     abbrev i : ℕ
     i = lead-row.at
 
-    lead-index : (pick i).at < spot_count t (slot_by t rows i).block
+    lead-index : (pick_at (pick i)) < spot_count t (slot_by t rows i).block
     lead-index = s.headed.index i lead-row.inside lead-row.there
 
-    lead_low : (pick i).at < 128
+    lead_low : (pick_at (pick i)) < 128
     lead_low = omega (arith, lead-index, spots-most t (slot_by t rows i).block (stands-valid (chain.stands i lead-row.inside)))
 
     lead-slot : lead_slot heads ≡ i
     lead-slot = let e = lead-row.value-is in let l = lead_low in let g = lead-row.inside in omega arith
 
-    lead-at : lead_at heads ≡ (pick i).at
+    lead-at : lead_at heads ≡ pick_at (pick i)
     lead-at = let e = lead-row.value-is in let l = lead_low in omega arith
 
-    lead-more : lead_more heads ≡ (pick i).more
+    lead-more : lead_more heads ≡ pick_more (pick i)
     lead-more = let e = lead-row.value-is in let l = lead_low in let g = lead-row.inside in omega arith
 
     lead_block : block_by rows (lead_slot heads) ≡ (slot_by t rows i).block
@@ -95,14 +96,14 @@ module _ {t : List ℕ} {q : Query} {k room : ℕ} {rows heads : List (List ℕ)
           hangs = record { n = n; inside = omega arith; chain = chain };
           more =
               subst (λ (x : ℕ). Laddered t (slot_by t rows (lead_slot heads)).block q (first_key heads) x) (sym lead-more)
-              (subst (λ (x : ℕ). Laddered t (slot_by t rows (lead_slot heads)).block q x (pick i).more) (sym lead-row.key-is)
-              (subst (λ (j : ℕ). Laddered t (slot_by t rows j).block q (pick i).key (pick i).more) (sym e) (s.headed.more i l lead-row.there)));
+              (subst (λ (x : ℕ). Laddered t (slot_by t rows (lead_slot heads)).block q x (pick_more (pick i))) (sym lead-row.key-is)
+              (subst (λ (j : ℕ). Laddered t (slot_by t rows j).block q (pick_key (pick i)) (pick_more (pick i))) (sym e) (s.headed.more i l lead-row.there)));
         }
 
     -- ---- it is given
 
     module _ {heads' : List (List ℕ)} {m' : ℕ} (v : MovedOn t q rows heads heads' m m') where
-      abbrev next : ℕ → Pick
+      abbrev next : ℕ → Option Pick
       next = put pick i v.next
 
       follows : PickedUnder t (slot_by t rows i).block q (first_key heads) (found_in t q (slot_by t rows i)) v.next
@@ -116,11 +117,11 @@ module _ {t : List ℕ} {q : Query} {k room : ℕ} {rows heads : List (List ℕ)
                 (ap (pick_row i) (put_same pick i v.next) ∙ ap (λ (j : ℕ). pick_row j v.next) (sym lead-slot))
                 (λ j d. ap (pick_row j) (put_other pick i v.next j d));
             index =
-                put_all pick i v.next (λ j p. j < n → p.there ≡ true → p.at < spot_count t (slot_by t rows j).block) (λ l. follows.index) (λ j d. s.headed.index j);
+                put_all pick i v.next (λ j p. j < n → is_some p ≡ true → pick_at p < spot_count t (slot_by t rows j).block) (λ l. follows.index) (λ j d. s.headed.index j);
             key =
-                put_all pick i v.next (λ j p. j < n → p.there ≡ true → p.key ≡ top_key (spot_by t (slot_by t rows j).block p.at).key) (λ l. follows.key) (λ j d. s.headed.key j);
+                put_all pick i v.next (λ j p. j < n → is_some p ≡ true → pick_key p ≡ top_key (spot_by t (slot_by t rows j).block (pick_at p)).key) (λ l. follows.key) (λ j d. s.headed.key j);
             more =
-                put_all pick i v.next (λ j p. j < n → p.there ≡ true → Laddered t (slot_by t rows j).block q p.key p.more) (λ l. follows.more) (λ j d. s.headed.more j);
+                put_all pick i v.next (λ j p. j < n → is_some p ≡ true → Laddered t (slot_by t rows j).block q (pick_key p) (pick_more p)) (λ l. follows.more) (λ j d. s.headed.more j);
           }
 
       module _ (floor : ℕ) (low : (c : ℕ) → c < 8 * n → cell c ≤ floor) (over : floor ≤ first_key heads / 4294967296) (less : count < k) where
@@ -130,7 +131,7 @@ module _ {t : List ℕ} {q : Query} {k room : ℕ} {rows heads : List (List ℕ)
             let o = top-rank (head_by t rows pick i).spot.key in
             let c = s.counted in
             spot-given t x1 x2 k (slot_by t rows) (head_by t rows pick) cell n s.given blocks (s.going x1 x2 asks) i lead-row.inside lead-row.there
-            (λ j l h. omega (arith, (first-most (λ y. (pick y).there) (λ y. (pick y).key) (λ y. (pick y).at + 128 * (y + 4096 * (pick y).more)) s.headed.held j l h).1, s.headed.key j l h))
+            (λ j l h. omega (arith, (first-most (λ y. is_some (pick y)) (λ y. pick_key (pick y)) (λ y. pick_at (pick y) + 128 * (y + 4096 * pick_more (pick y))) s.headed.held j l h).1, s.headed.key j l h))
             floor
             low
             (omega arith)
@@ -163,7 +164,7 @@ module _ {t : List ℕ} {q : Query} {k room : ℕ} {rows heads : List (List ℕ)
   -- no spot that is left reaches the floor
   pub none-reaches : (floor : ℕ) → (m ≡ 0) ⊎ (first_key heads / 4294967296 < floor) → (j : ℕ) → j < n → (head_by t rows pick j).there ≡ true → rank_of (head_by t rows pick j).spot.key < floor
   none-reaches floor e j l h =
-      let f = first-most (λ y. (pick y).there) (λ y. (pick y).key) (λ y. (pick y).at + 128 * (y + 4096 * (pick y).more)) s.headed.held j l h in
+      let f = first-most (λ y. is_some (pick y)) (λ y. pick_key (pick y)) (λ y. pick_at (pick y) + 128 * (y + 4096 * pick_more (pick y))) s.headed.held j l h in
       let r = s.headed.key j l h in
       ⊎_elim (λ (z : m ≡ 0). let y : ⊥ = omega (arith, f.0) in absurd y) (λ (z : first_key heads / 4294967296 < floor). omega (arith, f.1, top-rank (head_by t rows pick j).spot.key)) e
 
@@ -174,7 +175,7 @@ module _ {t : List ℕ} {q : Query} {k room : ℕ} {rows heads : List (List ℕ)
 
     pub ranks-under : (j : ℕ) → j < n → (head_by t rows pick j).there ≡ true → rank_of (head_by t rows pick j).spot.key ≤ rank
     ranks-under j l h =
-        let f = first-most (λ y. (pick y).there) (λ y. (pick y).key) (λ y. (pick y).at + 128 * (y + 4096 * (pick y).more)) s.headed.held j l h in
+        let f = first-most (λ y. is_some (pick y)) (λ y. pick_key (pick y)) (λ y. pick_at (pick y) + 128 * (y + 4096 * pick_more (pick y))) s.headed.held j l h in
         omega (arith, f.1, rank-row f.0, s.headed.key j l h, top-rank (head_by t rows pick j).spot.key)
 
     pub ranks-met : (rank ≡ 0) ⊎ ((j : ℕ) × (j < n) × ((head_by t rows s.pick j).there ≡ true) × (rank_of (head_by t rows s.pick j).spot.key ≡ rank))
@@ -187,9 +188,6 @@ module _ {t : List ℕ} {q : Query} {k room : ℕ} {rows heads : List (List ℕ)
         (same_or_not m 0)
 
 -- ---- one after the other
-
-pub give-none : {t : List ℕ} {q : Query} {k room : ℕ} {rows heads : List (List ℕ)} {m floor : ℕ} {out : List ℕ} {count : ℕ} → Passes t q k room rows heads heads m m floor out out count count
-give-none = record { on = λ n cell base blocks few chain low s. s }
 
 pub give-step : {t : List ℕ} {q : Query} {k room : ℕ} {rows first heads heads' : List (List ℕ)} {m₀ m m' floor : ℕ} {out₀ out out' : List ℕ} {count₀ count : ℕ} {x : Spot}
     → Passes t q k room rows first heads m₀ m floor out₀ out count₀ count → 0 < m → count < k → floor ≤ first_key heads / 4294967296
@@ -206,9 +204,3 @@ give_at g p = p.on g.n g.cell g.base g.blocks g.few g.chain g.low g.sofar
 -- where it goes on, and where it ends
 pub give-on : (j k left : ℕ) → ltb j k && ltb 0 left ≡ true → (j < k) × (0 < left)
 give-on j k left h = (ltb-true j k (and_left (ltb j k) (ltb 0 left) h), ltb-true 0 left (and_right (ltb j k) (ltb 0 left) h))
-
-pub give-ends : {A : Type 0} (j k left : ℕ) → ltb j k && ltb 0 left ≡ false → (k ≤ j) ⊎ ((left ≡ 0) ⊎ A)
-give-ends j k left h =
-    ⊎_elim (λ (l : k ≤ j). inl l)
-    (λ (l : j < k). inr (inl (let z = ltb-false 0 left (sym (ap (λ (b : Bool). b && ltb 0 left) (lt-ltb j k l)) ∙ h) in omega arith)))
-    (less-or-not k j)

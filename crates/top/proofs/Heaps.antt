@@ -48,26 +48,18 @@ two (a ∷ []) e = let z : ⊥ = omega arith in absurd z
 two (a ∷ b ∷ []) e = refl
 two (a ∷ b ∷ c ∷ r) e = let z : ⊥ = omega arith in absurd z
 
-module _ (h : List (List ℕ)) (m : ℕ) (x : List ℕ) where
-  pub hung-none : {some : Bool} → some ≡ false → Hung h m (cond some x []) h m
-  hung-none e =
-      subst (λ (b : Bool). Hung h m (cond b x []) h m) (sym e)
-      (record { held = λ row row' n d kept none. held-skip row d row' kept none })
+module _ (h : List (List ℕ)) (m : ℕ) where
+  pub hung-none : Hung h m [] h m
+  hung-none = record { held = λ row row' n d kept none. held-skip row d row' kept none }
 
-  pub hung-some : {some : Bool} {h' : List (List ℕ)} → some ≡ true → length x ≡ 2 → m < length h → Became m h [] (m + 1) h' (x ∷ []) → Hung h m (cond some x []) h' (m + 1)
-  hung-some {h' = h'} e l room t =
-      subst (λ (b : Bool). Hung h m (cond b x []) h' (m + 1)) (sym e)
-      (record { held = λ row row' n d kept is. held-push row d row' t kept is (two x l) room })
+  pub hung-some : {x : List ℕ} {h' : List (List ℕ)} → length x ≡ 2 → m < length h → Became m h [] (m + 1) h' (x ∷ []) → Hung h m x h' (m + 1)
+  hung-some {x} l room t = record { held = λ row row' n d kept is. held-push row d row' t kept is (two x l) room }
 
-  pub lowered_none : {some : Bool} {h' : List (List ℕ)} → some ≡ false → 0 < m → Became m h (get_or h 0 [] ∷ []) (m - 1) h' [] → Lowered h m (cond some x []) h' (m - 1)
-  lowered_none {h' = h'} e p t =
-      subst (λ (b : Bool). Lowered h m (cond b x []) h' (m - 1)) (sym e)
-      (record { heap = t.heap; few = omega arith; held = λ row row' n s d l first none others. held-pop row d row' s p l first t none others })
+  pub lowered_none : {h' : List (List ℕ)} → 0 < m → Became m h (get_or h 0 [] ∷ []) (m - 1) h' [] → Lowered h m [] h' (m - 1)
+  lowered_none p t = record { heap = t.heap; few = omega arith; held = λ row row' n s d l first none others. held-pop row d row' s p l first t none others }
 
-  pub lowered-some : {some : Bool} {h' : List (List ℕ)} → some ≡ true → length x ≡ 2 → 0 < m → Became m h (get_or h 0 [] ∷ []) m h' (x ∷ []) → Lowered h m (cond some x []) h' m
-  lowered-some {h' = h'} e l p t =
-      subst (λ (b : Bool). Lowered h m (cond b x []) h' m) (sym e)
-      (record { heap = t.heap; few = omega arith; held = λ row row' n s d i first is others. held-replace row d row' s p i first t (two x l) is others })
+  pub lowered-some : {x : List ℕ} {h' : List (List ℕ)} → length x ≡ 2 → 0 < m → Became m h (get_or h 0 [] ∷ []) m h' (x ∷ []) → Lowered h m x h' m
+  lowered-some {x} l p t = record { heap = t.heap; few = omega arith; held = λ row row' n s d i first is others. held-replace row d row' s p i first t (two x l) is others }
 
 pub hung-as : {h : List (List ℕ)} {m : ℕ} {x y : List ℕ} {h' : List (List ℕ)} {r : ℕ} → x ≡ y → Hung h m x h' r → Hung h m y h' r
 hung-as {h} {m} {h' = h'} {r = r} e v = subst (λ (l : List ℕ). Hung h m l h' r) e v

@@ -8,6 +8,7 @@ use Prim.Native.Nat.{ℕ, suc, ◌+◌, ◌-◌, ◌*◌, ◌/◌, ◌%◌, ◌�
 use native.Mathlib.Omega.{arith}
 use lib.ListN.{length, set, replicate, length-replicate}
 use lib.Dec.{eqb}
+use Rattle.std.specs.Prelude.{Option, Some, None, is_some}
 use lib.IntN.{ℤ}
 use Rattle.octets.specs.Lists.{has}
 use Rattle.octets.specs.Bitmap.{bit, set_bit}
@@ -36,10 +37,9 @@ use Rattle.heap.proofs.Held.{held_none, held-few}
 use Rattle.frontier.specs.declared.Pick.{Pick}
 use Rattle.frontier.specs.declared.KidPick.{KidPick}
 use Rattle.frontier.specs.Frontier.{Slot, kid_count, kid_entry, kid_part, kid_cell, kid_key, root_slot, child_slot, slot_place, slot_by, Standing, Chain}
-use Rattle.frontier.specs.Picks.{spot_count, spot_by, found_in, Under, Laddered, next_of}
+use Rattle.frontier.specs.Picks.{spot_count, spot_by, found_in, Under, Laddered, pick_key, pick_at, pick_more, next_of, best_key, best_at}
 use Rattle.frontier.proofs.Chains.{slot-first, child-above, stands-valid, root_stands, child-stands, child-inside, chain_first, chain_more, chain-new, chain-old}
 use Rattle.top.specs.declared.Sizes.{Sizes}
-use Rattle.top.specs.declared.Joined.{Joined}
 use Rattle.top.specs.Reading.{pend_of, child_of, unread_of, shown_of, Underway}
 use Rattle.top.specs.Rows.{pick_row, kid_row, head_by, cell_of, cell_by, Heads, Kids}
 use Rattle.top.specs.Runs.{written, Added, Readable, NodeRead, Sofar, Seen, Swept, Stuck}
@@ -124,9 +124,9 @@ child-pend t s i long l =
 
 -- Top on its way, about to read the node of s
 pub record Ready (t : List ℕ) (q : Query) (k room : ℕ) (base seen out : List ℕ) (rows kids heads : List (List ℕ)) (z : Sizes) (count : ℕ) (s : Slot) (a : Asked) : Type 0 where
-  pub kid : ℕ → KidPick
+  pub kid : ℕ → Option KidPick
   pub known : Kids t q rows kids z.kids z.slots kid
-  pub pick : ℕ → Pick
+  pub pick : ℕ → Option Pick
   pub headed : Heads t q rows heads z.heads z.slots pick
   pub given : List Spot
   pub blocks : List ℕ
@@ -141,7 +141,7 @@ pub root-ready : {t : List ℕ} {q : Query} {k room : ℕ} {seen out : List ℕ}
 root-ready {t} {q} {k} {room} {seen} {out} {rows} {kids} {heads} ok some clear fits =
     record {
       kid = kid;
-      known = record { held = held_none kids (λ s. kid_row s (kid s)); index = λ s l. let z : ⊥ = omega arith in absurd z; key = λ s l. let z : ⊥ = omega arith in absurd z };
+      known = record { held = held_none kids (λ s. kid_row s (kid s)); some = λ s l. let z : ⊥ = omega arith in absurd z; index = λ s l. let z : ⊥ = omega arith in absurd z; key = λ s l. let z : ⊥ = omega arith in absurd z };
       pick = pick;
       headed = record { held = held_none heads (λ s. pick_row s (pick s)); index = λ s l. let z : ⊥ = omega arith in absurd z; key = λ s l. let z : ⊥ = omega arith in absurd z; more = λ s l. let z : ⊥ = omega arith in absurd z };
       given = [];
@@ -155,11 +155,11 @@ root-ready {t} {q} {k} {room} {seen} {out} {rows} {kids} {heads} ok some clear f
       seen_is = seen_start clear;
     }
   where
-    kid : ℕ → KidPick
-    kid s = record { key = 0; at = 0 }
+    kid : ℕ → Option KidPick
+    kid s = None
 
-    pick : ℕ → Pick
-    pick s = record { there = false; key = 0; at = 0; more = 1 }
+    pick : ℕ → Option Pick
+    pick s = None
 
 module _ {t : List ℕ} {q : Query} {k room : ℕ} {base seen out : List ℕ} {rows kids heads : List (List ℕ)} {z : Sizes} {count : ℕ} {s : Slot} {a : Asked}
     (y : Ready t q k room base seen out rows kids heads z count s a) where
@@ -203,21 +203,21 @@ module _ {t : List ℕ} {q : Query} {k room : ℕ} {base seen out : List ℕ} {r
         }
 
     module _ (alone : (u : Pending) → Memᴰ u (unread_of t (slot_by t rows) (cell_by t q rows y.kid) z.slots) → Ties (pend_of t s a) u → ⊥)
-        {seen' : List ℕ} {rows' kids' heads' : List (List ℕ)} {r : Joined} (v : NodeRead t q seen seen' rows rows' kids kids' heads heads' z (slot_place s) a up r) (ok : r.ok ≡ true) where
+        {seen' : List ℕ} {rows' kids' heads' : List (List ℕ)} {r : Option Sizes} {z' : Sizes} (v : NodeRead t q seen seen' rows rows' kids kids' heads heads' z (slot_place s) a up r) (ok : r ≡ Some z') where
       abbrev n : ℕ
       n = z.slots
 
-      abbrev d : Added t q rows rows' kids kids' heads heads' z r.sizes (slot_place s) up
-      d = v.added ok
+      abbrev d : Added t q rows rows' kids kids' heads heads' z z' (slot_place s) up
+      d = v.added z' ok
 
-      abbrev kid : ℕ → KidPick
+      abbrev kid : ℕ → Option KidPick
       kid = put y.kid n d.kid
 
-      abbrev pick : ℕ → Pick
+      abbrev pick : ℕ → Option Pick
       pick = put y.pick n d.pick
 
       valid : node_ok s.level a (store_of t s.block) ≡ true
-      valid = v.valid ok
+      valid = v.valid (ap is_some ok)
 
       new : slot_by t rows' n ≡ s
       new = ap (λ (l : List (List ℕ)). slot_by t l n) d.rowed ∙ e.new valid
@@ -231,76 +231,77 @@ module _ {t : List ℕ} {q : Query} {k room : ℕ} {base seen out : List ℕ} {r
       stands : Standing t s
       stands = e.stands valid
 
-      known : Kids t q rows' kids' r.sizes.kids (n + 1) kid
+      known : Kids t q rows' kids' z'.kids (n + 1) kid
       known =
           record {
             held =
                 d.hung.held (λ j. kid_row j (y.kid j)) (λ j. kid_row j (kid j)) n y.known.held (λ j l. ap (kid_row j) (put-old y.kid n d.kid n refl j l))
                 (ap (kid_row n) (put_same y.kid n d.kid));
-            index = put_all y.kid n d.kid (λ j x. j < n + 1 → x.at < 8) (λ l. d.best.index) (λ j f l. y.known.index j (omega (arith, f)));
+            some = put_all y.kid n d.kid (λ j x. j < n + 1 → is_some x ≡ true → 0 < best_key x) (λ l. d.best.some) (λ j f l. y.known.some j (omega (arith, f)));
+            index = put_all y.kid n d.kid (λ j x. j < n + 1 → best_at x < 8) (λ l. d.best.index) (λ j f l. y.known.index j (omega (arith, f)));
             key =
-                put_all y.kid n d.kid (λ j x. j < n + 1 → 0 < x.key → x.key ≡ kid_key t (slot_by t rows' j).block (slot_by t rows' j).span q x.at)
-                (λ l p. (d.best.held p).0 ∙ ap (λ (w : Slot). kid_key t w.block w.span q d.kid.at) (sym new))
+                put_all y.kid n d.kid (λ j x. j < n + 1 → 0 < best_key x → best_key x ≡ kid_key t (slot_by t rows' j).block (slot_by t rows' j).span q (best_at x))
+                (λ l p. (d.best.held p).0 ∙ ap (λ (w : Slot). kid_key t w.block w.span q (best_at d.kid)) (sym new))
                 (λ j f l p.
                 let i : j < n = omega (arith, f) in
-                y.known.key j i p ∙ ap (λ (w : Slot). kid_key t w.block w.span q (y.kid j).at) (sym (old j i)));
+                y.known.key j i p ∙ ap (λ (w : Slot). kid_key t w.block w.span q (best_at (y.kid j))) (sym (old j i)));
           }
 
-      headed : Heads t q rows' heads' r.sizes.heads (n + 1) pick
+      headed : Heads t q rows' heads' z'.heads (n + 1) pick
       headed =
           record {
             held =
                 d.headed.held (λ j. pick_row j (y.pick j)) (λ j. pick_row j (pick j)) n y.headed.held (λ j l. ap (pick_row j) (put-old y.pick n d.pick n refl j l))
                 (ap (pick_row n) (put_same y.pick n d.pick));
             index =
-                put_all y.pick n d.pick (λ j x. j < n + 1 → x.there ≡ true → x.at < spot_count t (slot_by t rows' j).block) (λ l. d.picked.index)
+                put_all y.pick n d.pick (λ j x. j < n + 1 → is_some x ≡ true → pick_at x < spot_count t (slot_by t rows' j).block) (λ l. d.picked.index)
                 (λ j f l h.
                 let i : j < n = omega (arith, f) in
-                subst (λ (w : Slot). (y.pick j).at < spot_count t w.block) (sym (old j i)) (y.headed.index j i h));
+                subst (λ (w : Slot). pick_at (y.pick j) < spot_count t w.block) (sym (old j i)) (y.headed.index j i h));
             key =
-                put_all y.pick n d.pick (λ j x. j < n + 1 → x.there ≡ true → x.key ≡ top_key (spot_by t (slot_by t rows' j).block x.at).key) (λ l. d.picked.key)
+                put_all y.pick n d.pick (λ j x. j < n + 1 → is_some x ≡ true → pick_key x ≡ top_key (spot_by t (slot_by t rows' j).block (pick_at x)).key) (λ l. d.picked.key)
                 (λ j f l h.
                 let i : j < n = omega (arith, f) in
-                subst (λ (w : Slot). (y.pick j).key ≡ top_key (spot_by t w.block (y.pick j).at).key) (sym (old j i)) (y.headed.key j i h));
+                subst (λ (w : Slot). pick_key (y.pick j) ≡ top_key (spot_by t w.block (pick_at (y.pick j))).key) (sym (old j i)) (y.headed.key j i h));
             more =
-                put_all y.pick n d.pick (λ j x. j < n + 1 → x.there ≡ true → Laddered t (slot_by t rows' j).block q x.key x.more) (λ l. d.picked.more)
+                put_all y.pick n d.pick (λ j x. j < n + 1 → is_some x ≡ true → Laddered t (slot_by t rows' j).block q (pick_key x) (pick_more x)) (λ l. d.picked.more)
                 (λ j f l h.
                 let i : j < n = omega (arith, f) in
-                subst (λ (w : Slot). Laddered t w.block q (y.pick j).key (y.pick j).more) (sym (old j i)) (y.headed.more j i h));
+                subst (λ (w : Slot). Laddered t w.block q (pick_key (y.pick j)) (pick_more (y.pick j))) (sym (old j i)) (y.headed.more j i h));
           }
 
       going : (x1 x2 : ℤ) → q ≡ top_query x1 x2 0 → Underway t x1 x2 k (slot_by t rows') (head_by t rows' pick) (cell_by t q rows' kid) (n + 1) y.given (s.block ∷ y.blocks)
       going x1 x2 asks =
           node-read t x1 x2 k (slot_by t rows) (head_by t rows y.pick) (cell_by t q rows y.kid) n y.given y.blocks s a (y.poised x1 x2 asks) alone valid
-          (sym (y.seen_is.bits s.block) ∙ v.new ok) stands (slot_by t rows') (head_by t rows' pick) (cell_by t q rows' kid)
+          (sym (y.seen_is.bits s.block) ∙ v.new (ap is_some ok)) stands (slot_by t rows') (head_by t rows' pick) (cell_by t q rows' kid)
           old
           new
-          (λ j l. ap₂ (λ (w : Slot) (p : Pick). next_of t w.block p) (old j l) (put-old y.pick n d.pick n refl j l))
+          (λ j l. ap₂ (λ (w : Slot) (p : Option Pick). next_of t w.block p) (old j l) (put-old y.pick n d.pick n refl j l))
           (subst (Under all_keys (shown_of t (top_query x1 x2 0) s)) (ap (next_of t (slot_by t rows' n).block) (sym (put_same y.pick n d.pick)))
           (subst (λ (u : Query). Under all_keys (shown_of t u s) (next_of t (slot_by t rows' n).block d.pick)) asks
           (subst (λ (ss : List Spot). Under all_keys ss (next_of t (slot_by t rows' n).block d.pick)) (ap (found_in t q) new ∙ shown-is t q s stands) d.picked.under)))
           (λ j l.
           let i : j / 8 < n = omega arith in
-          ap₂ (λ (w : Slot) (x : KidPick). cell_of t q w x.key (j % 8)) (old (j / 8) i) (put-old y.kid n d.kid n refl (j / 8) i))
+          ap₂ (λ (w : Slot) (x : Option KidPick). cell_of t q w (best_key x) (j % 8)) (old (j / 8) i) (put-old y.kid n d.kid n refl (j / 8) i))
           (λ i l.
           let g : (8 * n + i) / 8 ≡ n = omega arith in
           let h : (8 * n + i) % 8 ≡ i = omega arith in
-          ap₂ (λ (x c : ℕ). cell_of t q (slot_by t rows' x) (kid x).key c) g h
-          ∙ ap₂ (λ (w : Slot) (x : KidPick). cell_of t q w x.key i) new (put_same y.kid n d.kid)
+          ap₂ (λ (x c : ℕ). cell_of t q (slot_by t rows' x) (best_key (kid x)) c) g h
+          ∙ ap₂ (λ (w : Slot) (x : Option KidPick). cell_of t q w (best_key x) i) new (put_same y.kid n d.kid)
           ∙ cell-first t q s d.best i l
           ∙ ap (λ (u : Query). kid_cell t s.block s.span u i) asks)
 
-      pub ready-swept : Swept t q k room base seen' out rows' kids' heads' r.sizes count
+      pub ready-swept : Swept t q k room base seen' out rows' kids' heads' z' count
       ready-swept =
           let w = sym d.slots in
           record {
             some = omega arith;
             chain = subst (Chain t rows') w chain;
             kid = kid;
-            known = subst (λ (i : ℕ). Kids t q rows' kids' r.sizes.kids i kid) w known;
+            known = subst (λ (i : ℕ). Kids t q rows' kids' z'.kids i kid) w known;
             blocks = s.block ∷ y.blocks;
             sofar =
-                subst (λ (i : ℕ). Sofar t q k room rows' heads' r.sizes.heads i (cell_by t q rows' kid) base out (s.block ∷ y.blocks) count) w
+                subst (λ (i : ℕ). Sofar t q k room rows' heads' z'.heads i (cell_by t q rows' kid) base out (s.block ∷ y.blocks) count) w
                 (record { pick = pick; headed = headed; given = y.given; going = going; counted = y.counted; output = y.output; fits = y.fits });
-            seen_is = subst (λ (m : List ℕ). Seen m (s.block ∷ y.blocks)) (sym (v.marked ok)) (seen_more s.block e.near y.seen_is);
+            seen_is = subst (λ (m : List ℕ). Seen m (s.block ∷ y.blocks)) (sym (v.marked (ap is_some ok))) (seen_more s.block e.near y.seen_is);
           }

@@ -2,7 +2,7 @@
 -- Assumes nothing.
 use mathlib.Core.Path.{◌≡◌, refl, ap, sym, subst, ◌∙◌}
 use mathlib.Core.Logic.{◌⊎◌, inl, inr, ⊎_elim}
-use mathlib.Core.Bool.{Bool, true, false, cond, ◌||◌, or_comm, true≢false, false≢true}
+use mathlib.Core.Bool.{Bool, true, false, cond, ◌||◌, or_comm, true≢false}
 use mathlib.Core.List.Memᴰ
 use mathlib.Core.List.{List, ◌++◌, Memᴰ}
 use Prim.Native.Nat.{ℕ, ◌+◌, ◌-◌, ◌*◌, ◌/◌, ◌%◌, ◌≤◌, ◌<◌, max}
@@ -39,11 +39,14 @@ use Rattle.frontier.specs.declared.KidPick.{KidPick}
 use Rattle.frontier.specs.Frontier.{root_slot, slot_place, slot_by, Standing}
 use Rattle.frontier.proofs.Chains.{child-inside}
 use Rattle.top.specs.declared.Sizes.{Sizes}
-use Rattle.top.specs.declared.Joined.{Joined}
 use Rattle.top.specs.declared.Fresh.{Fresh}
 use Rattle.top.specs.declared.Given.{Given}
-use Rattle.top.specs.declared.Search.{Search}
 use Rattle.top.specs.declared.TopTally.{TopTally}
+use Rattle.top.specs.declared.Stop.TheVariants.{Broken, Short}
+use Rattle.std.specs.Prelude.{Option, Some, None, Result, Ok, Err}
+use Rattle.std.specs.Result.{IsErrAnd}
+use Rattle.std.specs.Option.{ok_or}
+use Rattle.frontier.specs.Picks.{best_key}
 use Rattle.top.specs.Reading.{pend_of, child_of, unread_of, found_of}
 use Rattle.top.specs.Rows.{first_key, first_value, head_by, cell_by}
 use Rattle.top.specs.Runs.{top_parent, top_slot, top_entry, with_kids, with_heads, leads_with, KidTaken, Readable, NodeRead, NextKid, KidRead, Givable, Gave, Seen, Swept, Searchable, Halted, Stuck, Searched, Runnable, WideRun, WithinFront, TopFront}
@@ -265,7 +268,7 @@ module _ {t : List ℕ} {q : Query} {k room : ℕ} {base seen out : List ℕ} {r
                 (ready-readable (ready v) (enters l) l cap (e ∙ kr) hr)));
           }
 
-      module _ {seen' : List ℕ} {rows' kids' heads' : List (List ℕ)} {r : Joined} (v : KidRead t q seen seen' rows rows' kids kids' heads heads' z r) where
+      module _ {seen' : List ℕ} {rows' kids' heads' : List (List ℕ)} {r : Option Sizes} (v : KidRead t q seen seen' rows rows' kids kids' heads heads' z r) where
         abbrev tie : Bool
         tie = leads_with v.via v.fresh.kids (first_key kids)
 
@@ -281,8 +284,8 @@ module _ {t : List ℕ} {q : Query} {k room : ℕ} {base seen out : List ℕ} {r
         after = cell_by t q rows (ready v.taken).kid
 
         -- cells that are not 0 are one more than their ranks
-        rank-at : (kid : ℕ → KidPick) (c : ℕ) → 0 < cell_by t q rows kid c → promised (child_of t (slot_by t rows (c / 8)) (c % 8)) + 1 ≡ cell_by t q rows kid c
-        rank-at kid c l = cell-rank t q (slot_by t rows (c / 8)) (kid (c / 8)).key (c % 8) l
+        rank-at : (kid : ℕ → Option KidPick) (c : ℕ) → 0 < cell_by t q rows kid c → promised (child_of t (slot_by t rows (c / 8)) (c % 8)) + 1 ≡ cell_by t q rows kid c
+        rank-at kid c l = cell-rank t q (slot_by t rows (c / 8)) (best_key (kid (c / 8))) (c % 8) l
 
         rank-here : promised (pend_of t (top_slot t rows kids) (Child (top_entry t rows kids))) + 1 ≡ cell_by t q rows s.kid (first_value kids)
         rank-here = rank-at s.kid (first_value kids) (kid-cell-some s.kid s.known s.chain some-kids)
@@ -303,28 +306,29 @@ module _ {t : List ℕ} {q : Query} {k room : ℕ} {base seen out : List ℕ} {r
             (omega (arith, rank-at (ready v.taken).kid r.0 r.2, rank-here, ap promised r.3, d.0))
             (sym (ap (λ (x : Pending). x.part.block) r.3) ∙ d.1)
 
-        pub kid-stuck : r.ok ≡ false → (x1 x2 : ℤ) → q ≡ top_query x1 x2 0 → Stuck t x1 x2 k most
+        pub kid-stuck : r ≡ None → (x1 x2 : ℤ) → q ≡ top_query x1 x2 0 → Stuck t x1 x2 k most
         kid-stuck e x1 x2 asks = go tie refl
           where
             go : (b : Bool) → tie ≡ b → Stuck t x1 x2 k most
             go true f = tied f x1 x2 asks
             go false f = ready-stuck (ready v.taken) most more.2 x1 x2 asks ((read f).broken e)
 
-        apart : r.ok ≡ true → tie ≡ false
-        apart e = go tie refl
-          where
-            go : (b : Bool) → tie ≡ b → tie ≡ false
-            go true f = absurd (true≢false (sym e ∙ v.tied f))
-            go false f = f
+        module _ {z' : Sizes} (e : r ≡ Some z') where
+          apart : tie ≡ false
+          apart = go tie refl
+            where
+              go : (b : Bool) → tie ≡ b → tie ≡ false
+              go true f = let y : ⊥ = cc (v.tied f) in absurd y
+              go false f = f
 
-        pub kid-swept : z.slots < length rows → r.ok ≡ true → Swept t q k room base seen' out rows' kids' heads' r.sizes count
-        kid-swept l e = ready-swept (ready v.taken) (enters l) (alone (apart e)) (read (apart e)) e
+          pub kid-swept : z.slots < length rows → Swept t q k room base seen' out rows' kids' heads' z' count
+          kid-swept l = ready-swept (ready v.taken) (enters l) (alone apart) (read apart) e
 
-        pub kid-slots : r.ok ≡ true → r.sizes.slots ≡ z.slots + 1
-        kid-slots e = ((v.read (apart e)).added e).slots
+          pub kid-slots : z'.slots ≡ z.slots + 1
+          kid-slots = ((v.read apart).added z' e).slots
 
-        pub kid-allowed : r.ok ≡ true → r.sizes.slots ≤ most
-        kid-allowed e = omega (arith, kid-slots e, more.2)
+          pub kid-allowed : z'.slots ≤ most
+          kid-allowed = omega (arith, kid-slots, more.2)
 
 -- ---- from the root
 
@@ -344,20 +348,20 @@ module _ {t : List ℕ} {q : Query} {k most room : ℕ} {seen out : List ℕ} {r
       subst (λ (x : Place). Readable t seen rows kids heads none x (Root x.block) 0) (sym is)
       (ready-readable root-set root_in (omega (arith, p.slots)) p.few p.kid_rows p.head_rows)
 
-  module _ {seen' : List ℕ} {rows' kids' heads' : List (List ℕ)} {r : Joined}
+  module _ {seen' : List ℕ} {rows' kids' heads' : List (List ℕ)} {r : Option Sizes}
       (v : NodeRead t q seen seen' rows rows' kids kids' heads heads' (record { slots = 0; kids = 0; heads = 0 }) root (Root root.block) 0 r) where
     root-read : NodeRead t q seen seen' rows rows' kids kids' heads heads' none (slot_place (root_slot t)) (Root (root_slot t).block) 0 r
     root-read = subst (λ (x : Place). NodeRead t q seen seen' rows rows' kids kids' heads heads' none x (Root x.block) 0 r) is v
 
-    pub root-stuck : r.ok ≡ false → (x1 x2 : ℤ) → q ≡ top_query x1 x2 0 → Stuck t x1 x2 k most
+    pub root-stuck : r ≡ None → (x1 x2 : ℤ) → q ≡ top_query x1 x2 0 → Stuck t x1 x2 k most
     root-stuck e x1 x2 asks = ready-stuck root-set most p.allowed x1 x2 asks (root-read.broken e)
 
-    pub root-swept : r.ok ≡ true → Swept t q k room out seen' out rows' kids' heads' r.sizes 0
+    pub root-swept : {z' : Sizes} → r ≡ Some z' → Swept t q k room out seen' out rows' kids' heads' z' 0
     root-swept e = ready-swept root-set root_in (λ u i d. Memᴰ.not-nil i) root-read e
 
     -- it is the first of the blocks allowed
-    pub root-allowed : r.ok ≡ true → r.sizes.slots ≤ most
-    root-allowed e = omega (arith, (v.added e).slots, p.allowed)
+    pub root-allowed : {z' : Sizes} → r ≡ Some z' → z'.slots ≤ most
+    root-allowed {z'} e = omega (arith, (v.added z' e).slots, p.allowed)
 
 -- a header that breaks a rule
 pub head-stuck : (t : List ℕ) (x1 x2 : ℤ) (k most : ℕ) → header_ok (length t) (head_of t) ≡ false → Stuck t x1 x2 k most
@@ -375,25 +379,37 @@ swept-few {t} x1 x2 {q} {k} {rows = rows} {z = z} asks s =
     let o = s.sofar in
     slots-few t x1 x2 k (slot_by t rows) (head_by t rows o.pick) (cell_by t q rows s.kid) z.slots o.given s.blocks (o.going x1 x2 asks)
 
+-- ---- what a `?` at `ok_or` says of the option
+
+pub ok-was : {A E : Type 0} (o : Option A) (e : E) {r : Result A E} {x : A} → r ≡ ok_or o e → r ≡ Ok x → o ≡ Some x
+ok-was None e f g = let y : ⊥ = cc in absurd y
+ok-was (Some y) e f g = cc
+
+pub err-was : {A B E : Type 0} (o : Option A) (e : E) {d : E} {r : Result A E} → r ≡ ok_or o e → r ≡ Err d → (r' : Result B E) → IsErrAnd r' (λ x. x ≡ d) → (o ≡ None) × (r' ≡ Err e)
+err-was None e f g (Ok x) h = absurd h
+err-was None e f g (Err x) h = (refl, cc)
+err-was (Some y) e f g r' h = let z : ⊥ = cc in absurd z
+
 -- ---- a search that gives nothing: a rule is broken, or the slots are few
 
-module _ {t : List ℕ} {q : Query} {k most room cap : ℕ} {out seen' out' : List ℕ} {r : Search} where
-  pub searched-broken : r ≡ record { ok = false; short = false; spots = 0; ceiling = 0 } → drop (12 * room) out' ≡ drop (12 * room) out
-      → ((x1 x2 : ℤ) → q ≡ top_query x1 x2 0 → Stuck t x1 x2 k most) → Searched t q k most room cap out seen' out' r
-  searched-broken e d h =
-      subst (Searched t q k most room cap out seen' out') (sym e)
-      (record { short = λ z. absurd (false≢true z); fails = λ x1 x2 a y z. h x1 x2 a; ends = λ x1 x2 a z. absurd (false≢true z); behind = d })
+module _ {t : List ℕ} {q : Query} {k most room cap : ℕ} {out seen' out' : List ℕ} where
+  pub searched-broken : drop (12 * room) out' ≡ drop (12 * room) out → ((x1 x2 : ℤ) → q ≡ top_query x1 x2 0 → Stuck t x1 x2 k most)
+      → Searched t q k most room cap out seen' out' (Err Broken)
+  searched-broken d h = record { short = λ z. let y : ⊥ = cc in absurd y; fails = λ x1 x2 a y. h x1 x2 a; ends = λ x1 x2 a s z. let y : ⊥ = cc in absurd y; behind = d }
 
-  pub searched-short : r ≡ record { ok = false; short = true; spots = 0; ceiling = 0 } → drop (12 * room) out' ≡ drop (12 * room) out → cap ≤ 4095
-      → Searched t q k most room cap out seen' out' r
-  searched-short e d l =
-      subst (Searched t q k most room cap out seen' out') (sym e)
-      (record { short = λ z. l; fails = λ x1 x2 a y z. absurd (true≢false y); ends = λ x1 x2 a z. absurd (false≢true z); behind = d })
+  pub searched-short : drop (12 * room) out' ≡ drop (12 * room) out → cap ≤ 4095 → Searched t q k most room cap out seen' out' (Err Short)
+  searched-short d l = record { short = λ z. l; fails = λ x1 x2 a z. let y : ⊥ = cc in absurd y; ends = λ x1 x2 a s z. let y : ⊥ = cc in absurd y; behind = d }
 
--- with the same number of slots
-pub searched-as : {t : List ℕ} {q : Query} {k most room cap cap' : ℕ} {out seen' out' : List ℕ} {r : Search} → cap ≡ cap'
-    → Searched t q k most room cap out seen' out' r → Searched t q k most room cap' out seen' out' r
-searched-as {t} {q} {k} {most} {room} {out = out} {seen' = seen'} {out' = out'} {r = r} e s = subst (λ (c : ℕ). Searched t q k most room c out seen' out' r) e s
+  -- and one that is at its end
+  pub searched-done : {s : TopTally} → drop (12 * room) out' ≡ drop (12 * room) out → ((x1 x2 : ℤ) → q ≡ top_query x1 x2 0 → Halted t x1 x2 k most room out seen' out' s.spots s.ceiling)
+      → Searched t q k most room cap out seen' out' (Ok s)
+  searched-done {s} d h =
+      record {
+        short = λ z. let y : ⊥ = cc in absurd y;
+        fails = λ x1 x2 a z. let y : ⊥ = cc in absurd y;
+        ends = λ x1 x2 a x z. let e : s ≡ x = cc in subst (λ (y : TopTally). Halted t x1 x2 k most room out seen' out' y.spots y.ceiling) e (h x1 x2 a);
+        behind = d;
+      }
 
 -- ---- a whole search
 
@@ -418,33 +434,17 @@ look-ready n some few r =
       head_rows = refl;
     }
 
-pub run-wide : {t : List ℕ} {q : Query} {k most room : ℕ} {out seen' out' : List ℕ} {r : Search} → Searched t q k most room 4096 out seen' out' r
-    → WideRun t q k most room out seen' out' (record { ok = r.ok; spots = r.spots; ceiling = r.ceiling })
-run-wide {r = r} s =
-    record {
-      fails = λ x1 x2 a f. s.fails x1 x2 a (long r.short refl) f;
-      ends = s.ends;
-    }
-  where
-    long : (b : Bool) → r.short ≡ b → r.short ≡ false
-    long true e = let z : ⊥ = omega (arith, s.short e) in absurd z
-    long false e = e
-
-pub run-some : {t : List ℕ} {q : Query} {k most room cap : ℕ} {out seen' out' : List ℕ} {r : Search} → r.short ≡ false → Searched t q k most room cap out seen' out' r
-    → WithinFront t q k most room out seen' out' (record { ok = r.ok; spots = r.spots; ceiling = r.ceiling })
-run-some {out = out} e s = record { fails = λ x1 x2 a f. s.fails x1 x2 a e f; ends = λ x1 x2 a g. record { base = out; long = refl; behind = refl; halted = s.ends x1 x2 a g } }
-
-pub run-again : {t : List ℕ} {q : Query} {k most room : ℕ} {out via seen' out' : List ℕ} {r : TopTally} → length via ≡ length out → drop (12 * room) via ≡ drop (12 * room) out
+pub run-again : {t : List ℕ} {q : Query} {k most room : ℕ} {out via seen' out' : List ℕ} {r : Option TopTally} → length via ≡ length out → drop (12 * room) via ≡ drop (12 * room) out
     → WideRun t q k most room via seen' out' r → WithinFront t q k most room out seen' out' r
-run-again {via = via} e d s = record { fails = s.fails; ends = λ x1 x2 a g. record { base = via; long = e; behind = d; halted = s.ends x1 x2 a g } }
+run-again {via = via} e d s = record { fails = s.fails; ends = λ x1 x2 a x g. record { base = via; long = e; behind = d; halted = s.ends x1 x2 a x g } }
 
 -- with an allowance that no table reaches it is Top
-pub run-top : {t : List ℕ} {q : Query} {k most room : ℕ} {out seen' out' : List ℕ} {r : TopTally} → 4096 ≤ most → WithinFront t q k most room out seen' out' r → TopFront t q k room out seen' out' r
+pub run-top : {t : List ℕ} {q : Query} {k most room : ℕ} {out seen' out' : List ℕ} {r : Option TopTally} → 4096 ≤ most → WithinFront t q k most room out seen' out' r → TopFront t q k room out seen' out' r
 run-top all s =
     record {
       fails = λ x1 x2 a f. (s.fails x1 x2 a f).top;
-      ends = λ x1 x2 a g.
-          let h = s.ends x1 x2 a g in
+      ends = λ x1 x2 a x g.
+          let h = s.ends x1 x2 a x g in
           let z = h.halted in
           record {
             base = h.base;

@@ -7,8 +7,9 @@ use mathlib.Core.List.{List}
 use Prim.Native.Nat.{ℕ, ◌+◌, ◌-◌, ◌*◌, ◌/◌, ◌%◌, ◌≤◌, ◌<◌}
 use native.Mathlib.Omega.{arith}
 use lib.ListN.{length}
-use lib.Dec.{ltb, eqb}
-use borrow.Author.Tests.{le-leb, lt-leb, ltb-true, lt-ltb, eqb-true, eqb-false, eq-eqb, ne_eqb}
+use Rattle.std.specs.Prelude.{Option, Some, None, is_some}
+use lib.Dec.{eqb}
+use borrow.Author.Tests.{le-leb, lt-leb, eqb-true, eqb-false, eq-eqb, ne_eqb}
 use Rattle.octets.proofs.Order.{same_or_not, less-or-not}
 use Rattle.octets.specs.Bytes.{be}
 use Rattle.spot.specs.Keys.{all_keys, rank_of}
@@ -23,13 +24,18 @@ use Rattle.tree.specs.Walk.{admits}
 use Rattle.tree.proofs.Sources.{header-few}
 use Rattle.frontier.specs.declared.KidPick.{KidPick}
 use Rattle.frontier.specs.Frontier.{Slot, kid_count, kid_entry, kid_part, kid_cell, kid_key, slot_by, Chain}
-use Rattle.frontier.specs.Picks.{KidBest}
+use Rattle.frontier.specs.Picks.{best_key, best_at, KidBest}
 use Rattle.frontier.proofs.Kids.{cell-says, key-cell, key-some, some_key, key-yes, keys-apart}
 use Rattle.frontier.proofs.Chains.{stands-valid, child-inside}
 use Rattle.top.specs.Rows.{kid_row, first_key, first_value, cell_of, cell_by, Lowered, Kids}
 use Rattle.top.specs.Runs.{Takable, leads_with}
 use Rattle.top.proofs.Heaps.{put, put_same, put_other, put_all, First, first-row, first-most}
 use Rattle.top.proofs.Steps.{block_at}
+
+-- a child whose key is above 0 is there
+kid-there : (k : Option KidPick) → 0 < best_key k → is_some k ≡ true
+kid-there None h = let z : ⊥ = omega arith in absurd z
+kid-there (Some x) h = refl
 
 -- ---- keys are small
 
@@ -108,41 +114,41 @@ module _ (t : List ℕ) (q : Query) (s : Slot) where
       )
 
   -- all are unread at first
-  pub cell-first : {r : KidPick} → KidBest t s.block s.span q 18446744073709551615 r → (i : ℕ) → i < 8 → cell_of t q s r.key i ≡ cell i
-  cell-first {r} b i l = cell_in r.key i (b.over i l (key-small i))
+  pub cell-first : {r : Option KidPick} → KidBest t s.block s.span q 18446744073709551615 r → (i : ℕ) → i < 8 → cell_of t q s (best_key r) i ≡ cell i
+  cell-first {r} b i l = cell_in (best_key r) i (b.over i l (key-small i))
 
   -- the best is taken
-  module _ (v : ValidBlock t s.block) (sized : table_sized (length t) ≡ true) (most at : ℕ) (some : 0 < most) (is : most ≡ key at) (r : KidPick) (b : KidBest t s.block s.span q (most - 1) r) where
-    next_low_lem : r.key < most
-    next_low_lem = ⊎_elim (λ (z : r.key ≡ 0). omega arith) (λ (d : r.key ≡ 0 → ⊥). let l : 0 < r.key = omega (arith, d) in omega (arith, (b.held l).1)) (same_or_not r.key 0)
+  module _ (v : ValidBlock t s.block) (sized : table_sized (length t) ≡ true) (most at : ℕ) (some : 0 < most) (is : most ≡ key at) (r : Option KidPick) (b : KidBest t s.block s.span q (most - 1) r) where
+    next_low_lem : (best_key r) < most
+    next_low_lem = ⊎_elim (λ (z : (best_key r) ≡ 0). omega arith) (λ (d : (best_key r) ≡ 0 → ⊥). let l : 0 < (best_key r) = omega (arith, d) in omega (arith, (b.held l).1)) (same_or_not (best_key r) 0)
 
-    cell-taken : cell_of t q s r.key at ≡ 0
-    cell-taken = let l = next_low_lem in cell_out r.key at (omega arith)
+    cell-taken : cell_of t q s (best_key r) at ≡ 0
+    cell-taken = let l = next_low_lem in cell_out (best_key r) at (omega arith)
 
-    cell-kept : (i : ℕ) → i < 8 → (i ≡ at → ⊥) → cell_of t q s r.key i ≡ cell_of t q s most i
+    cell-kept : (i : ℕ) → i < 8 → (i ≡ at → ⊥) → cell_of t q s (best_key r) i ≡ cell_of t q s most i
     cell-kept i l d =
         let m = next_low_lem in
         let n : key i ≡ most → ⊥ = λ e. d (keys-apart t s.block v sized s.span q i at (omega arith) (e ∙ is)) in
         ⊎_elim
-        (λ (h : key i ≤ most - 1). let g = b.over i l h in cell_in r.key i g ∙ sym (cell_in most i (omega arith)))
-        (λ (h : most - 1 < key i). let g : most < key i = omega (arith, n) in cell_out r.key i (omega arith) ∙ sym (cell_out most i g))
+        (λ (h : key i ≤ most - 1). let g = b.over i l h in cell_in (best_key r) i g ∙ sym (cell_in most i (omega arith)))
+        (λ (h : most - 1 < key i). let g : most < key i = omega (arith, n) in cell_out (best_key r) i (omega arith) ∙ sym (cell_out most i g))
         (less-or-not (key i) (most - 1))
 
 -- ---- the first row of the heap of children
 
-module _ {t : List ℕ} {q : Query} {rows kids : List (List ℕ)} {m n : ℕ} (kid : ℕ → KidPick) (u : Kids t q rows kids m n kid) where
+module _ {t : List ℕ} {q : Query} {rows kids : List (List ℕ)} {m n : ℕ} (kid : ℕ → Option KidPick) (u : Kids t q rows kids m n kid) where
   -- no cell is above the floor
   pub cells_low : (floor : ℕ) → floor ≡ cond (eqb m 0) 0 (first_key kids / 65536) → (c : ℕ) → c < 8 * n → cell_by t q rows kid c ≤ floor
   cells_low floor e c l =
       let s = c / 8 in
       let i : s < n = omega arith in
-      let f = cell-most t q (slot_by t rows s) (kid s).key (c % 8) in
-      ⊎_elim (λ (z : (kid s).key ≡ 0). omega arith)
-      (λ (d : (kid s).key ≡ 0 → ⊥).
-      let g = first-most (λ j. ltb 0 (kid j).key) (λ j. (kid j).key) (λ j. 8 * j + (kid j).at) u.held s i (lt-ltb 0 (kid s).key (omega (arith, d))) in
+      let f = cell-most t q (slot_by t rows s) (best_key (kid s)) (c % 8) in
+      ⊎_elim (λ (z : (best_key (kid s)) ≡ 0). omega arith)
+      (λ (d : (best_key (kid s)) ≡ 0 → ⊥).
+      let g = first-most (λ j. is_some (kid j)) (λ j. best_key (kid j)) (λ j. 8 * j + best_at (kid j)) u.held s i (kid-there (kid s) (omega (arith, d))) in
       let w : floor ≡ first_key kids / 65536 = e ∙ ap (λ (b : Bool). cond b 0 (first_key kids / 65536)) (ne_eqb m 0 (λ z. let y : ⊥ = omega (arith, g.0) in y)) in
       omega (arith, g.1))
-      (same_or_not (kid s).key 0)
+      (same_or_not (best_key (kid s)) 0)
 
   module _ (chain : Chain t rows n) where
     -- the block of a child is one of the table's
@@ -157,13 +163,13 @@ module _ {t : List ℕ} {q : Query} {rows kids : List (List ℕ)} {m n : ℕ} (k
     unread-key c l some =
         let s = c / 8 in
         let i : s < n = omega arith in
-        let k = cell-key t q (slot_by t rows s) (kid s).key (c % 8) some in
-        let g = first-most (λ j. ltb 0 (kid j).key) (λ j. (kid j).key) (λ j. 8 * j + (kid j).at) u.held s i (lt-ltb 0 (kid s).key (omega (arith, k.0, k.1))) in
+        let k = cell-key t q (slot_by t rows s) (best_key (kid s)) (c % 8) some in
+        let g = first-most (λ j. is_some (kid j)) (λ j. best_key (kid j)) (λ j. 8 * j + best_at (kid j)) u.held s i (kid-there (kid s) (omega (arith, k.0, k.1))) in
         (g.0, omega (arith, k.0, k.2, g.1), child-near c l k.3)
 
   module _ (chain : Chain t rows n) (some : 0 < m) where
-    pub kid-row : First kids (λ j. ltb 0 (kid j).key) (λ j. (kid j).key) (λ j. 8 * j + (kid j).at) n
-    kid-row = first-row (λ j. ltb 0 (kid j).key) (λ j. (kid j).key) (λ j. 8 * j + (kid j).at) u.held some
+    pub kid-row : First kids (λ j. is_some (kid j)) (λ j. best_key (kid j)) (λ j. 8 * j + best_at (kid j)) n
+    kid-row = first-row (λ j. is_some (kid j)) (λ j. best_key (kid j)) (λ j. 8 * j + best_at (kid j)) u.held some
 
     abbrev s : ℕ
     s = kid-row.at
@@ -171,30 +177,30 @@ module _ {t : List ℕ} {q : Query} {rows kids : List (List ℕ)} {m n : ℕ} (k
     abbrev parent : Slot
     parent = slot_by t rows s
 
-    index : (kid s).at < 8
+    index : (best_at (kid s)) < 8
     index = u.index s kid-row.inside
 
     kid-slot : first_value kids / 8 ≡ s
     kid-slot = let e = kid-row.value-is in let l = index in omega arith
 
-    kid_at : first_value kids % 8 ≡ (kid s).at
+    kid_at : first_value kids % 8 ≡ best_at (kid s)
     kid_at = let e = kid-row.value-is in let l = index in omega arith
 
-    key-some-row : 0 < (kid s).key
-    key-some-row = ltb-true 0 (kid s).key kid-row.there
+    key-some-row : 0 < best_key (kid s)
+    key-some-row = u.some s kid-row.inside kid-row.there
 
     kid-key-some : 0 < first_key kids
     kid-key-some = let e = kid-row.key-is in let l = key-some-row in omega arith
 
-    key-is : (kid s).key ≡ kid_key t parent.block parent.span q (kid s).at
+    key-is : (best_key (kid s)) ≡ kid_key t parent.block parent.span q (best_at (kid s))
     key-is = u.key s kid-row.inside key-some-row
 
     -- its cell is the floor
     pub kid-cell : cell_by t q rows kid (first_value kids) ≡ first_key kids / 65536
     kid-cell =
         let e = key-is in
-        ap₂ (λ (a b : ℕ). cell_of t q (slot_by t rows a) (kid a).key b) kid-slot kid_at ∙ cell_in t q parent (kid s).key (kid s).at (omega arith)
-        ∙ sym (key-cell t parent.block parent.span q (kid s).at) ∙ ap (λ (x : ℕ). x / 65536) (sym key-is ∙ sym kid-row.key-is)
+        ap₂ (λ (a b : ℕ). cell_of t q (slot_by t rows a) (best_key (kid a)) b) kid-slot kid_at ∙ cell_in t q parent (best_key (kid s)) (best_at (kid s)) (omega arith)
+        ∙ sym (key-cell t parent.block parent.span q (best_at (kid s))) ∙ ap (λ (x : ℕ). x / 65536) (sym key-is ∙ sym kid-row.key-is)
 
     pub kid-inside : first_value kids < 8 * n
     kid-inside = let e = kid-row.value-is in let l = kid-row.inside in let i = index in omega arith
@@ -202,22 +208,22 @@ module _ {t : List ℕ} {q : Query} {rows kids : List (List ℕ)} {m n : ℕ} (k
     pub kid-cell-some : 0 < cell_by t q rows kid (first_value kids)
     kid-cell-some =
         let e = kid-row.key-is in
-        let l = key-some t parent.block parent.span q (kid s).at (subst (λ (x : ℕ). 0 < x) key-is key-some-row) in
-        omega (arith, kid-cell, key-is, key-cell t parent.block parent.span q (kid s).at)
+        let l = key-some t parent.block parent.span q (best_at (kid s)) (subst (λ (x : ℕ). 0 < x) key-is key-some-row) in
+        omega (arith, kid-cell, key-is, key-cell t parent.block parent.span q (best_at (kid s)))
 
     -- its key is made of its cell and its block
     kid-key : (first_key kids ≡ cell_by t q rows kid (first_value kids) * 65536 + (65535 - block_at t (slot_by t rows) (first_value kids))) × (block_at t (slot_by t rows) (first_value kids) < 65536)
     kid-key =
         let c = first_value kids in
-        let k = cell-key t q (slot_by t rows (c / 8)) (kid (c / 8)).key (c % 8) kid-cell-some in
+        let k = cell-key t q (slot_by t rows (c / 8)) (best_key (kid (c / 8))) (c % 8) kid-cell-some in
         (kid-row.key-is ∙ key-is ∙ sym (ap₂ (λ (a b : ℕ). kid_key t (slot_by t rows a).block (slot_by t rows a).span q b) kid-slot kid_at) ∙ k.2, child-near chain c kid-inside k.3)
 
     -- it is a child that the query admits
-    kid-says : ((kid s).at < kid_count t parent.block) × (admits q (kid_part t parent.block parent.span (kid s).at) ≡ true)
+    kid-says : (best_at (kid s) < kid_count t parent.block) × (admits q (kid_part t parent.block parent.span (best_at (kid s))) ≡ true)
     kid-says =
-        let l = key-some t parent.block parent.span q (kid s).at (subst (λ (x : ℕ). 0 < x) key-is key-some-row) in
-        ⊎_elim (λ (z : kid_cell t parent.block parent.span q (kid s).at ≡ 0). let y : ⊥ = omega arith in absurd y) (λ w. (w.0, w.1))
-        (cell-says t parent.block parent.span q (kid s).at)
+        let l = key-some t parent.block parent.span q (best_at (kid s)) (subst (λ (x : ℕ). 0 < x) key-is key-some-row) in
+        ⊎_elim (λ (z : kid_cell t parent.block parent.span q (best_at (kid s)) ≡ 0). let y : ⊥ = omega arith in absurd y) (λ w. (w.0, w.1))
+        (cell-says t parent.block parent.span q (best_at (kid s)))
 
     pub kid-below : first_value kids % 8 < kid_count t (slot_by t rows (first_value kids / 8)).block
     kid-below =
@@ -256,8 +262,8 @@ module _ {t : List ℕ} {q : Query} {rows kids : List (List ℕ)} {m n : ℕ} (k
 
     -- ---- it is taken
 
-    module _ (next : KidPick) (b : KidBest t (slot_by t rows (first_value kids / 8)).block (slot_by t rows (first_value kids / 8)).span q (first_key kids - 1) next) where
-      best : KidBest t parent.block parent.span q ((kid s).key - 1) next
+    module _ (next : Option KidPick) (b : KidBest t (slot_by t rows (first_value kids / 8)).block (slot_by t rows (first_value kids / 8)).span q (first_key kids - 1) next) where
+      best : KidBest t parent.block parent.span q ((best_key (kid s)) - 1) next
       best =
           subst (λ (x : ℕ). KidBest t parent.block parent.span q (x - 1) next) kid-row.key-is
           (subst (λ (j : ℕ). KidBest t (slot_by t rows j).block (slot_by t rows j).span q (first_key kids - 1) next) kid-slot b)
@@ -269,9 +275,10 @@ module _ {t : List ℕ} {q : Query} {rows kids : List (List ℕ)} {m n : ℕ} (k
                 v.held (λ j. kid_row j (kid j)) (λ j. kid_row j (put kid s next j)) n s u.held kid-row.inside kid-row.row_is
                 (ap (kid_row s) (put_same kid s next) ∙ ap (λ (j : ℕ). kid_row j next) (sym kid-slot))
                 (λ j d. ap (kid_row j) (put_other kid s next j d));
-            index = put_all kid s next (λ j k. j < n → k.at < 8) (λ l. best.index) (λ j d. u.index j);
+            some = put_all kid s next (λ j k. j < n → is_some k ≡ true → 0 < best_key k) (λ l. best.some) (λ j d. u.some j);
+            index = put_all kid s next (λ j k. j < n → best_at k < 8) (λ l. best.index) (λ j d. u.index j);
             key =
-                put_all kid s next (λ j k. j < n → 0 < k.key → k.key ≡ kid_key t (slot_by t rows j).block (slot_by t rows j).span q k.at)
+                put_all kid s next (λ j k. j < n → 0 < best_key k → best_key k ≡ kid_key t (slot_by t rows j).block (slot_by t rows j).span q (best_at k))
                 (λ l p. (best.held p).0)
                 (λ j d. u.key j);
           }
@@ -281,32 +288,32 @@ module _ {t : List ℕ} {q : Query} {rows kids : List (List ℕ)} {m n : ℕ} (k
 
       pub cell-clear : cell_by t q rows (put kid s next) (first_value kids) ≡ 0
       cell-clear =
-          ap₂ (λ (a i : ℕ). cell_of t q (slot_by t rows a) (put kid s next a).key i) kid-slot kid_at
-          ∙ ap (λ (k : KidPick). cell_of t q parent k.key (kid s).at) (put_same kid s next)
-          ∙ cell-taken t q parent valid chain.sized (kid s).key (kid s).at key-some-row key-is next best
+          ap₂ (λ (a i : ℕ). cell_of t q (slot_by t rows a) (best_key (put kid s next a)) i) kid-slot kid_at
+          ∙ ap (λ (k : Option KidPick). cell_of t q parent (best_key k) (best_at (kid s))) (put_same kid s next)
+          ∙ cell-taken t q parent valid chain.sized (best_key (kid s)) (best_at (kid s)) key-some-row key-is next best
 
       pub cell_same : (j : ℕ) → (j ≡ first_value kids → ⊥) → cell_by t q rows (put kid s next) j ≡ cell_by t q rows kid j
       cell_same j d =
           let v = kid-row.value-is in
           ⊎_elim
           (λ (e : j / 8 ≡ s).
-          let n : j % 8 ≡ (kid s).at → ⊥ = λ z. let y : ⊥ = omega (arith, d) in y in
-          ap (λ (a : ℕ). cell_of t q (slot_by t rows a) (put kid s next a).key (j % 8)) e
-          ∙ ap (λ (k : KidPick). cell_of t q parent k.key (j % 8)) (put_same kid s next)
-          ∙ cell-kept t q parent valid chain.sized (kid s).key (kid s).at key-some-row key-is next best (j % 8) (omega arith) n
-          ∙ sym (ap (λ (a : ℕ). cell_of t q (slot_by t rows a) (kid a).key (j % 8)) e))
-          (λ (e : j / 8 ≡ s → ⊥). ap (λ (k : KidPick). cell_of t q (slot_by t rows (j / 8)) k.key (j % 8)) (put_other kid s next (j / 8) e))
+          let n : j % 8 ≡ best_at (kid s) → ⊥ = λ z. let y : ⊥ = omega (arith, d) in y in
+          ap (λ (a : ℕ). cell_of t q (slot_by t rows a) (best_key (put kid s next a)) (j % 8)) e
+          ∙ ap (λ (k : Option KidPick). cell_of t q parent (best_key k) (j % 8)) (put_same kid s next)
+          ∙ cell-kept t q parent valid chain.sized (best_key (kid s)) (best_at (kid s)) key-some-row key-is next best (j % 8) (omega arith) n
+          ∙ sym (ap (λ (a : ℕ). cell_of t q (slot_by t rows a) (best_key (kid a)) (j % 8)) e))
+          (λ (e : j / 8 ≡ s → ⊥). ap (λ (k : Option KidPick). cell_of t q (slot_by t rows (j / 8)) (best_key k) (j % 8)) (put_other kid s next (j / 8) e))
           (same_or_not (j / 8) s)
 
 -- ---- another with the same key
 
-module _ {t : List ℕ} {q : Query} {rows kids : List (List ℕ)} {m n : ℕ} (kid : ℕ → KidPick) (u : Kids t q rows kids m n kid) (chain : Chain t rows n) (some : 0 < m) (next : KidPick)
+module _ {t : List ℕ} {q : Query} {rows kids : List (List ℕ)} {m n : ℕ} (kid : ℕ → Option KidPick) (u : Kids t q rows kids m n kid) (chain : Chain t rows n) (some : 0 < m) (next : Option KidPick)
     (b : KidBest t (slot_by t rows (first_value kids / 8)).block (slot_by t rows (first_value kids / 8)).span q (first_key kids - 1) next)
     {via : List (List ℕ)} {m' : ℕ} (v : Lowered kids m (kid_row (first_value kids / 8) next) via m') where
-  abbrev top : First kids (λ j. ltb 0 (kid j).key) (λ j. (kid j).key) (λ j. 8 * j + (kid j).at) n
+  abbrev top : First kids (λ j. is_some (kid j)) (λ j. best_key (kid j)) (λ j. 8 * j + best_at (kid j)) n
   top = kid-row kid u chain some
 
-  abbrev after : ℕ → KidPick
+  abbrev after : ℕ → Option KidPick
   after = put kid top.at next
 
   abbrev left : Kids t q rows via m' n after
@@ -329,17 +336,17 @@ module _ {t : List ℕ} {q : Query} {rows kids : List (List ℕ)} {m n : ℕ} (k
       let r = kid-row after left chain l in
       ⊎_elim
       (λ (e : r.at ≡ s).
-      let w : first_key via ≡ next.key = r.key-is ∙ ap (λ (j : ℕ). (after j).key) e ∙ ap (λ (k : KidPick). k.key) (put_same kid s next) in
+      let w : first_key via ≡ (best_key next) = r.key-is ∙ ap (λ (j : ℕ). best_key (after j)) e ∙ ap (λ (k : Option KidPick). best_key k) (put_same kid s next) in
       omega (
         arith,
         w,
         top.key-is,
-        next_low_lem t q (slot_by t rows s) (valid kid u chain some next b) chain.sized (kid s).key (kid s).at (key-some-row kid u chain some) (key-is kid u chain some) next (best kid u chain some next b),
+        next_low_lem t q (slot_by t rows s) (valid kid u chain some next b) chain.sized (best_key (kid s)) (best_at (kid s)) (key-some-row kid u chain some) (key-is kid u chain some) next (best kid u chain some next b),
       ))
       (λ (d : r.at ≡ s → ⊥).
       let k = put_other kid s next r.at d in
-      let w = first-most (λ j. ltb 0 (kid j).key) (λ j. (kid j).key) (λ j. 8 * j + (kid j).at) u.held r.at r.inside (ap (λ (x : KidPick). ltb 0 x.key) (sym k) ∙ r.there) in
-      omega (arith, r.key-is, ap (λ (x : KidPick). x.key) k, w.1))
+      let w = first-most (λ j. is_some (kid j)) (λ j. best_key (kid j)) (λ j. 8 * j + best_at (kid j)) u.held r.at r.inside (ap (λ (x : Option KidPick). is_some x) (sym k) ∙ r.there) in
+      omega (arith, r.key-is, ap (λ (x : Option KidPick). best_key x) k, w.1))
       (same_or_not r.at s)
 
   -- where the first row left has another key, no unread child shows the same rank and block

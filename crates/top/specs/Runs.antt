@@ -1,6 +1,8 @@
 -- What the functions of Top are handed and hand back.
 -- Assumes nothing.
-use Rattle.std.specs.Prelude.{◌≡◌, Bool, true, false, cond, ◌⊎◌, ℕ, ◌+◌, ◌-◌, ◌*◌, ◌/◌, ◌%◌, ◌≤◌, ◌<◌, length, take, drop, get_or, set, replicate, eqb, ℤ}
+use Rattle.std.specs.Prelude.{◌≡◌, Bool, true, false, cond, ◌⊎◌, ℕ, ◌+◌, ◌-◌, ◌*◌, ◌/◌, ◌%◌, ◌≤◌, ◌<◌, length, take, drop, get_or, set, replicate, eqb, ℤ, Option, None, IsSome, Result, Err}
+use Rattle.std.specs.Option.{ForSome}
+use Rattle.std.specs.Result.{ForOk}
 use mathlib.Core.List.{List, [], ◌∷◌, ◌++◌, Memᴰ}
 use Rattle.octets.specs.Bitmap.{bit, set_bit}
 use Rattle.octets.specs.Lists.{has}
@@ -29,11 +31,11 @@ use Rattle.frontier.specs.declared.Place.{Place}
 use Rattle.frontier.specs.Frontier.{Slot, kid_count, kid_entry, slot_place, child_slot, block_by, slot_by, Chain, Hangs}
 use Rattle.frontier.specs.Picks.{spot_count, found_in, Laddered, PickedUnder, KidBest}
 use Rattle.top.specs.declared.Sizes.{Sizes}
-use Rattle.top.specs.declared.Joined.{Joined}
 use Rattle.top.specs.declared.Fresh.{Fresh}
 use Rattle.top.specs.declared.Given.{Given}
-use Rattle.top.specs.declared.Search.{Search}
 use Rattle.top.specs.declared.TopTally.{TopTally}
+use Rattle.top.specs.declared.Stop.{Stop}
+use Rattle.top.specs.declared.Stop.TheVariants.{Broken, Short}
 use Rattle.top.specs.Reading.{Underway}
 use Rattle.top.specs.Rows.{pick_row, kid_row, first_key, first_value, lead_at, lead_slot, lead_more, head_by, cell_by, Hung, Lowered, Heads, Kids}
 
@@ -56,10 +58,10 @@ pub record Joinable (t : List ℕ) (rows kids heads : List (List ℕ)) (z : Size
 pub record Added (t : List ℕ) (q : Query) (rows rows' kids kids' heads heads' : List (List ℕ)) (z z' : Sizes) (p : Place) (up : ℕ) : Type 0 where
   pub slots : z'.slots ≡ z.slots + 1
   pub rowed : rows' ≡ set rows z.slots (p.block ∷ up ∷ [])
-  pub pick : Pick
+  pub pick : Option Pick
   pub picked : PickedUnder t (slot_by t rows' z.slots).block q all_keys (found_in t q (slot_by t rows' z.slots)) pick
   pub headed : Hung heads z.heads (pick_row z.slots pick) heads' z'.heads
-  pub kid : KidPick
+  pub kid : Option KidPick
   pub best : KidBest t p.block p.span q 18446744073709551615 kid
   pub hung : Hung kids z.kids (kid_row z.slots kid) kids' z'.kids
 
@@ -71,12 +73,12 @@ pub record Readable (t seen : List ℕ) (rows kids heads : List (List ℕ)) (z :
   pub joins : node_ok p.level a (store_of t p.block) ≡ true → Joinable t rows kids heads z p up
 
 -- it is read, or it was before, or it breaks a rule
-pub record NodeRead (t : List ℕ) (q : Query) (seen seen' : List ℕ) (rows rows' kids kids' heads heads' : List (List ℕ)) (z : Sizes) (p : Place) (a : Asked) (up : ℕ) (r : Joined) : Type 0 where
-  pub broken : r.ok ≡ false → (bit seen p.block ≡ true) ⊎ (node_ok p.level a (store_of t p.block) ≡ false)
-  pub new : r.ok ≡ true → bit seen p.block ≡ false
-  pub valid : r.ok ≡ true → node_ok p.level a (store_of t p.block) ≡ true
-  pub marked : r.ok ≡ true → seen' ≡ set_bit seen p.block
-  pub added : r.ok ≡ true → Added t q rows rows' kids kids' heads heads' z r.sizes p up
+pub record NodeRead (t : List ℕ) (q : Query) (seen seen' : List ℕ) (rows rows' kids kids' heads heads' : List (List ℕ)) (z : Sizes) (p : Place) (a : Asked) (up : ℕ) (r : Option Sizes) : Type 0 where
+  pub broken : r ≡ None → (bit seen p.block ≡ true) ⊎ (node_ok p.level a (store_of t p.block) ≡ false)
+  pub new : IsSome r → bit seen p.block ≡ false
+  pub valid : IsSome r → node_ok p.level a (store_of t p.block) ≡ true
+  pub marked : IsSome r → seen' ≡ set_bit seen p.block
+  pub added : ForSome r (λ z'. Added t q rows rows' kids kids' heads heads' z z' p up)
 
 -- ---- a child is taken
 
@@ -106,7 +108,7 @@ pub record KidTaken (t : List ℕ) (q : Query) (rows kids kids' : List (List ℕ
   pub place : r.place ≡ slot_place (top_slot t rows kids)
   pub entry : r.entry ≡ top_entry t rows kids
   pub up : r.up ≡ first_value kids
-  pub next : KidPick
+  pub next : Option KidPick
   pub best : KidBest t (top_parent t rows kids).block (top_parent t rows kids).span q (first_key kids - 1) next
   pub lowered : Lowered kids m (kid_row (first_value kids / 8) next) kids' r.kids
 
@@ -128,12 +130,12 @@ abbrev pub leads_with : List (List ℕ) → ℕ → ℕ → Bool
 leads_with kids m key = cond (eqb m 0) false (eqb (first_key kids) key)
 
 -- it is read, or another has its key
-pub record KidRead (t : List ℕ) (q : Query) (seen seen' : List ℕ) (rows rows' kids kids' heads heads' : List (List ℕ)) (z : Sizes) (r : Joined) : Type 0 where
+pub record KidRead (t : List ℕ) (q : Query) (seen seen' : List ℕ) (rows rows' kids kids' heads heads' : List (List ℕ)) (z : Sizes) (r : Option Sizes) : Type 0 where
   pub fresh : Fresh
   pub via : List (List ℕ)
   pub long : length via ≡ length kids
   pub taken : KidTaken t q rows kids via z.kids fresh
-  pub tied : leads_with via fresh.kids (first_key kids) ≡ true → r.ok ≡ false
+  pub tied : leads_with via fresh.kids (first_key kids) ≡ true → r ≡ None
   pub read : leads_with via fresh.kids (first_key kids) ≡ false
       → NodeRead t q seen seen' rows rows' via kids' heads heads' (with_kids z fresh.kids) fresh.place (Child fresh.entry) fresh.up r
 
@@ -159,13 +161,13 @@ pub record Movable (t : List ℕ) (q : Query) (rows heads : List (List ℕ)) (m 
 
 -- the next spot of its slot, the best under its top key, takes its place
 pub record MovedOn (t : List ℕ) (q : Query) (rows heads heads' : List (List ℕ)) (m r : ℕ) : Type 0 where
-  pub next : Pick
+  pub next : Option Pick
   pub under : PickedUnder t (slot_by t rows (lead_slot heads)).block q (first_key heads) (found_in t q (slot_by t rows (lead_slot heads))) next
   pub lowered : Lowered heads m (pick_row (lead_slot heads) next) heads' r
 
 -- Top on its way, with these spots given and written, of which there are `count`
 pub record Sofar (t : List ℕ) (q : Query) (k room : ℕ) (rows heads : List (List ℕ)) (m n : ℕ) (cell : ℕ → ℕ) (base out blocks : List ℕ) (count : ℕ) : Type 0 where
-  pub pick : ℕ → Pick
+  pub pick : ℕ → Option Pick
   pub headed : Heads t q rows heads m n pick
   pub given : List Spot
   pub going : (x1 x2 : ℤ) → q ≡ top_query x1 x2 0 → Underway t x1 x2 k (slot_by t rows) (head_by t rows pick) cell n given blocks
@@ -207,7 +209,7 @@ pub record Seen (seen blocks : List ℕ) : Type 0 where
 pub record Swept (t : List ℕ) (q : Query) (k room : ℕ) (base seen out : List ℕ) (rows kids heads : List (List ℕ)) (z : Sizes) (count : ℕ) : Type 0 where
   pub some : 1 ≤ z.slots
   pub chain : Chain t rows z.slots
-  pub kid : ℕ → KidPick
+  pub kid : ℕ → Option KidPick
   pub known : Kids t q rows kids z.kids z.slots kid
   pub blocks : List ℕ
   pub sofar : Sofar t q k room rows heads z.heads z.slots (cell_by t q rows kid) base out blocks count
@@ -259,10 +261,10 @@ pub record Stuck (t : List ℕ) (x1 x2 : ℤ) (k most : ℕ) : Type 0 where
   pub within : (reading t x1 x2 k most).whole ≡ false
 
 -- the search of a table with `cap` slots: it is short only where they are fewer than a table may need
-pub record Searched (t : List ℕ) (q : Query) (k most room cap : ℕ) (out seen' out' : List ℕ) (r : Search) : Type 0 where
-  pub short : r.short ≡ true → cap ≤ 4095
-  pub fails : (x1 x2 : ℤ) → q ≡ top_query x1 x2 0 → r.short ≡ false → r.ok ≡ false → Stuck t x1 x2 k most
-  pub ends : (x1 x2 : ℤ) → q ≡ top_query x1 x2 0 → r.ok ≡ true → Halted t x1 x2 k most room out seen' out' r.spots r.ceiling
+pub record Searched (t : List ℕ) (q : Query) (k most room cap : ℕ) (out seen' out' : List ℕ) (r : Result TopTally Stop) : Type 0 where
+  pub short : r ≡ Err Short → cap ≤ 4095
+  pub fails : (x1 x2 : ℤ) → q ≡ top_query x1 x2 0 → r ≡ Err Broken → Stuck t x1 x2 k most
+  pub ends : (x1 x2 : ℤ) → q ≡ top_query x1 x2 0 → ForOk r (λ s. Halted t x1 x2 k most room out seen' out' s.spots s.ceiling)
   pub behind : drop (12 * room) out' ≡ drop (12 * room) out
 
 pub record Runnable (t : List ℕ) (q : Query) (seen out : List ℕ) (k room : ℕ) : Type 0 where
@@ -275,9 +277,9 @@ pub record Runnable (t : List ℕ) (q : Query) (seen out : List ℕ) (k room : �
   pub fits : 12 * room ≤ length out
 
 -- a search with slots enough: it is stuck, or at its end
-pub record WideRun (t : List ℕ) (q : Query) (k most room : ℕ) (out seen' out' : List ℕ) (r : TopTally) : Type 0 where
-  pub fails : (x1 x2 : ℤ) → q ≡ top_query x1 x2 0 → r.ok ≡ false → Stuck t x1 x2 k most
-  pub ends : (x1 x2 : ℤ) → q ≡ top_query x1 x2 0 → r.ok ≡ true → Halted t x1 x2 k most room out seen' out' r.spots r.ceiling
+pub record WideRun (t : List ℕ) (q : Query) (k most room : ℕ) (out seen' out' : List ℕ) (r : Option TopTally) : Type 0 where
+  pub fails : (x1 x2 : ℤ) → q ≡ top_query x1 x2 0 → r ≡ None → Stuck t x1 x2 k most
+  pub ends : (x1 x2 : ℤ) → q ≡ top_query x1 x2 0 → ForSome r (λ s. Halted t x1 x2 k most room out seen' out' s.spots s.ceiling)
 
 -- at its end, with any bytes between the spots written and the end of the room; behind it nothing has changed
 pub record HaltedOn (t : List ℕ) (x1 x2 : ℤ) (k most room : ℕ) (out seen' out' : List ℕ) (spots ceiling : ℕ) : Type 0 where
@@ -287,9 +289,9 @@ pub record HaltedOn (t : List ℕ) (x1 x2 : ℤ) (k most room : ℕ) (out seen' 
   pub halted : Halted t x1 x2 k most room base seen' out' spots ceiling
 
 -- the same as a WideRun but for those bytes
-pub record WithinFront (t : List ℕ) (q : Query) (k most room : ℕ) (out seen' out' : List ℕ) (r : TopTally) : Type 0 where
-  pub fails : (x1 x2 : ℤ) → q ≡ top_query x1 x2 0 → r.ok ≡ false → Stuck t x1 x2 k most
-  pub ends : (x1 x2 : ℤ) → q ≡ top_query x1 x2 0 → r.ok ≡ true → HaltedOn t x1 x2 k most room out seen' out' r.spots r.ceiling
+pub record WithinFront (t : List ℕ) (q : Query) (k most room : ℕ) (out seen' out' : List ℕ) (r : Option TopTally) : Type 0 where
+  pub fails : (x1 x2 : ℤ) → q ≡ top_query x1 x2 0 → r ≡ None → Stuck t x1 x2 k most
+  pub ends : (x1 x2 : ℤ) → q ≡ top_query x1 x2 0 → ForSome r (λ s. HaltedOn t x1 x2 k most room out seen' out' s.spots s.ceiling)
 
 -- ---- Top
 
@@ -312,6 +314,6 @@ pub record Based (t : List ℕ) (x1 x2 : ℤ) (k room : ℕ) (out seen' out' : L
   pub ended : Ended t x1 x2 k room base seen' out' spots
 
 -- a rule is broken where the definition's walk is, else what is given, written and read is the definition's
-pub record TopFront (t : List ℕ) (q : Query) (k room : ℕ) (out seen' out' : List ℕ) (r : TopTally) : Type 0 where
-  pub fails : (x1 x2 : ℤ) → q ≡ top_query x1 x2 0 → r.ok ≡ false → top_walk t x1 x2 k ≡ broken
-  pub ends : (x1 x2 : ℤ) → q ≡ top_query x1 x2 0 → r.ok ≡ true → Based t x1 x2 k room out seen' out' r.spots
+pub record TopFront (t : List ℕ) (q : Query) (k room : ℕ) (out seen' out' : List ℕ) (r : Option TopTally) : Type 0 where
+  pub fails : (x1 x2 : ℤ) → q ≡ top_query x1 x2 0 → r ≡ None → top_walk t x1 x2 k ≡ broken
+  pub ends : (x1 x2 : ℤ) → q ≡ top_query x1 x2 0 → ForSome r (λ s. Based t x1 x2 k room out seen' out' s.spots)

@@ -1,27 +1,23 @@
 // Top: reads best first, and gives the highest spots, the highest first.
 #![tactic(auto)]
 
-ghost use Rattle.std.specs.Prelude.{◌≡◌, false, cond, [], ◌-◌, ◌*◌, ◌/◌, ◌≤◌, ◌<◌, max, eqb, ltb, length};
+ghost use Rattle.std.specs.Prelude.{◌≡◌, cond, [], ◌-◌, ◌*◌, ◌/◌, ◌≤◌, ◌<◌, max, eqb, ltb, length};
+ghost use Rattle.std.specs.Option.{unwrap_or};
 ghost use Rattle.spot.specs.Spots.{put_spot};
 ghost use Rattle.heap.specs.Heaps.{Heap};
 ghost use Rattle.frontier.specs.Frontier.{block_by};
-ghost use Rattle.frontier.specs.Picks.{spot_by};
-ghost use Rattle.top.specs.Rows.{pick_row, first_key, lead_at, lead_slot, Seated, Hung, Lowered};
+ghost use Rattle.frontier.specs.Picks.{spot_by, best_at};
+ghost use Rattle.top.specs.Rows.{pick_row, kid_row, first_key, lead_at, lead_slot, Seated, Hung, Lowered};
 ghost use Rattle.top.specs.Runs.{Joinable, Added, Readable, NodeRead, Takable, KidTaken, leads_with, NextKid, KidRead, LeadRow, Movable, MovedOn, Givable, Gave, Sweepable, Searchable, Searched, Runnable, WideRun, WithinFront, TopFront};
 
 // How many slots there are, and how many rows in the heaps of children and of spots.
+// Stays: the rows are lent arrays of fixed length, so how many of them are in use is counted here, and a slot names its parent by index.
+// Stays: the rows of slots and both heaps are lent one by one, since most steps read some of them while they write another.
 #[derive(Clone, Copy)]
 pub struct Sizes {
     pub slots: usize,
     pub kids: usize,
     pub heads: usize,
-}
-
-// A node that was to be read: whether it was, and the sizes then.
-#[derive(Clone, Copy)]
-pub struct Joined {
-    pub ok: bool,
-    pub sizes: Sizes,
 }
 
 // A child on its way to a slot: its place and the entry that leads to it, where it hangs, and the rows left in the heap of children.
@@ -40,57 +36,63 @@ pub struct Given {
     pub heads: usize,
 }
 
-// A search: whether it ended, or would have needed more slots, how many spots it gave, and the highest rank that is left: of an unread
-// child or of a spot found and not given.
+// A search at its end: how many spots it gave, and the highest rank that is left: of an unread child or of a spot found and not given.
 #[derive(Clone, Copy)]
-pub struct Search {
-    pub ok: bool,
-    pub short: bool,
+pub struct TopTally {
     pub spots: usize,
     pub ceiling: u64,
 }
 
-// A whole Top: false where a rule is broken.
-#[derive(Clone, Copy)]
-pub struct TopTally {
-    pub ok: bool,
-    pub spots: usize,
-    pub ceiling: u64,
+// Why a search gives nothing: a rule is broken, or it would need more slots.
+#[derive(Clone, Copy, Debug, PartialEq, Eq)]
+pub enum Stop {
+    Broken,
+    Short,
 }
 
 // The row of slot s's best spot, if it has one.
-fn head_row(s: usize, p: frontier::Pick) -> [u64; 2]
+fn head_row(s: usize, p: Option<frontier::Pick>) -> Option<[u64; 2]>
     requires { Seated s p }
-    ensures { cond p.there result [] ≡ pick_row s p }
+    ensures { unwrap_or result [] ≡ pick_row s p }
 {
-    if !p.there {
-        return [0, 0];
-    }
-    [p.key, p.at as u64 + 128 * (s as u64 + 4096 * p.more)]
+    let best = p?;
+    Some([
+        best.key,
+        best.at as u64 + 128 * (s as u64 + 4096 * best.more),
+    ])
+}
+
+// The row of slot s's best unread child, if it has one.
+fn kid_row(s: usize, k: Option<frontier::KidPick>) -> Option<[u64; 2]>
+    requires { (s < 4096) × (best_at k < 8) }
+    ensures { unwrap_or result [] ≡ kid_row s k }
+{
+    let best = k?;
+    Some([best.key, (8 * s + best.at) as u64])
 }
 
 // A slot more in a heap of m rows: its row x comes in, if it has one.
-fn hang(h: &mut [[u64; 2]], m: usize, some: bool, x: [u64; 2]) -> usize
+fn hang(h: &mut [[u64; 2]], m: usize, x: Option<[u64; 2]>) -> usize
     requires { (m < length h.old) × Heap m h.old }
-    ensures { Hung h.old m (cond some x []) h.new result }
+    ensures { Hung h.old m (unwrap_or x []) h.new result }
 {
-    if !some {
+    let Some(row) = x else {
         return m;
-    }
-    heap::push(h, m, x);
+    };
+    heap::push(h, m, row);
     m + 1
 }
 
 // The slot of the first row takes the row x in its place, or has none any more.
-fn lower(h: &mut [[u64; 2]], m: usize, some: bool, x: [u64; 2]) -> usize
+fn lower(h: &mut [[u64; 2]], m: usize, x: Option<[u64; 2]>) -> usize
     requires { (0 < m) × (m ≤ length h.old) × Heap m h.old }
-    ensures { Lowered h.old m (cond some x []) h.new result }
+    ensures { Lowered h.old m (unwrap_or x []) h.new result }
 {
-    if !some {
+    let Some(row) = x else {
         heap::pop_top(h, m);
         return m - 1;
-    }
-    heap::replace_top(h, m, x);
+    };
+    heap::replace_top(h, m, row);
     m
 }
 
@@ -112,10 +114,10 @@ fn join(
     rows[n] = [place.block as u16, up as u16];
     let best = frontier::first_pick(t, rows, n, q);
     let head = head_row(n, best);
-    let spots = hang(heads, z.heads, best.there, head);
-    let kid = frontier::best_kid(t, place.block, place.span, q, 18446744073709551615);
-    let row = [kid.key, (8 * n + kid.at) as u64];
-    let unread = hang(kids, z.kids, 0 < kid.key, row);
+    let spots = hang(heads, z.heads, head);
+    let kid = frontier::best_kid(t, place.block, place.span, q, u64::MAX);
+    let row = kid_row(n, kid);
+    let unread = hang(kids, z.kids, row);
     Sizes {
         slots: n + 1,
         kids: unread,
@@ -123,7 +125,7 @@ fn join(
     }
 }
 
-// Reads a node into the next slot; not ok if it was read before or breaks a rule.
+// Reads a node into the next slot, unless it was read before or breaks a rule.
 fn read_node(
     t: &[u8],
     seen: &mut [u8],
@@ -135,25 +137,18 @@ fn read_node(
     asked: block::Asked,
     up: usize,
     q: spot::Query,
-) -> Joined
+) -> Option<Sizes>
     requires { Readable t.now seen.old rows.old kids.old heads.old z place asked up }
     ensures { NodeRead t.now q seen.old seen.new rows.old rows.new kids.old kids.new heads.old heads.new z place asked up result }
 {
     if octets::test_bit(seen, place.block) {
-        return Joined {
-            ok: false,
-            sizes: z,
-        };
+        return None;
     }
     if !block::block_ok(t, place.block, place.level, asked) {
-        return Joined {
-            ok: false,
-            sizes: z,
-        };
+        return None;
     }
     octets::set_bit(seen, place.block);
-    let sizes = join(t, rows, kids, heads, z, place, up, q);
-    Joined { ok: true, sizes }
+    Some(join(t, rows, kids, heads, z, place, up, q))
 }
 
 // The child with the highest key goes out of the heap, and the next of the same parent comes in, if there is one.
@@ -166,8 +161,8 @@ fn take_kid(t: &[u8], rows: &[[u16; 2]], kids: &mut [[u64; 2]], m: usize, q: spo
     let s = up / 8;
     let parent = frontier::place_at(t, rows, s);
     let next = frontier::best_kid(t, parent.block, parent.span, q, row[0] - 1);
-    let lower_row = [next.key, (8 * s + next.at) as u64];
-    let left = lower(kids, m, 0 < next.key, lower_row);
+    let lower_row = kid_row(s, next);
+    let left = lower(kids, m, lower_row);
     let kid = frontier::kid_of(t, parent.block, up % 8, parent.span);
     let entry = kid.entry;
     let span = kid.span;
@@ -196,7 +191,7 @@ fn leads_with(kids: &[[u64; 2]], m: usize, key: u64) -> bool
     row[0] == key
 }
 
-// Reads the child with the highest key into the next slot. Where another has that key, two entries lead to one block: not ok.
+// Reads the child with the highest key into the next slot. Where another has that key, two entries lead to one block: none is read.
 fn read_kid(
     t: &[u8],
     seen: &mut [u8],
@@ -205,24 +200,20 @@ fn read_kid(
     heads: &mut [[u64; 2]],
     z: Sizes,
     q: spot::Query,
-) -> Joined
+) -> Option<Sizes>
     requires { NextKid t.now q seen.old rows.old kids.old heads.old z }
     ensures { KidRead t.now q seen.old seen.new rows.old rows.new kids.old kids.new heads.old heads.new z result }
 {
     let first = kids[0];
     let kid = take_kid(t, rows, kids, z.kids, q);
     if leads_with(kids, kid.kids, first[0]) {
-        return Joined {
-            ok: false,
-            sizes: z,
-        };
+        return None;
     }
     let place = kid.place;
     let entry = kid.entry;
     let sizes = Sizes {
-        slots: z.slots,
         kids: kid.kids,
-        heads: z.heads,
+        ..z
     };
     read_node(
         t,
@@ -266,7 +257,7 @@ fn move_on(
     let s = (v / 128 % 4096) as usize;
     let next = frontier::next_pick(t, rows, s, q, row[0], v / 524288, left);
     let head = head_row(s, next);
-    lower(heads, m, next.there, head)
+    lower(heads, m, head)
 }
 
 // Writes the j-th spot, if there is room.
@@ -297,6 +288,7 @@ fn give_above(
 {
     let mut j = given;
     let mut left = m;
+    // Stays: it ends in three ways, and `j` is handed back at each; a range would need the same count beside it.
     while (j < k) & (0 < left) {
         let row = heads[0];
         if row[0] / 4294967296 < floor {
@@ -347,18 +339,6 @@ fn ceiling_of(floor: u64, heads: &[[u64; 2]], m: usize) -> u64
     rank
 }
 
-// A search that gives nothing.
-fn stops(short: bool) -> Search
-    ensures { result ≡ record { ok = false; short = short; spots = 0; ceiling = 0 } }
-{
-    Search {
-        ok: false,
-        short,
-        spots: 0,
-        ceiling: 0,
-    }
-}
-
 // The search once the root is read, with as many slots as are lent; `seen` becomes the map of the blocks read. At most `most` are read.
 fn sweep(
     t: &[u8],
@@ -372,13 +352,14 @@ fn sweep(
     most: usize,
     out: &mut [u8],
     room: usize,
-) -> Search
+) -> Result<TopTally, Stop>
     requires { Sweepable t.now q seen.old out.old rows.old kids.old heads.old start k most room }
     ensures { Searched t.now q k most room (length rows.old) out.old seen.new out.new result }
 {
     let cap = rows.len();
     let mut z = start;
     let mut given = 0;
+    // Stays: reading a child takes the next slot, so there is no count of its own to run over.
     while z.slots < cap {
         let floor = floor_of(kids, z.kids);
         let g = give_above(t, rows, heads, z.heads, q, floor, given, k, out, room);
@@ -386,26 +367,18 @@ fn sweep(
         if (k <= given) | (floor == 0) | (most <= z.slots) {
             let ceiling = ceiling_of(floor, heads, g.heads);
             octets::set_bit(seen, 0);
-            return Search {
-                ok: true,
-                short: false,
+            return Ok(TopTally {
                 spots: given,
                 ceiling,
-            };
+            });
         }
         let sizes = Sizes {
-            slots: z.slots,
-            kids: z.kids,
             heads: g.heads,
+            ..z
         };
-        let next = read_kid(t, seen, rows, kids, heads, sizes, q);
-        if !next.ok {
-            return stops(false);
-        }
-        let more = next.sizes;
-        z = more;
+        z = read_kid(t, seen, rows, kids, heads, sizes, q).ok_or(Stop::Broken)?;
     }
-    stops(true)
+    Err(Stop::Short)
 }
 
 // The search of a table from its root.
@@ -420,12 +393,12 @@ fn look(
     rows: &mut [[u16; 2]],
     kids: &mut [[u64; 2]],
     heads: &mut [[u64; 2]],
-) -> Search
+) -> Result<TopTally, Stop>
     requires { Searchable t.now q seen.old out.old rows.old kids.old heads.old k most room }
     ensures { Searched t.now q k most room (length rows.old) out.old seen.new out.new result }
 {
     if !block::header_ok(t) {
-        return stops(false);
+        return Err(Stop::Broken);
     }
     let root = frontier::root_place(t);
     let none = Sizes {
@@ -433,7 +406,7 @@ fn look(
         kids: 0,
         heads: 0,
     };
-    let first = read_node(
+    let sizes = read_node(
         t,
         seen,
         rows,
@@ -444,12 +417,30 @@ fn look(
         block::Asked::Root(root.block),
         0,
         q,
-    );
-    if !first.ok {
-        return stops(false);
-    }
-    let sizes = first.sizes;
+    )
+    .ok_or(Stop::Broken)?;
     sweep(t, seen, rows, kids, heads, sizes, q, k, most, out, room)
+}
+
+// The search with N slots, cleared.
+fn run_in<const N: usize>(
+    t: &[u8],
+    seen: &mut [u8],
+    q: spot::Query,
+    k: usize,
+    most: usize,
+    out: &mut [u8],
+    room: usize,
+) -> Result<TopTally, Stop>
+    requires { Runnable t.now q seen.old out.old k room × (0 < most) × (1 ≤ N) × (N ≤ 4096) }
+    ensures { Searched t.now q k most room N out.old seen.new out.new result }
+{
+    let mut rows = [[0u16; 2]; N];
+    let mut kids = [[0u64; 2]; N];
+    let mut heads = [[0u64; 2]; N];
+    look(
+        t, seen, q, k, most, out, room, &mut rows, &mut kids, &mut heads,
+    )
 }
 
 // The search with a slot for every block that a table may have.
@@ -462,21 +453,11 @@ fn wide_run(
     most: usize,
     out: &mut [u8],
     room: usize,
-) -> TopTally
+) -> Option<TopTally>
     requires { Runnable t.now q seen.old out.old k room × (0 < most) }
     ensures { WideRun t.now q k most room out.old seen.new out.new result }
 {
-    let mut rows = [[0u16; 2]; 4096];
-    let mut kids = [[0u64; 2]; 4096];
-    let mut heads = [[0u64; 2]; 4096];
-    let all = look(
-        t, seen, q, k, most, out, room, &mut rows, &mut kids, &mut heads,
-    );
-    TopTally {
-        ok: all.ok,
-        spots: all.spots,
-        ceiling: all.ceiling,
-    }
+    run_in::<4096>(t, seen, q, k, most, out, room).ok()
 }
 
 // The search with few slots, which are soon cleared; for many spots and blocks of more than 128 it is short at once, since they are seldom enough.
@@ -488,22 +469,17 @@ fn narrow_run(
     most: usize,
     out: &mut [u8],
     room: usize,
-) -> Search
+) -> Result<TopTally, Stop>
     requires { Runnable t.now q seen.old out.old k room × (0 < most) }
     ensures { Searched t.now q k most room 128 out.old seen.new out.new result }
 {
     if (513 < k) & (262144 < t.len()) & (127 < most) {
-        return stops(true);
+        return Err(Stop::Short);
     }
-    let mut rows = [[0u16; 2]; 128];
-    let mut kids = [[0u64; 2]; 128];
-    let mut heads = [[0u64; 2]; 128];
-    look(
-        t, seen, q, k, most, out, room, &mut rows, &mut kids, &mut heads,
-    )
+    run_in::<128>(t, seen, q, k, most, out, room)
 }
 
-// A Top that reads at most `most` node blocks, tried with few slots first, which are enough for most.
+// A Top that reads at most `most` node blocks, unless a rule is broken: tried with few slots first, which are enough for most.
 pub fn run_within(
     t: &[u8],
     seen: &mut [u8],
@@ -512,23 +488,21 @@ pub fn run_within(
     most: usize,
     out: &mut [u8],
     room: usize,
-) -> TopTally
+) -> Option<TopTally>
     requires { Runnable t.now q seen.old out.old k room × (0 < most) }
     ensures { WithinFront t.now q k most room out.old seen.new out.new result }
 {
-    let some = narrow_run(t, seen, q, k, most, out, room);
-    if !some.short {
-        return TopTally {
-            ok: some.ok,
-            spots: some.spots,
-            ceiling: some.ceiling,
-        };
+    match narrow_run(t, seen, q, k, most, out, room) {
+        Ok(few) => Some(few),
+        Err(Stop::Broken) => None,
+        Err(Stop::Short) => {
+            octets::zero(seen, 512);
+            wide_run(t, seen, q, k, most, out, room)
+        }
     }
-    octets::zero(seen, 512);
-    wide_run(t, seen, q, k, most, out, room)
 }
 
-// Top of a table: as many blocks as it takes, which are fewer than 4,096.
+// Top of a table, unless a rule is broken: as many blocks as it takes, which are fewer than 4,096.
 pub fn top_run(
     t: &[u8],
     seen: &mut [u8],
@@ -536,7 +510,7 @@ pub fn top_run(
     k: usize,
     out: &mut [u8],
     room: usize,
-) -> TopTally
+) -> Option<TopTally>
     requires { Runnable t.now q seen.old out.old k room }
     ensures { TopFront t.now q k room out.old seen.new out.new result }
 {

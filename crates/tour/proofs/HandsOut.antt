@@ -1,7 +1,7 @@
 -- On every tour, whatever its bytes are, an accepted Report hands out only spots of its range, from blocks marked read.
 -- Assumes nothing.
 use mathlib.Core.Path.{◌≡◌, refl, sym, ap, subst, ◌∙◌}
-use mathlib.Core.Logic.{◌⊎◌, ⊎_elim}
+use mathlib.Core.Logic.{⊎_elim}
 use mathlib.Core.Bool.{Bool, true}
 use mathlib.Core.List.Memᴰ
 use mathlib.Core.List.{List, [], Memᴰ}
@@ -42,7 +42,7 @@ use Rattle.tour.specs.Promises.{TourHandsOut}
 use Rattle.tour.proofs.Tiles.{tile-span, tile-limited}
 use Rattle.tour.proofs.Steps.{fine, read-inside, read-once, read-stands}
 use Rattle.tour.proofs.Answering.{report-whole}
-use Rattle.tour.proofs.Pressed.{Disjoint, own, gathered-from, gathered-rises}
+use Rattle.tour.proofs.Pressed.{own, gathered-from, gathered-rises}
 use Rattle.tour.proofs.Accepted.{Accepted, accepted}
 
 from-on-mem : (k : ℕ) (ss : List Spot) {s : Spot} → Memᴰ s (from_on k ss) → Memᴰ s ss

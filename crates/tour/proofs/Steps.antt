@@ -27,8 +27,7 @@ use Rattle.catalogue.specs.Reading.{LimitedEntry}
 use Rattle.catalogue.specs.declared.Entry.{Entry}
 use Rattle.catalogue.proofs.Lengths.{sized-lengths}
 use Rattle.tour.specs.Tour.{with_tile, gathered}
-use Rattle.tour.specs.Gathering.{Gatherable, TourReadable, TourRead}
-use Rattle.tour.specs.declared.Found.{Found}
+use Rattle.tour.specs.Gathering.{Gatherable, TourReadable, blocks_fine, TourRead}
 
 pub gathered-append : (t : List ℕ) (q : Query) (xs ys : List ℕ) (found : List Spot) → gathered t q (xs ++ ys) found ≡ gathered t q ys (gathered t q xs found)
 gathered-append t q [] ys found = refl
@@ -129,22 +128,14 @@ module _ (t : List ℕ) (q : Query) where
       next-is = read_more b s.some ∙ ap (λ (c : Bool). read_to b ++ cond c (b ∷ []) []) (ap (asks q blocks b) (sym p) ∙ a)
 
       -- one that breaks its layout
-      pub read-stop : {seen' found' : List ℕ} {r : Found} → tile_fine blocks b e (block t b) ≡ false → r.ok ≡ false → r.spots ≡ 0 → TourRead t q seen' found' r
+      pub read-stop : tile_fine blocks b e (block t b) ≡ false → blocks_fine t q ≡ false
       unfolding tiles_read
-      read-stop f o z =
-          record {
-            ok =
-                o ∙ sym
-                (refuted (every fine (tiles_read t q))
-                (λ h.
-                false≢true
-                (sym f ∙ ap (λ (x : Entry). tile_fine blocks b x (block t b)) p
-                ∙ every-mem fine (tiles_read t q) h (keep-there asked (up_to 1 (blocks - 1)) (up_to-in 1 (blocks - 1) b s.some (omega arith)) (ap (asks q blocks b) (sym p) ∙ a)))));
-            few = omega arith;
-            marks = λ h. absurd (false≢true (sym o ∙ h));
-            spots = λ h. absurd (false≢true (sym o ∙ h));
-            order = λ h. absurd (false≢true (sym o ∙ h));
-          }
+      read-stop f =
+          refuted (every fine (tiles_read t q))
+          (λ h.
+          false≢true
+          (sym f ∙ ap (λ (x : Entry). tile_fine blocks b x (block t b)) p
+          ∙ every-mem fine (tiles_read t q) h (keep-there asked (up_to 1 (blocks - 1)) (up_to-in 1 (blocks - 1) b s.some (omega arith)) (ap (asks q blocks b) (sym p) ∙ a))))
 
       -- one in order
       module _ (f : tile_fine blocks b e (block t b) ≡ true) where
@@ -183,17 +174,17 @@ module _ (t : List ℕ) (q : Query) where
             }
 
     -- all are read
-    pub read-end : {seen' : List ℕ} {r : Found} → tour_sized (length t) ≡ true → blocks ≤ b → seen' ≡ set_bit seen 0 → r.ok ≡ true → r.spots ≡ n → TourRead t q seen' found r
-    read-end {seen'} {r} z l m o k =
+    pub read-end : {seen' : List ℕ} → tour_sized (length t) ≡ true → blocks ≤ b → seen' ≡ set_bit seen 0 → TourRead t q seen' found n
+    read-end {seen'} z l m =
         let u = sized-lengths (length t) z in
         let at : b ≡ blocks = omega (arith, s.most) in
         let whole : read_to b ≡ tiles_read t q = ap read_to at ∙ sym read_is in
         record {
-          ok = o ∙ sym (ap (every fine) (sym whole) ∙ s.kept);
+          fine = ap (every fine) (sym whole) ∙ s.kept;
           few = omega (arith, s.few, u.few);
-          marks = λ h.
+          marks =
               m ∙ ap (λ (x : List ℕ). set_bit x 0) (s.marks ∙ ap (marked (replicate 512 0)) whole)
               ∙ marks-make (tiles_read t q) (λ x i. omega (arith, (read-inside x i).1, u.few));
-          spots = λ h. ap (spots_in found) k ∙ s.spots ∙ ap (λ (bs : List ℕ). gathered t q bs []) whole;
-          order = λ h. subst Orderly (ap (spots_in found) (sym k)) s.order;
+          spots = s.spots ∙ ap (λ (bs : List ℕ). gathered t q bs []) whole;
+          order = s.order;
         }

@@ -1,6 +1,6 @@
 -- What the functions that read a tour's blocks are handed and hand back.
 -- Assumes nothing.
-use Rattle.std.specs.Prelude.{◌≡◌, ℕ, ◌+◌, ◌≤◌, true, List, [], length, replicate}
+use Rattle.std.specs.Prelude.{◌≡◌, ℕ, ◌+◌, ◌≤◌, Bool, true, List, [], length, replicate}
 use Rattle.octets.specs.Lists.{every}
 use Rattle.spot.specs.Spots.{spots_in}
 use Rattle.spot.specs.declared.Query.{Query}
@@ -10,7 +10,6 @@ use Rattle.query.specs.Merging.{Orderly}
 use Rattle.catalogue.specs.Catalogue.{tour_sized, catalogue_fine, tile_entry, tile_fine, tiles_read}
 use Rattle.catalogue.specs.Reading.{LimitedEntry}
 use Rattle.catalogue.specs.declared.Entry.{Entry}
-use Rattle.tour.specs.declared.Found.{Found}
 use Rattle.tour.specs.Tour.{gathered}
 
 -- a block in order and its entry, and n spots found before with room for a block's behind them
@@ -31,10 +30,14 @@ pub record TourReadable (t seen found : List ℕ) : Type 0 where
   pub blank : seen ≡ replicate 512 0
   pub buffer : length found ≡ 11520
 
--- r says whether the blocks read are in order, and how many spots they have for the query: these are at the front of the buffer then, and the map marks what is read
-pub record TourRead (t : List ℕ) (q : Query) (seen' found' : List ℕ) (r : Found) : Type 0 where
-  pub ok : r.ok ≡ every (λ b. tile_fine (blocks_of (length t)) b (tile_entry t b) (block t b)) (tiles_read t q)
-  pub few : r.spots ≤ 960
-  pub marks : r.ok ≡ true → seen' ≡ read_map (tiles_read t q)
-  pub spots : r.ok ≡ true → spots_in found' r.spots ≡ gathered t q (tiles_read t q) []
-  pub order : r.ok ≡ true → Orderly (spots_in found' r.spots)
+-- the blocks that the query reads are in order
+abbrev pub blocks_fine : List ℕ → Query → Bool
+blocks_fine t q = every (λ b. tile_fine (blocks_of (length t)) b (tile_entry t b) (block t b)) (tiles_read t q)
+
+-- they are, and they have n spots for the query, which are at the front of the buffer; the map marks what is read
+pub record TourRead (t : List ℕ) (q : Query) (seen' found' : List ℕ) (n : ℕ) : Type 0 where
+  pub fine : blocks_fine t q ≡ true
+  pub few : n ≤ 960
+  pub marks : seen' ≡ read_map (tiles_read t q)
+  pub spots : spots_in found' n ≡ gathered t q (tiles_read t q) []
+  pub order : Orderly (spots_in found' n)

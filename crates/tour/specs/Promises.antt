@@ -16,7 +16,6 @@ use Rattle.tree.specs.Sound.{sound}
 use Rattle.tree.specs.Report.{report_table}
 use Rattle.tree.specs.ReadMap.{ones}
 use Rattle.table.specs.Answers.{unless_refused, spots_answer, output_left}
-use Rattle.sweep.specs.Pressed.{pressed}
 use Rattle.sweep.specs.Report.{blocks_met, numbers, most_read}
 use Rattle.press.specs.Press.{spots_given, PressPost}
 use Rattle.catalogue.specs.Catalogue.{tile_spots}

@@ -1,41 +1,44 @@
 // Reports of a tour, compared with the list.
 ghost use Rattle.std.specs.Prelude.{◌<◌, ◌≤◌};
 
-use crate::list::{same_map, same_output, scan};
-use crate::{REPORTS, Run, below, next, told};
+use crate::list::scan;
+use crate::{REPORTS, Run, told};
+use random::{below, next};
 
-// A number at the place or the rank of some spot or beside it, or one of the two ends.
+// A number at the place or the rank of some spot or beside it.
+fn draw_beside(list: &[u8; 6144], n: usize, seed: u64, by_rank: bool) -> i32
+    requires { (0 < n) × (n ≤ 512) }
+{
+    let key = spot::raw_key(list, 12 * (below(seed, n as u64) as usize));
+    let beside = 4294967295 + below(next(seed), 3);
+    let number = if by_rank {
+        key % 4294967296
+    } else {
+        key / 4294967296
+    };
+    spot::unbias((number + beside) % 4294967296)
+}
+
+// Such a number, or one of the two ends.
 fn draw_end(list: &[u8; 6144], n: usize, seed: u64, by_rank: bool) -> i32
     requires { n ≤ 512 }
 {
     if n == 0 {
         return 0;
     }
-    let x = below(seed, 16);
-    if x == 0 {
-        return -2147483648;
+    match below(seed, 16) {
+        0 => i32::MIN,
+        1 => i32::MAX,
+        _ => draw_beside(list, n, next(seed), by_rank),
     }
-    if x == 1 {
-        return 2147483647;
-    }
-    let s = next(seed);
-    let key = spot::raw_key(list, 12 * (below(s, n as u64) as usize));
-    let beside = 4294967295 + below(next(s), 3);
-    if by_rank {
-        return spot::unbias((key % 4294967296 + beside) % 4294967296);
-    }
-    spot::unbias((key / 4294967296 + beside) % 4294967296)
 }
 
 // Whether no more blocks are marked than n spots allow: the catalogue, three, two for each 64 spots, and one more past the door.
 fn few(q: spot::Query, n: usize, map: &[u8; 512]) -> bool
     requires { n ≤ 512 }
 {
-    let most = 4 + 2 * (n / 64);
-    if q.x2 < q.x1 {
-        return octets::ones(map) <= most + 1;
-    }
-    octets::ones(map) <= most
+    let past_door = usize::from(q.x2 < q.x1);
+    octets::ones(map) <= 4 + 2 * (n / 64) + past_door
 }
 
 // A Report, which is to give the first n spots of `wanted` and to leave the bytes behind them.
@@ -52,30 +55,17 @@ fn ask_tour(
 {
     let all: &[u8] = tour;
     let mut output = [165u8; 6144];
-    let a = tour::tour_report(&all[0..bytes], q.x1, q.x2, q.y, &mut output, map);
-    let right = same_output(&output, wanted) & few(q, n, map);
-    told(run, a, 0, n as u64, right)
-}
-
-fn veil_block(tour: &mut [u8; 32768], b: usize)
-    requires { b < 16 }
-{
-    let mut i = 2048 * b;
-    let end = i + 2048;
-    while i < end {
-        tour[i] = 0;
-        i += 1;
-    }
+    let reported = tour::tour_report(&all[0..bytes], q.x1, q.x2, q.y, &mut output, map);
+    let right = (output == *wanted) & few(q, n, map);
+    told(run, block::answer_of(reported), 0, n as u64, right)
 }
 
 // Zeroes the blocks that are not marked.
 fn veil(tour: &mut [u8; 32768], map: &[u8; 512]) {
-    let mut b = 0;
-    while b < 16 {
+    for b in 0..16 {
         if !octets::test_bit(map, b) {
-            veil_block(tour, b);
+            tour[2048 * b..2048 * b + 2048].fill(0);
         }
-        b += 1;
     }
 }
 
@@ -95,13 +85,14 @@ fn ask(
     let count = scan(list, n, q, true, &mut wanted, near);
     let mut map = [165u8; 512];
     let first = ask_tour(tour, bytes, q, &wanted, count, &mut map, run);
-    let mut second = [0u8; 32768];
-    octets::copy(tour, &mut second, 32768);
+    let mut second = *tour;
     veil(&mut second, &map);
     let mut other = [165u8; 512];
-    let mut r = ask_tour(&second, bytes, q, &wanted, count, &mut other, first);
-    r.wrong = std::num::wrapping_add_u64(r.wrong, !same_map(&other, &map) as u64);
-    r
+    let again = ask_tour(&second, bytes, q, &wanted, count, &mut other, first);
+    Run {
+        wrong: again.wrong.wrapping_add(u64::from(other != map)),
+        ..again
+    }
 }
 
 // The random number three steps on: as many as an end takes.
@@ -124,13 +115,11 @@ pub fn ask_all(tour: &[u8; 32768], bytes: usize, list: &[u8; 6144], n: usize, be
     requires { (bytes ≤ 32768) × (n ≤ 512) }
 {
     let mut run = begun;
-    let mut i = 0;
-    while i < REPORTS {
+    for _ in 0..REPORTS {
         let s = next(run.seed);
         run.seed = later(later(later(s)));
-        run.reports = std::num::wrapping_add_u64(run.reports, 1);
+        run.reports = run.reports.wrapping_add(1);
         run = ask(tour, bytes, list, n, draw_query(list, n, s), run);
-        i += 1;
     }
     run
 }

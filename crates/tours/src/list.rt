@@ -1,32 +1,55 @@
 // The plain list: the spots of a set as bytes, in place order, and what a scan of them finds.
+// Stays: a list lies in an array of the most spots, with their number beside, since nothing here takes memory from a heap.
 ghost use Rattle.std.specs.Prelude.{◌<◌, ◌≤◌};
 
-use crate::{below, next};
+use random::{below, next};
+
+// The kinds of sets, by their ranks.
+#[derive(Clone, Copy, Debug, PartialEq, Eq)]
+pub enum Kind {
+    FourAboutZero,
+    Any,
+    One,
+    TwoEnds,
+    Rising,
+    Falling,
+}
+
+impl Kind {
+    pub const ALL: [Kind; 6] = [
+        Kind::FourAboutZero,
+        Kind::Any,
+        Kind::One,
+        Kind::TwoEnds,
+        Kind::Rising,
+        Kind::Falling,
+    ];
+}
 
 // How far a spot lies behind the one before it. Places stay inside the limits.
-fn gap(kind: u64, x: u64) -> u64
+fn gap(kind: Kind, x: u64) -> u64
     ensures { result < 3901 }
 {
     match kind {
-        0 => return x % 4,
-        1 => return x % 21,
-        2 => return x % 3901,
-        _ => return x % 2,
+        Kind::FourAboutZero => x % 4,
+        Kind::Any => x % 21,
+        Kind::One => x % 3901,
+        Kind::TwoEnds | Kind::Rising | Kind::Falling => x % 2,
     }
 }
 
-// The rank of spot i, moved up by 2^31. 0: four about 0; 1: any; 2: one; 3: the two ends; 4: rising; 5: falling.
-fn rank(kind: u64, i: u64, x: u64) -> u64
+// The rank of spot i, moved up by 2^31.
+fn rank(kind: Kind, i: u64, x: u64) -> u64
     requires { (i < 512) × (x < 65536) }
     ensures { result < 4294967296 }
 {
     match kind {
-        0 => return 2147483646 + x % 4,
-        1 => return x * 65537,
-        2 => return 2147483648,
-        3 => return x % 2 * 4294967295,
-        4 => return 2147483648 + 8 * i + x % 64,
-        _ => return 2147483648 - 8 * i + x % 64,
+        Kind::FourAboutZero => 2147483646 + x % 4,
+        Kind::Any => x * 65537,
+        Kind::One => 2147483648,
+        Kind::TwoEnds => x % 2 * 4294967295,
+        Kind::Rising => 2147483648 + 8 * i + x % 64,
+        Kind::Falling => 2147483648 - 8 * i + x % 64,
     }
 }
 
@@ -42,13 +65,12 @@ fn key_after(last: u64, far: u64, rank: u64) -> u64
 }
 
 // Lays out n spots from place -1,000,000 on; the random number after them.
-pub fn draw(list: &mut [u8; 6144], n: usize, kind: u64, seed: u64) -> u64
+pub fn draw(list: &mut [u8; 6144], n: usize, kind: Kind, seed: u64) -> u64
     requires { n ≤ 512 }
 {
     let mut s = seed;
     let mut key = spot::START_KEY;
-    let mut i = 0;
-    while i < n {
+    for i in 0..n {
         let t = next(s);
         s = next(t);
         let far = gap(kind, below(t, 65536));
@@ -61,7 +83,6 @@ pub fn draw(list: &mut [u8; 6144], n: usize, kind: u64, seed: u64) -> u64
                 track: s as u32,
             },
         );
-        i += 1;
     }
     s
 }
@@ -87,23 +108,6 @@ fn wanted(q: spot::Query, key: u64, past: bool) -> bool {
     between(place, q.x1, q.x2) & (q.y <= spot::rank_in(key)) & (past == (place < q.x1))
 }
 
-// Puts spot i behind the first k, if it is taken; how many there are then.
-fn put(list: &[u8; 6144], i: usize, taken: bool, output: &mut [u8; 6144], k: usize) -> usize
-    requires { (i < 512) × (k ≤ 512) }
-    ensures { result ≤ 512 }
-{
-    if !taken {
-        return k;
-    }
-    if k == 512 {
-        return k;
-    }
-    let key = spot::raw_key(list, 12 * i);
-    let track = octets::read32(list, 12 * i + 8) as u32;
-    spot::write_spot(output, 12 * k, spot::Spot { key, track });
-    k + 1
-}
-
 // Puts the spots that a Report gives before the door or past it behind the first `count`; how many there are then.
 pub fn scan(
     list: &[u8; 6144],
@@ -117,33 +121,13 @@ pub fn scan(
     ensures { result ≤ 512 }
 {
     let mut k = count;
-    let mut i = 0;
-    while i < n {
-        let taken = wanted(q, spot::raw_key(list, 12 * i), past);
-        k = put(list, i, taken, output, k);
-        i += 1;
+    for i in 0..n {
+        let key = spot::raw_key(list, 12 * i);
+        if wanted(q, key, past) & (k < 512) {
+            let track = octets::read32(list, 12 * i + 8) as u32;
+            spot::write_spot(output, 12 * k, spot::Spot { key, track });
+            k += 1;
+        }
     }
     k
-}
-
-fn same_bytes(a: &[u8], b: &[u8]) -> bool {
-    if a.len() != b.len() {
-        return false;
-    }
-    let mut i = 0;
-    while i < a.len() {
-        if a[i] != b[i] {
-            return false;
-        }
-        i += 1;
-    }
-    true
-}
-
-pub fn same_output(a: &[u8; 6144], b: &[u8; 6144]) -> bool {
-    same_bytes(a, b)
-}
-
-pub fn same_map(a: &[u8; 512], b: &[u8; 512]) -> bool {
-    same_bytes(a, b)
 }

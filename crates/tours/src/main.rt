@@ -6,6 +6,9 @@ ghost use Rattle.std.specs.Prelude.{◌<◌, ◌≤◌};
 mod asks;
 mod list;
 
+use list::Kind;
+use random::{below, next};
+
 // The sets of a kind, and the reports of each.
 const SETS: u64 = 16;
 
@@ -21,29 +24,16 @@ struct Run {
     digest: u64,
 }
 
-fn next(s: u64) -> u64
-    ensures { result < 4294967296 }
-{
-    (1664525 * (s % 4294967296) + 1013904223) % 4294967296
-}
-
-// A number below n.
-fn below(seed: u64, n: u64) -> u64
-    requires { 0 < n }
-    ensures { result < n }
-{
-    seed / 65536 % n
-}
-
 // A call gave this answer, which joins the digest; the list asks for a number and a detail, and for what else is right.
 fn told(run: Run, a: block::Answer, number: u32, detail: u64, right: bool) -> Run {
     let all = right & (a.number == number) & (a.detail as u64 == detail);
-    let first = next(std::num::wrapping_add_u64(run.digest, a.number as u64));
-    let mut r = run;
-    r.refused = std::num::wrapping_add_u64(run.refused, (a.number != 0) as u64);
-    r.wrong = std::num::wrapping_add_u64(run.wrong, !all as u64);
-    r.digest = next(std::num::wrapping_add_u64(first, a.detail as u64));
-    r
+    let first = next(run.digest.wrapping_add(u64::from(a.number)));
+    Run {
+        refused: run.refused.wrapping_add(u64::from(a.number != 0)),
+        wrong: run.wrong.wrapping_add(u64::from(!all)),
+        digest: next(first.wrapping_add(u64::from(a.detail))),
+        ..run
+    }
 }
 
 // How many spots a set has: all, whole blocks, one more, or any number.
@@ -52,10 +42,10 @@ fn size(seed: u64) -> usize
 {
     let n = below(next(seed), 513) as usize;
     match below(seed, 5) {
-        0 => return 512,
-        1 => return n / 64 * 64,
-        2 => return n / 65 * 64 + 1,
-        _ => return n,
+        0 => 512,
+        1 => n / 64 * 64,
+        2 => n / 65 * 64 + 1,
+        _ => n,
     }
 }
 
@@ -75,9 +65,9 @@ fn press(list: &[u8; 6144], n: usize, tour: &mut [u8; 32768], number: u32, run: 
     requires { n ≤ 512 }
 {
     let all: &[u8] = list;
-    let a = press::press(&all[0..12 * n], tour);
+    let pressed = press::press(&all[0..12 * n], tour);
     let right = octets::read32(tour, 0) == tour_bytes(n) as u64;
-    told(run, a, number, 0, right)
+    told(run, block::told(pressed), number, 0, right)
 }
 
 // Presses the spots, and once more with an identity that stands twice: this leaves the tour as it is.
@@ -88,58 +78,44 @@ fn press_both(list: &[u8; 6144], n: usize, tour: &mut [u8; 32768], run: Run) -> 
     if n < 2 {
         return first;
     }
-    let mut twice = [0u8; 6144];
-    octets::copy(list, &mut twice, 6144);
+    let mut twice = *list;
     list::repeat(&mut twice, below(run.seed, n as u64 - 1) as usize);
     press(&twice, n, tour, 7, first)
 }
 
 // A set of a kind, pressed, and its reports.
-fn play(kind: u64, run: Run) -> Run {
+fn play(kind: Kind, run: Run) -> Run {
     let n = size(run.seed);
     let mut list = [0u8; 6144];
-    let mut r = run;
-    r.seed = list::draw(&mut list, n, kind, next(run.seed));
+    let seed = list::draw(&mut list, n, kind, next(run.seed));
     let mut tour = [165u8; 32768];
-    let pressed = press_both(&list, n, &mut tour, r);
+    let pressed = press_both(&list, n, &mut tour, Run { seed, ..run });
     asks::ask_all(&tour, tour_bytes(n), &list, n, pressed)
 }
 
-fn show(name: &[u8], n: u64) {
-    io::write_all(1, name);
-    io::print_decimal(1, n);
+fn show_run(rt: &impl Print, kind: Kind, run: Run) {
+    let _ = println!(rt;
+        "kind {}: sets {SETS}, reports {}, refused {}, wrong {}, digest {}",
+        kind as u64, run.reports, run.refused, run.wrong, run.digest,
+    );
 }
 
-fn show_run(kind: u64, run: Run) {
-    show(b"kind ", kind);
-    show(b": sets ", SETS);
-    show(b", reports ", run.reports);
-    show(b", refused ", run.refused);
-    show(b", wrong ", run.wrong);
-    show(b", digest ", run.digest);
-    io::write_all(1, b"\n");
-}
-
-fn play_all(kind: u64) {
+fn play_all(rt: &impl Print, kind: Kind) {
     let mut run = Run {
-        seed: kind,
+        seed: kind as u64,
         reports: 0,
         refused: 0,
         wrong: 0,
         digest: 0,
     };
-    let mut i = 0;
-    while i < SETS {
+    for _ in 0..SETS {
         run = play(kind, run);
-        i += 1;
     }
-    show_run(kind, run);
+    show_run(rt, kind, run);
 }
 
-fn main() {
-    let mut kind = 0;
-    while kind < 6 {
-        play_all(kind);
-        kind += 1;
+fn main(rt: HostRuntime) {
+    for kind in Kind::ALL {
+        play_all(&rt, kind);
     }
 }

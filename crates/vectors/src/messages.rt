@@ -1,133 +1,106 @@
 // Messages: a letter, which is a list of changes or a message, lies in the scratch bytes.
 ghost use Rattle.std.specs.Prelude.{◌<◌};
 
-use crate::batches::{BYTE, changed_bytes, smaller};
 use crate::marks::set_bytes;
-use crate::shown::{say, say_number, show, show_others};
-use crate::{Row, plain};
+use crate::ops::Recoded;
+use crate::shown::{BYTE, changed, show, show_others};
+use crate::{Row, low_byte, plain, tours};
+
+// The first byte of a change.
+pub const ADDITION: u8 = 1;
+
+pub const WITHDRAWAL: u8 = 2;
 
 // A change behind the first `at` bytes, where there is room; the bytes of the letter after it.
-fn put(letter: &mut [u8], at: usize, kind: usize, place: i32, rank: i32, track: u32) -> usize {
-    if letter.len() < 13 {
+pub fn put(letter: &mut [u8], at: usize, kind: u8, place: i32, rank: i32, track: u32) -> usize {
+    if letter.len().saturating_sub(at) < 13 {
         return at;
     }
-    if letter.len() - 13 < at {
-        return at;
-    }
-    let key = spot::key_of(place, rank);
-    octets::write8(letter, at, kind);
-    spot::write_spot(letter, at + 1, spot::Spot { key, track });
-    at + 13
+    letter[at] = kind;
+    tours::put(letter, at + 1, place, rank, track)
 }
 
 // n withdrawals: number i at place i, with rank 0.
-fn put_row(letter: &mut [u8], bytes: usize, n: u64) -> usize
+pub fn put_withdrawals(letter: &mut [u8], bytes: usize, n: u64) -> usize
     requires { n < 2147483648 }
 {
     let mut at = bytes;
-    let mut i = 0;
-    while i < n {
-        at = put(letter, at, 2, spot::unbias(2147483648 + i), 0, 0);
-        i += 1;
+    for i in 0..n {
+        at = put(letter, at, WITHDRAWAL, spot::unbias(2147483648 + i), 0, 0);
     }
     at
 }
 
-// Gives bytes a value; the letter ends behind them at least.
-fn set(letter: &mut [u8], bytes: usize, r: Row) -> usize {
+// Gives y bytes from x on the value z; the letter ends behind them at least.
+pub fn set(letter: &mut [u8], bytes: usize, r: Row) -> usize {
     let end = plain(r.x) + plain(r.y);
     if letter.len() < end {
         return bytes;
     }
-    set_bytes(letter, plain(r.x), plain(r.y), (plain(r.z) % 256) as u8);
-    if bytes < end {
-        return end;
-    }
-    bytes
+    set_bytes(letter, plain(r.x), plain(r.y), low_byte(r.z));
+    bytes.max(end)
 }
 
-fn call(op: u8, letter: &[u8], bytes: usize, output: &mut [u8], room: usize) -> block::Answer {
-    let n = smaller(bytes, letter.len());
-    let o = smaller(room, output.len());
-    if op == b'5' {
-        return message::write_message(&letter[0..n], &mut output[0..o]);
-    }
-    message::read_message(&letter[0..n], &mut output[0..o])
+fn call(
+    recoded: Recoded,
+    letter: &[u8],
+    bytes: usize,
+    output: &mut [u8],
+    room: usize,
+) -> block::Answer {
+    let n = bytes.min(letter.len());
+    let o = room.min(output.len());
+    let done = match recoded {
+        Recoded::Written => message::write_message(&letter[0..n], &mut output[0..o]),
+        Recoded::Read => message::read_message(&letter[0..n], &mut output[0..o]),
+    };
+    block::told(done)
 }
 
 // The bytes that come of it.
-fn size(op: u8, letter: &[u8], output: &[u8; 53261]) -> usize {
-    if op == b'5' {
-        return octets::read32(output, 0) as usize;
+fn size(recoded: Recoded, letter: &[u8], output: &[u8; 53261]) -> usize {
+    match recoded {
+        Recoded::Written => octets::read32(output, 0) as usize,
+        Recoded::Read if letter.len() < 7 => 0,
+        Recoded::Read => 13 * octets::read16(letter, 5),
     }
-    if letter.len() < 7 {
-        return 0;
-    }
-    13 * octets::read16(letter, 5)
 }
 
 fn take_over(output: &[u8], letter: &mut [u8], n: usize) -> usize {
-    if output.len() < n {
+    if (output.len() < n) | (letter.len() < n) {
         return 0;
     }
-    if letter.len() < n {
-        return 0;
-    }
-    octets::copy(output, letter, n);
+    letter[..n].copy_from_slice(&output[..n]);
     n
 }
 
-fn show_answer(a: block::Answer, output: &[u8; 53261], n: usize, r: Row) {
+fn show_answer(rt: &impl Print, a: block::Answer, output: &[u8; 53261], n: usize, r: Row) {
     if !r.quiet {
-        show(a);
-        show_others(changed_bytes(output, n));
+        show(rt, a);
+        show_others(rt, changed(output, n, BYTE));
     }
 }
 
-// What comes of the letter in its place.
-fn recode(letter: &mut [u8], bytes: usize, r: Row) -> usize {
+// Makes a message of a list of changes, or a list of a message, in the letter's place, with x bytes of room.
+pub fn recode(rt: &impl Print, letter: &mut [u8], bytes: usize, recoded: Recoded, r: Row) -> usize {
     let mut output = [BYTE; 53261];
-    let a = call(r.op, letter, bytes, &mut output, plain(r.x));
+    let a = call(recoded, letter, bytes, &mut output, plain(r.x));
     if a.number != 0 {
-        show_answer(a, &output, 0, r);
+        show_answer(rt, a, &output, 0, r);
         return bytes;
     }
-    let n = size(r.op, letter, &output);
-    show_answer(a, &output, n, r);
+    let n = size(recoded, letter, &output);
+    show_answer(rt, a, &output, n, r);
     take_over(&output, letter, n)
 }
 
 // The letter's first bytes.
-fn show_bytes(letter: &[u8], n: usize) {
-    let end = smaller(n, letter.len());
-    say(b":");
-    let mut i = 0;
-    while i < end {
-        say_number(b" ", octets::byte_at(letter, i));
-        i += 1;
+pub fn show_bytes(rt: &impl Print, letter: &[u8], n: usize) {
+    let _ = print!(rt; ":");
+    for b in letter.iter().take(n) {
+        let _ = print!(rt; " {b}");
     }
-    say(b"\n");
-}
-
-// 1 puts an addition behind the letter, 2 a withdrawal, 4 x withdrawals; 3 gives y bytes of it from x on the value z. 5 makes a message of it, with x bytes of room, 6 a list
-// of changes. 8 prints its first x bytes. It is cut by (.
-pub fn hand_in(letter: &mut [u8], bytes: usize, r: Row) -> usize {
-    if (r.op == b'1') | (r.op == b'2') {
-        return put(letter, bytes, (r.op % 16) as usize, r.x, r.y, r.n);
-    }
-    if r.op == b'3' {
-        return set(letter, bytes, r);
-    }
-    if r.op == b'4' {
-        return put_row(letter, bytes, plain(r.x) as u64);
-    }
-    if (r.op == b'5') | (r.op == b'6') {
-        return recode(letter, bytes, r);
-    }
-    if r.op == b'8' {
-        show_bytes(letter, smaller(plain(r.x), bytes));
-    }
-    bytes
+    let _ = println!(rt);
 }
 
 fn call_apply(
@@ -137,64 +110,45 @@ fn call_apply(
     letter: &[u8],
     bytes: usize,
 ) -> block::Answer {
-    let w = smaller(room, work.len());
-    let n = smaller(bytes, letter.len());
-    apply::apply(table, &mut work[0..w], &letter[0..n])
+    let w = room.min(work.len());
+    let n = bytes.min(letter.len());
+    block::told(apply::apply(table, &mut work[0..w], &letter[0..n]))
 }
 
 // How many bytes are zero before one that isn't.
 fn zeros(work: &[u8]) -> usize {
-    let mut i = 0;
-    while i < work.len() {
-        if work[i] != 0 {
-            return i;
-        }
-        i += 1;
-    }
-    i
+    work.iter().take_while(|&&b| b == 0).count()
 }
 
 // How many bytes of the table differ from a copy.
-fn differing(table: &[u8], copy: &[u8]) -> u64 {
-    let mut n = 0;
-    let mut i = 0;
-    while i < table.len() {
-        if copy.len() <= i {
-            return n;
-        }
-        n = std::num::wrapping_add_u64(n, (table[i] != copy[i]) as u64);
-        i += 1;
-    }
-    n
+fn differing(table: &[u8], copy: &[u8]) -> usize {
+    table.iter().zip(copy).filter(|(a, b)| a != b).count()
 }
 
-fn show_work(work: &[u8; 65536]) {
+fn show_work(rt: &impl Print, work: &[u8; 65536]) {
     let n = zeros(work);
-    say_number(b"    zeros: ", n as u64);
-    say_number(b", others changed: ", changed_bytes(work, n));
+    let others = changed(work, n, BYTE);
+    let _ = print!(rt; "    zeros: {n}, others changed: {others}");
 }
 
 fn keep(table: &[u8], copy: &mut [u8]) {
     let n = table.len();
     if n <= copy.len() {
-        octets::copy(table, copy, n);
+        copy[..n].copy_from_slice(table);
     }
 }
 
-// 7 applies the letter to the table, with a work area of x bytes; prints how many of its bytes are zero, how many of the others differ from what was lent, and after a refusal
+// Applies the letter to the table, with a work area of x bytes; prints how many of its bytes are zero, how many of the others differ from what was lent, and after a refusal
 // how many of the table's.
-pub fn carry_out(table: &mut [u8], letter: &[u8], bytes: usize, r: Row) {
-    if r.op != b'7' {
-        return;
-    }
+pub fn apply(rt: &impl Print, table: &mut [u8], letter: &[u8], bytes: usize, r: Row) {
     let mut work = [BYTE; 65536];
     let mut copy = [BYTE; 65536];
     keep(table, &mut copy);
     let a = call_apply(table, &mut work, plain(r.x), letter, bytes);
-    show(a);
-    show_work(&work);
+    show(rt, a);
+    show_work(rt, &work);
     if a.number != 0 {
-        say_number(b", of the table: ", differing(table, &copy));
+        let _ = print!(rt; ", of the table: {}", differing(table, &copy));
     }
-    say(b"\n");
+    let _ = println!(rt);
 }

@@ -1,13 +1,11 @@
 -- The turns of stepping through a message.
 -- Assumes nothing.
 use mathlib.Core.Path.{◌≡◌, refl, sym, ap, ap₂, subst, ◌∙◌}
-use mathlib.Core.Logic.{◌≢◌}
 use Prim.Native.Nat.{ℕ, suc, ◌+◌, ◌-◌, ◌≤◌, ◌<◌}
-use mathlib.Core.Bool.{Bool, true, false, cond, not, ◌&&◌}
+use mathlib.Core.Bool.{Bool, true, false, cond, ◌&&◌}
 use mathlib.Core.List.{List, [], ◌∷◌, ◌++◌, append_assoc, append-nil}
 use mathlib.Core.Option.{Option}
 use lib.ListN.{length, take}
-use lib.Dec.{eqb}
 use native.Mathlib.Omega.{arith}
 use Rattle.octets.specs.Lists.{has}
 use Rattle.octets.specs.Bytes.{be}
@@ -16,7 +14,8 @@ use Rattle.spot.specs.Spots.{find}
 use Rattle.spot.specs.Keys.{limited}
 use Rattle.spot.specs.declared.Spot.{Spot}
 use Rattle.block.specs.declared.Answer.{Answer}
-use Rattle.block.specs.Answers.{answer}
+use Rattle.block.specs.declared.Refusal.{Refusal}
+use Rattle.block.specs.Answers.{answer, refused}
 use Rattle.block.specs.Table.{table_sized, capacity}
 use Rattle.block.proofs.Making.{blocks-most}
 use Rattle.tree.specs.Sound.{sound}
@@ -30,13 +29,14 @@ use Rattle.message.specs.Messages.{read_message, message_answer}
 use Rattle.message.specs.Effects.{after_change, after_all, turns_down, applied_from, applied_answer}
 use Rattle.message.proofs.Effects.{after-rises, after-append, applied-turned, applied-on}
 use Rattle.message.proofs.Cursor.{NextThere, next-there, left-none, message-there, message-count, accepted-message}
-use Rattle.rows.specs.Rows.{row_of, row_key, row_value, row_at, row_fits, put_row, rows_after}
+use Rattle.std.specs.Prelude.{is_some, Result, Ok, Err}
+use Rattle.rows.specs.declared.Row.{Row}
+use Rattle.rows.specs.Rows.{row_of, row_key, row_track, row_at, track_fits, row_fits, put_row, rows_after}
 use Rattle.rows.specs.Lining.{Rows, RowPut}
 use Rattle.rows.proofs.Merged.{row-key, row_fits_lem, rows_more, row-after}
-use Rattle.verdict.specs.declared.There.{There}
-use Rattle.verdict.specs.declared.Reckoned.{Reckoned}
-use Rattle.verdict.specs.Verdicts.{reckoned_for, reckoned, next_live, there_after, refused_at, Tried}
-use Rattle.verdict.proofs.Steps.{refused-four, refused-other}
+use Rattle.verdict.specs.declared.Refused.{Refused}
+use Rattle.verdict.specs.declared.Refused.TheVariants.{NoRoom}
+use Rattle.verdict.specs.Verdicts.{reckoned_for, next_live, there_after, refused_at, Tried}
 use Rattle.verdict.proofs.Stepping.{there_in, there-is, row-adds, stepped, step_is}
 
 -- ---- one number
@@ -44,12 +44,18 @@ use Rattle.verdict.proofs.Stepping.{there_in, there-is, row-adds, stepped, step_
 pub most-few : (n : ℕ) → table_sized n ≡ true → capacity n ≤ 65520
 most-few n h = omega (arith, blocks-most n h)
 
-pub next-is : {most : ℕ} {adds : Bool} {y : There} {r : Reckoned} (t : List ℕ) (rs : List (List ℕ)) (x : List ℕ) (live : ℕ) → r ≡ next_live most adds y live
-    → most ≡ capacity (length t) → adds ≡ not (eqb (row_value x) 0) → y ≡ there_after (row_at (row_key x) rs) (looked_up t (row_key x))
+pub next-is : {most : ℕ} {adds there : Bool} {r : Result ℕ Refused} (t : List ℕ) (rs : List Row) (x : Row) (live : ℕ) → r ≡ next_live most adds (Ok there) live
+    → most ≡ capacity (length t) → adds ≡ is_some (row_track x) → Ok there ≡ there_after (row_at (row_key x) rs) (looked_up t (row_key x))
     → r ≡ reckoned_for t rs x live
 unfolding reckoned_for
-next-is {most} {adds} {y} {r} t rs x live e f g h =
-    e ∙ ap₂ (λ n b. next_live n b y live) f g ∙ ap (λ (z : There). next_live (capacity (length t)) (not (eqb (row_value x) 0)) z live) h
+next-is {there = there} t rs x live e f g h =
+    e ∙ ap₂ (λ n b. next_live n b (Ok there) live) f g ∙ ap (λ (z : Result Bool Refused). next_live (capacity (length t)) (is_some (row_track x)) z live) h
+
+-- a look-up came to a broken rule
+pub next-broken : {e : Refused} {r : Result ℕ Refused} (t : List ℕ) (rs : List Row) (x : Row) (live : ℕ) → r ≡ Err e
+    → Err e ≡ there_after (row_at (row_key x) rs) (looked_up t (row_key x)) → r ≡ reckoned_for t rs x live
+unfolding reckoned_for
+next-broken t rs x live f h = f ∙ ap (λ (z : Result Bool Refused). next_live (capacity (length t)) (is_some (row_track x)) z live) h
 
 -- ---- one turn on a sound table
 
@@ -66,24 +72,22 @@ module _ (t : List ℕ) (s : sound t ≡ true) (past : List Change) where
       ap₂ (λ b y. next_live (capacity (length t)) b y (length ss)) (row-adds c) there ∙ step_is (length t) ss (after-rises past (live_spots t) (live-rises t s)) c
 
 -- a change is turned down, or leaves so many
-record Stepped (bytes : ℕ) (c : Change) (ss : List Spot) (y : Reckoned) : Type 0 where
-  refused : y.number ≢ 0 → (turns_down bytes c ss ≡ true) × (y.number ≡ 4)
-  accepted : y.number ≡ 0 → (turns_down bytes c ss ≡ false) × (y.live ≡ length (after_change c ss))
+abbrev Stepped : ℕ → Change → List Spot → Result ℕ Refused → Type 0
+Stepped bytes c ss (Err e) = (turns_down bytes c ss ≡ true) × (e ≡ NoRoom)
+Stepped bytes c ss (Ok n) = (turns_down bytes c ss ≡ false) × (n ≡ length (after_change c ss))
 
-stepped_by : (bytes : ℕ) (c : Change) (ss : List Spot) (y : Reckoned) → y ≡ stepped bytes c ss → Stepped bytes c ss y
+stepped_by : (bytes : ℕ) (c : Change) (ss : List Spot) (y : Result ℕ Refused) → y ≡ stepped bytes c ss → Stepped bytes c ss y
 stepped_by bytes c ss y e = go (turns_down bytes c ss) refl e
   where
-    go : (b : Bool) → turns_down bytes c ss ≡ b → y ≡ cond b (reckoned 4 (length ss)) (reckoned 0 (length (after_change c ss))) → Stepped bytes c ss y
-    go true g h =
-        let n : y.number ≡ 4 = ap (λ (z : Reckoned). z.number) h in
-        record { refused = λ z. (g, n); accepted = λ z. absurd (omega (arith, n, z)) }
-    go false g h = record { refused = λ z. absurd (z (ap (λ (z : Reckoned). z.number) h)); accepted = λ z. (g, ap (λ (z : Reckoned). z.live) h) }
+    go : (b : Bool) → turns_down bytes c ss ≡ b → y ≡ cond b (Err NoRoom) (Ok (length (after_change c ss))) → Stepped bytes c ss y
+    go true g h = rw h (g, refl)
+    go false g h = rw h (g, refl)
 
 -- ---- the turns
 
-module _ (t m : List ℕ) (h : List (List ℕ)) where
+module _ (t m : List ℕ) (h : List Row) where
   -- i of n changes are done: these are the rows, and so many spots are live
-  pub record Turn (n : ℕ) (k : List (List ℕ)) (spots r at i : ℕ) : Type 0 where
+  pub record Turn (n : ℕ) (k : List Row) (spots r at i : ℕ) : Type 0 where
     pub few : i ≤ n
     pub long : n ≡ length (changes_of (read_message m))
     pub past : List Change
@@ -120,8 +124,8 @@ module _ (t m : List ℕ) (h : List (List ℕ)) where
         judged = ap (λ (o : Option (List Change)). applied_from (length t) 0 (changes_of o) (live_spots t)) is;
       }
 
-module _ {t m : List ℕ} {h : List (List ℕ)} where
-  module _ {n : ℕ} {k : List (List ℕ)} {spots r at i : ℕ} (v : Turn t m h n k spots r at i) (l : i < n) where
+module _ {t m : List ℕ} {h : List Row} where
+  module _ {n : ℕ} {k : List Row} {spots r at i : ℕ} (v : Turn t m h n k spots r at i) (l : i < n) where
     abbrev here : Change
     here = change_at m at
 
@@ -146,38 +150,38 @@ module _ {t m : List ℕ} {h : List (List ℕ)} where
     pub turn-change : ChangeThere m at
     turn-change = record { inside = turn-next.nine; room = turn-next.room; limits = ap limited (sym turn-next.keyed) ∙ turn-limited }
 
-    pub turn-fits : (x : List ℕ) → x ≡ row_of (change_at m at) → row_value x ≤ 4294967296 → row_fits x ≡ true
-    turn-fits x e w = row_fits_lem x (ap (λ (y : List ℕ). limited (row_key y)) e ∙ ap limited (row-key here) ∙ turn-limited) w
+    pub turn-fits : (x : Row) → x ≡ row_of (change_at m at) → track_fits (row_track x) ≡ true → row_fits x ≡ true
+    turn-fits x e w = row_fits_lem x (ap (λ (y : Row). limited (row_key y)) e ∙ ap limited (row-key here) ∙ turn-limited) w
 
     abbrev spots_now : List Spot
     spots_now = after_all v.past (live_spots t)
 
-    module _ (s : sound t ≡ true) {x : List ℕ} {y : Reckoned} (ex : x ≡ row_of (change_at m at)) (e : y ≡ reckoned_for t (take r k) x spots) where
-      next-sound : Stepped (length t) here spots_now y
-      next-sound =
+    module _ (s : sound t ≡ true) {x : Row} (ex : x ≡ row_of (change_at m at)) where
+      next-sound : (y : Result ℕ Refused) → y ≡ reckoned_for t (take r k) x spots → Stepped (length t) here spots_now y
+      next-sound y e =
           stepped_by (length t) here spots_now y
-          (e ∙ ap (λ (z : List ℕ). reckoned_for t (take r k) z spots) ex ∙ ap₂ (λ (rs : List (List ℕ)) (j : ℕ). reckoned_for t rs (row_of here) j) v.is v.counts ∙ of_is t s v.past here)
+          (e ∙ ap (λ (z : Row). reckoned_for t (take r k) z spots) ex ∙ ap₂ (λ (rs : List Row) (j : ℕ). reckoned_for t rs (row_of here) j) v.is v.counts ∙ of_is t s v.past here)
 
       judged-here : applied_answer (length t) (changes_of (read_message m)) (live_spots t) ≡ applied_from (length t) i (here ∷ rest) spots_now
       judged-here = v.judged ∙ ap (λ (cs : List Change). applied_from (length t) i cs spots_now) split
 
-      pub turn-stops : {a : Answer} {k' : List (List ℕ)} {so : ℕ} → y.number ≢ 0 → a ≡ refused_at y.number i → Tried t m h k' (record { answer = a; rows = so })
-      turn-stops {a} {k'} {so} z f =
-          let turned = next-sound.refused z in
-          let four : a ≡ answer 4 i = f ∙ ap (λ (j : ℕ). refused_at j i) turned.1 ∙ sym (refused-four 4 i refl) in
-          let num : a.number ≡ 4 = ap (λ (b : Answer). b.number) four in
+      pub turn-stops : {e : Refused} {a : Refusal} {k' : List Row} → Err e ≡ reckoned_for t (take r k) x spots → a ≡ refused_at e i → Tried t m h k' (Err a)
+      turn-stops {e} {a} {k'} z f =
+          let turned = next-sound (Err e) z in
+          let four : refused a ≡ answer 4 i = ap refused f ∙ ap (λ (j : Refused). refused (refused_at j i)) turned.1 in
+          let num : (refused a).number ≡ 4 = ap (λ (b : Answer). b.number) four in
           record {
-            numbers = ap (λ (j : ℕ). has j (0 ∷ 3 ∷ 4 ∷ [])) num;
+            numbers = ap (λ (j : ℕ). has j (3 ∷ 4 ∷ [])) num;
             detail = λ w. absurd (w num);
             position = λ w. omega (arith, ap (λ (b : Answer). b.detail) four, v.long, l);
-            lined = λ w. let no : ⊥ = omega (arith, num, w) in absurd no;
+            lined = tt;
             judged = λ w. four ∙ sym (judged-here ∙ applied-turned (length t) i here rest spots_now turned.0);
             full = λ w. s;
           }
 
-      pub turn-goes : {k' : List (List ℕ)} {r' at' i' : ℕ} → y.number ≡ 0 → RowPut k k' r x r' → at' ≡ at + change_size 0 (change_at m at) → i' ≡ suc i
-          → Turn t m h n k' y.live r' at' i'
-      turn-goes {k'} {r'} {at'} {i'} z p ea ei =
+      pub turn-goes : {k' : List Row} {live r' at' i' : ℕ} → Ok live ≡ reckoned_for t (take r k) x spots → RowPut k k' r x r' → at' ≡ at + change_size 0 (change_at m at) → i' ≡ suc i
+          → Turn t m h n k' live r' at' i'
+      turn-goes {k'} {live} {r'} {at'} {i'} z p ea ei =
           let same : read_changes 0 (n - i') m at' ≡ read_changes 0 (n - suc i) m (at + change_size 0 here) = ap₂ (λ j q. read_changes 0 (n - j) m q) ei ea in
           record {
             few = omega arith;
@@ -190,29 +194,28 @@ module _ {t m : List ℕ} {h : List (List ℕ)} where
             rows = p.rows;
             count = omega (arith, p.count, v.count);
             sized = p.sized ∙ v.sized;
-            counts = (next-sound.accepted z).1 ∙ ap length (sym (after-append v.past here (live_spots t)));
+            counts = (next-sound (Ok live) z).1 ∙ ap length (sym (after-append v.past here (live_spots t)));
             judged =
-                judged-here ∙ applied-on (length t) i here rest spots_now (next-sound.accepted z).0
+                judged-here ∙ applied-on (length t) i here rest spots_now (next-sound (Ok live) z).0
                 ∙ ap₂ (λ (j : ℕ) (us : List Spot). applied_from (length t) j rest us) (sym ei) (sym (after-append v.past here (live_spots t)))
                 ∙ ap (λ (o : Option (List Change)). applied_from (length t) i' (changes_of o) (after_all (v.past ++ (here ∷ [])) (live_spots t))) (sym same);
           }
 
-  module _ {n : ℕ} {k : List (List ℕ)} {spots r at i : ℕ} (v : Turn t m h n k spots r at i) (l : n ≤ i) where
+  module _ {n : ℕ} {k : List Row} {spots r at i : ℕ} (v : Turn t m h n k spots r at i) (l : n ≤ i) where
     nothing : changes_of (read_changes 0 (n - i) m at) ≡ []
     nothing = left-none 0 n m at i l
 
-    pub turn-ends : {a : Answer} → a ≡ refused_at 0 0 → Tried t m h k (record { answer = a; rows = r })
-    turn-ends {a} f =
-        let zero_is : a ≡ answer 0 0 = f ∙ sym (refused-other 0 0 (λ e. omega (arith, e))) in
+    pub turn-ends : Tried t m h k (Ok r)
+    turn-ends =
         record {
-          numbers = ap (λ (b : Answer). has b.number (0 ∷ 3 ∷ 4 ∷ [])) zero_is;
-          detail = λ w. ap (λ (b : Answer). b.detail) zero_is;
-          position = λ w. let no : ⊥ = omega (arith, ap (λ (b : Answer). b.number) zero_is, w) in absurd no;
-          lined = λ w. record {
+          numbers = tt;
+          detail = tt;
+          position = tt;
+          lined = record {
             is = v.is ∙ ap (rows_after []) (sym (v.whole ∙ ap (λ (cs : List Change). v.past ++ cs) nothing ∙ append-nil v.past));
             rows = v.rows;
             sized = v.sized;
           };
-          judged = λ w. zero_is ∙ sym (v.judged ∙ ap (λ (cs : List Change). applied_from (length t) i cs (after_all v.past (live_spots t))) nothing);
-          full = λ w. let no : ⊥ = omega (arith, ap (λ (b : Answer). b.number) zero_is, w) in absurd no;
+          judged = λ w. sym (v.judged ∙ ap (λ (cs : List Change). applied_from (length t) i cs (after_all v.past (live_spots t))) nothing);
+          full = tt;
         }

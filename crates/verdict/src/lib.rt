@@ -1,61 +1,38 @@
 // Whether a change of a message is turned down: decided before anything is written, the work area included.
 #![tactic(auto)]
 
-ghost use Rattle.std.specs.Prelude.{◌≡◌, true, ◌≤◌, length, take};
+ghost use Rattle.std.specs.Prelude.{◌≡◌, true, ◌≤◌, length, take, Ok};
 ghost use Rattle.block.specs.Table.{table_sized};
 ghost use Rattle.tree.specs.Sound.{sound};
 ghost use Rattle.tree.specs.Walk.{live_count};
 ghost use Rattle.lookup.specs.Answers.{looked_up};
 ghost use Rattle.rows.specs.Rows.{row_at};
 ghost use Rattle.rows.specs.Lining.{Rows};
-ghost use Rattle.verdict.specs.Verdicts.{there_by, there_as, there_after, one_more, one_less, next_live, reckoned_for, refused_at, Triable, Tried};
+ghost use Rattle.verdict.specs.Verdicts.{there_by, there_after, one_more, one_less, next_live, reckoned_for, refused_at, Triable, Tried};
 
-// Whether a spot is there. Unknown only where a rule is broken, and so on no sound table.
-#[derive(Clone, Copy)]
-pub enum There {
-    Yes,
-    No,
-    Unknown,
+use block::Refusal;
+
+// Why a change is turned down: the table has no room for one more spot, or it breaks a rule.
+#[derive(Clone, Copy, Debug, PartialEq, Eq)]
+enum Refused {
+    NoRoom,
+    Unsound,
 }
 
-// How many spots are live after a change, or the number that refuses it.
-#[derive(Clone, Copy)]
-pub struct Reckoned {
-    pub number: u32,
-    pub live: usize,
-}
-
-// What a message comes to on a table, and how many rows it has if it is accepted.
-#[derive(Clone, Copy)]
-pub struct Ruling {
-    pub answer: block::Answer,
-    pub rows: usize,
-}
-
-// What a row's value says of its spot.
-fn there_as(value: u64) -> There
-    ensures { result ≡ there_as value }
-{
-    if value == 0 {
-        return There::No;
-    }
-    There::Yes
-}
-
-// What a look-up says of a key.
-fn looked_there(table: &[u8], key: u64) -> There
+// What a look-up says of a key: whether its spot is there.
+fn looked_there(table: &[u8], key: u64) -> Result<bool, Refused>
     requires { table_sized (length table.now) ≡ true }
     ensures { result ≡ there_by (looked_up table.now key) }
 {
     match lookup::look_up(table, key) {
-        lookup::Looked::Live(_) => There::Yes,
-        lookup::Looked::Nothing => There::No,
-        lookup::Looked::Broken => There::Unknown,
+        Ok(Some(_)) => Ok(true),
+        Ok(None) => Ok(false),
+        Err(lookup::Broken) => Err(Refused::Unsound),
     }
 }
 
 // Whether the spot of a key is there, after the changes that the rows stand for.
-fn is_there(table: &[u8], rows: &[[u64; 2]], r: usize, key: u64) -> There
+fn is_there(table: &[u8], rows: &[rows::Row], r: usize, key: u64) -> Result<bool, Refused>
     requires { (table_sized (length table.now) ≡ true) × Rows rows.now r }
     ensures { result ≡ there_after (row_at key (take r rows.now)) (looked_up table.now key) }
 {
@@ -63,83 +40,78 @@ fn is_there(table: &[u8], rows: &[[u64; 2]], r: usize, key: u64) -> There
     if r <= p {
         return looked_there(table, key);
     }
-    if rows[p][0] != key {
+    if rows[p].key != key {
         return looked_there(table, key);
     }
-    there_as(rows[p][1])
+    Ok(rows[p].track.is_some())
 }
 
-fn one_more(most: usize, live: usize) -> Reckoned
+fn one_more(most: usize, live: usize) -> Result<usize, Refused>
     requires { most ≤ 65520 }
     ensures { result ≡ one_more most live }
 {
     if most <= live {
-        return Reckoned { number: 4, live };
+        return Err(Refused::NoRoom);
     }
-    Reckoned {
-        number: 0,
-        live: live + 1,
-    }
+    Ok(live + 1)
 }
 
-fn one_less(live: usize) -> Reckoned
+fn one_less(live: usize) -> Result<usize, Refused>
     ensures { result ≡ one_less live }
 {
     if live == 0 {
-        return Reckoned { number: 3, live: 0 };
+        return Err(Refused::Unsound);
     }
-    Reckoned {
-        number: 0,
-        live: live - 1,
-    }
+    Ok(live - 1)
 }
 
-fn next_live(most: usize, adds: bool, x: There, live: usize) -> Reckoned
+fn next_live(most: usize, adds: bool, there: bool, live: usize) -> Result<usize, Refused>
     requires { most ≤ 65520 }
-    ensures { result ≡ next_live most adds x live }
+    ensures { result ≡ next_live most adds (Ok there) live }
 {
-    match x {
-        There::Yes => {
-            if adds {
-                return Reckoned { number: 0, live };
-            }
-            one_less(live)
-        }
-        There::No => {
-            if adds {
-                return one_more(most, live);
-            }
-            Reckoned { number: 0, live }
-        }
-        There::Unknown => Reckoned { number: 3, live },
+    if adds == there {
+        return Ok(live);
     }
+    if adds {
+        return one_more(most, live);
+    }
+    one_less(live)
 }
 
 // How many spots are live after the change of a row, where the others stand for the changes before.
-fn next_of(table: &[u8], rows: &[[u64; 2]], r: usize, x: [u64; 2], live: usize) -> Reckoned
+fn next_of(
+    table: &[u8],
+    rows: &[rows::Row],
+    r: usize,
+    x: rows::Row,
+    live: usize,
+) -> Result<usize, Refused>
     requires { (table_sized (length table.now) ≡ true) × Rows rows.now r }
     ensures { result ≡ reckoned_for table.now (take r rows.now) x live }
 {
     let most = block::capacity_of(table.len());
-    next_live(most, x[1] != 0, is_there(table, rows, r, x[0]), live)
+    let there = is_there(table, rows, r, x.key)?;
+    next_live(most, x.track.is_some(), there, live)
 }
 
-// The number, with the position if it is 4.
-fn refused_at(number: u32, at: usize) -> block::Answer
+// The refusal of a message for a change that is turned down: with its position if there is no room for it.
+fn refused_at(refused: Refused, at: usize) -> Refusal
     requires { at ≤ 4096 }
-    ensures { result ≡ refused_at number at }
+    ensures { result ≡ refused_at refused at }
 {
-    if number == 4 {
-        return block::Answer {
-            number: 4,
-            detail: at as u32,
-        };
+    match refused {
+        Refused::NoRoom => Refusal::Full(at as u32),
+        Refused::Unsound => Refusal::Broken,
     }
-    block::Answer { number, detail: 0 }
 }
 
 // Change by change on a sound table, from its number of live spots on.
-fn step_through(table: &[u8], m: &[u8], rows: &mut [[u64; 2]], live: usize) -> Ruling
+fn step_through(
+    table: &[u8],
+    m: &[u8],
+    rows: &mut [rows::Row],
+    live: usize,
+) -> Result<usize, Refusal>
     requires { Triable table.now m.now rows.old × (sound table.now ≡ true) × (live ≡ live_count table.now) }
     ensures { Tried table.now m.now rows.old rows.new result }
 {
@@ -147,48 +119,37 @@ fn step_through(table: &[u8], m: &[u8], rows: &mut [[u64; 2]], live: usize) -> R
     let mut spots = live;
     let mut r: usize = 0;
     let mut at = message::HEAD_BYTES;
-    let mut i = 0;
-    while i < n {
+    for i in 0..n {
         let x = rows::row_of(message::change_at(m, at));
-        let next = next_of(table, rows, r, x, spots);
-        if next.number != 0 {
-            return Ruling {
-                answer: refused_at(next.number, i),
-                rows: r,
-            };
-        }
-        spots = next.live;
+        spots = match next_of(table, rows, r, x, spots) {
+            Ok(next) => next,
+            Err(refused) => return Err(refused_at(refused, i)),
+        };
         r = rows::put_row(rows, r, x);
         at += message::size_of(m, at, 0);
-        i += 1;
     }
-    Ruling {
-        answer: refused_at(0, 0),
-        rows: r,
-    }
+    Ok(r)
 }
 
+// How many rows the message has, if none of its changes is turned down; else the refusal.
 // The figure in block 0 is never below the number of live spots: where all additions find room beside it, none is looked up. Else the live spots are counted; 4 is an answer
 // on a sound table alone, so that look-ups and a walk of everything can't disagree on it.
-pub fn verdict(table: &[u8], m: &[u8], rows: &mut [[u64; 2]]) -> Ruling
+pub fn verdict(table: &[u8], m: &[u8], rows: &mut [rows::Row]) -> Result<usize, Refusal>
     requires { Triable table.now m.now rows.old }
     ensures { Tried table.now m.now rows.old rows.new result }
 {
     let most = block::capacity_of(table.len());
     let figure = block::bound_of(table) as usize;
     if figure + message::adds_of(m) <= most {
-        return Ruling {
-            answer: refused_at(0, 0),
-            rows: rows::line_up(m, rows),
-        };
+        return Ok(rows::line_up(m, rows));
     }
     if !soundness::is_sound(table) {
-        return Ruling {
-            answer: refused_at(3, 0),
-            rows: 0,
-        };
+        return Err(refused_at(Refused::Unsound, 0));
     }
     let mut seen = [0u8; block::MAP_BYTES];
-    let all = query::count_table(table, &mut seen, spot::everything());
-    step_through(table, m, rows, all.tally.spots)
+    let Some(all) = query::count_table(table, &mut seen, spot::everything()) else {
+        // Never: the walk of a sound table is whole.
+        return Err(Refusal::Broken);
+    };
+    step_through(table, m, rows, all.spots)
 }

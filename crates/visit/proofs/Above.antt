@@ -2,7 +2,7 @@
 -- Assumes nothing.
 use mathlib.Core.Path.{◌≡◌, refl, sym, ap, ap₂, subst, ◌∙◌}
 use mathlib.Core.Logic.{◌⊎◌, inl, inr, ⊎_elim}
-use mathlib.Core.Bool.{Bool, true, not, ◌&&◌, ◌||◌}
+use mathlib.Core.Bool.{Bool, true, not, ◌||◌}
 use mathlib.Core.List.Memᴰ
 use mathlib.Core.List.{List, [], ◌∷◌, ◌++◌, Memᴰ}
 use Prim.Native.Nat.{ℕ, suc, ◌+◌, ◌*◌, ◌≤◌, ◌<◌}
@@ -32,14 +32,15 @@ use Rattle.block.specs.Node.{Node, Store, store_of, node_of, node_from, points_f
 use Rattle.block.specs.NodeRules.{names, node_ok, filled, lowest, agrees, tops, is_highest}
 use Rattle.block.specs.Access.{EntryIs}
 use Rattle.block.proofs.Facts.{NodeFacts, node-facts}
-use Rattle.tree.specs.Part.{next_low, parts}
+use Rattle.tree.specs.Part.{parts}
 use Rattle.tree.specs.Walk.{topped, admits, takes_key, takes, finds}
 use Rattle.tree.specs.Trace.{named_by}
 use Rattle.tree.proofs.Sources.{room-is}
 use Rattle.tree.proofs.Below.{tops-mem, some-point, has-insert, has-child}
 use Rattle.visit.specs.declared.Path.{Path}
 use Rattle.visit.specs.declared.Span.{Span}
-use Rattle.visit.specs.Visit.{end_of, part_of, above, named_above, waiting, waiting_by, waiting_above, ceiling, Ancestors, entries_in, child_span}
+use Rattle.visit.specs.Visit.{end_of, part_of, above, named_above, waiting, waiting_by, waiting_above, ceiling, Ancestors, entries_in, child_span, next_end}
+use Rattle.std.specs.Prelude.{unwrap_or}
 use Rattle.visit.proofs.Paths.{last-or-not, valid-more}
 use Rattle.visit.proofs.Spans.{entry_next, entry-none}
 
@@ -176,20 +177,20 @@ above_root t p top e =
 
 -- the next child, and the parts that follow it
 pub first_part : (e : Entry) (lo : ℕ) (span : Span) (es : List Entry)
-    → let s : Span = record { lo = lo; hi = next_low es span.hi; endless = is_empty es && span.endless } in
-    parts lo (end_of span) (e ∷ es) ≡ part_of e.block (Child e) s ∷ parts s.hi (end_of span) es
+    → let s : Span = record { lo = lo; hi = next_end es span.hi } in
+    parts lo (end_of span) (e ∷ es) ≡ part_of e.block (Child e) s ∷ parts (unwrap_or s.hi lo) (end_of span) es
 first_part e lo span [] = refl
 first_part e lo span (x ∷ es) = refl
 
 module _ (s : List ℕ) (i lo : ℕ) (span : Span) where
   pub parts_at : {e : Entry} {r : Span} → i < be 1 s 7 → EntryIs s i e → r ≡ child_span (entries_in s) i lo span
-      → parts lo (end_of span) (drop i (entries_in s)) ≡ part_of e.block (Child e) r ∷ parts r.hi (end_of span) (drop (i + 1) (entries_in s))
+      → parts lo (end_of span) (drop i (entries_in s)) ≡ part_of e.block (Child e) r ∷ parts (unwrap_or r.hi lo) (end_of span) (drop (i + 1) (entries_in s))
   parts_at {e} {r} h v g =
       let es : List Entry = drop (suc i) (entries_in s) in
       ap (parts lo (end_of span)) (entry_next s i h ∙ ap (λ (x : Entry). x ∷ es) (sym v.same))
       ∙ first_part e lo span es
-      ∙ ap (λ (x : Span). part_of e.block (Child e) x ∷ parts x.hi (end_of span) es) (sym g)
-      ∙ ap (λ (j : ℕ). part_of e.block (Child e) r ∷ parts r.hi (end_of span) (drop j (entries_in s))) (sym (add-one i))
+      ∙ ap (λ (x : Span). part_of e.block (Child e) x ∷ parts (unwrap_or x.hi lo) (end_of span) es) (sym g)
+      ∙ ap (λ (j : ℕ). part_of e.block (Child e) r ∷ parts (unwrap_or r.hi lo) (end_of span) (drop j (entries_in s))) (sym (add-one i))
 
   pub parts_none : (hi : ℕ) → be 1 s 7 ≤ i → parts lo hi (drop i (entries_in s)) ≡ []
   parts_none hi h = ap (parts lo hi) (entry-none s i h)

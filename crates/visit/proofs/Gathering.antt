@@ -1,9 +1,10 @@
 -- The keys that wait above a node, gathered in a list as far as they lie near it.
 -- Assumes nothing.
 use mathlib.Core.Path.{◌≡◌, refl, sym, ap, ap₂, subst, ◌∙◌}
+use Rattle.std.specs.Prelude.{Option, None, Some}
 use mathlib.Core.Bool.{Bool, true, false, not, ◌&&◌, ◌||◌, or-false, or_assoc, or_comm, false≢true}
 use mathlib.Core.List.{List, [], ◌∷◌, ◌++◌, Memᴰ}
-use Prim.Native.Nat.{ℕ, suc, ◌+◌, ◌-◌, ◌*◌, ◌≤◌, ◌<◌}
+use Prim.Native.Nat.{ℕ, ◌+◌, ◌-◌, ◌*◌, ◌≤◌, ◌<◌}
 use native.Mathlib.Numerals.{add-one}
 use native.Mathlib.Omega.{arith}
 use lib.Dec.{leb, eqb}
@@ -30,15 +31,16 @@ use Rattle.visit.proofs.Marking.{run-skips, run-stops, takes-is}
 
 -- ---- keys behind others
 
-pub kept-key : (list : List ℕ) (c k lo last : ℕ) → c < length list → KeysKept (k ∷ []) lo last c list (set list c k) (c + bool_byte (leb lo k && leb k last))
+pub kept-key : (list : List ℕ) (c k lo last : ℕ) → c < length list → KeysKept (k ∷ []) lo last c list (set list c k) (Some (c + bool_byte (leb lo k && leb k last)))
 kept-key list c k lo last h = go (leb lo k && leb k last) refl
   where
-    go : (b : Bool) → leb lo k && leb k last ≡ b → KeysKept (k ∷ []) lo last c list (set list c k) (c + bool_byte b)
-    go true e = record { sized = length-set list c k; same = λ m x l g. ap (has x) (take-push list c k h) ∙ has-append x (take c list) (k ∷ []) }
+    go : (b : Bool) → leb lo k && leb k last ≡ b → KeysKept (k ∷ []) lo last c list (set list c k) (Some (c + bool_byte b))
+    go true e = record { sized = length-set list c k; few = omega (arith, length-set list c k); same = λ x l g. ap (has x) (take-push list c k h) ∙ has-append x (take c list) (k ∷ []) }
     go false e =
         record {
           sized = length-set list c k;
-          same = λ m x l g.
+          few = omega (arith, length-set list c k);
+          same = λ x l g.
               let z : c + 0 ≡ c = omega arith in
               let out : has x (k ∷ []) ≡ false = or-false (eqb x k) ∙ ne_eqb x k (λ s. false≢true (sym e ∙ and_both (leb lo k) (leb k last) (le-leb lo k (omega arith)) (le-leb k last (omega arith)))) in
               ap (λ (i : ℕ). has x (take i (set list c k))) z ∙ ap (has x) (take-set-le c list c k (omega arith))
@@ -46,54 +48,57 @@ kept-key list c k lo last h = go (leb lo k && leb k last) refl
         }
 
 -- none, and too many
-pub kept-none : (lo last c : ℕ) (list : List ℕ) → KeysKept [] lo last c list list c
-kept-none lo last c list = record { sized = refl; same = λ m k l g. sym (or-false (has k (take c list))) }
+pub kept-none : (lo last c : ℕ) (list : List ℕ) → c ≤ length list → KeysKept [] lo last c list list (Some c)
+kept-none lo last c list h = record { sized = refl; few = h; same = λ k l g. sym (or-false (has k (take c list))) }
 
-pub kept_full : (ks : List ℕ) (lo last c r : ℕ) {list list' : List ℕ} → length list' ≡ length list → 64 < r → KeysKept ks lo last c list list' r
-kept_full ks lo last c r e h = record { sized = e; same = λ m k l g. absurd (let z : ⊥ = omega arith in z) }
+pub kept_full : (ks : List ℕ) (lo last c : ℕ) {list list' : List ℕ} → length list' ≡ length list → KeysKept ks lo last c list list' None
+kept_full ks lo last c e = record { sized = e; few = tt; same = tt }
 
-module _ {lo last c r : ℕ} {list list' : List ℕ} where
-  pub kept_then : {xs ys : List ℕ} {list'' : List ℕ} {d : ℕ} → KeysKept xs lo last c list list' d → d ≤ 64 → KeysKept ys lo last d list' list'' r → KeysKept (xs ++ ys) lo last c list list'' r
-  kept_then {xs} {ys} {list''} {d} a h b =
+module _ {lo last c : ℕ} {list list' : List ℕ} where
+  pub kept_then : {xs ys : List ℕ} {list'' : List ℕ} {d : ℕ} {r : Option ℕ} → KeysKept xs lo last c list list' (Some d) → KeysKept ys lo last d list' list'' r → KeysKept (xs ++ ys) lo last c list list'' r
+  kept_then {r = None} a b = record { sized = b.sized ∙ a.sized; few = tt; same = tt }
+  kept_then {xs} {ys} {list''} {d} {r = Some n} a b =
       record {
         sized = b.sized ∙ a.sized;
-        same = λ m k l g.
-            b.same m k l g ∙ ap (λ (x : Bool). x || has k ys) (a.same h k l g) ∙ or_assoc (has k (take c list)) (has k xs) (has k ys)
+        few = b.few;
+        same = λ k l g.
+            b.same k l g ∙ ap (λ (x : Bool). x || has k ys) (a.same k l g) ∙ or_assoc (has k (take c list)) (has k xs) (has k ys)
             ∙ ap (λ (x : Bool). has k (take c list) || x) (sym (has-append k xs ys));
       }
 
   -- with others that are the same from lo to last
-  pub kept_same : {xs ys : List ℕ} → ((k : ℕ) → lo ≤ k → k ≤ last → has k xs ≡ has k ys) → KeysKept xs lo last c list list' r → KeysKept ys lo last c list list' r
-  kept_same h a = record { sized = a.sized; same = λ m k l g. a.same m k l g ∙ ap (λ (x : Bool). has k (take c list) || x) (h k l g) }
+  pub kept_same : {xs ys : List ℕ} {r : Option ℕ} → ((k : ℕ) → lo ≤ k → k ≤ last → has k xs ≡ has k ys) → KeysKept xs lo last c list list' r → KeysKept ys lo last c list list' r
+  kept_same {r = None} h a = record { sized = a.sized; few = tt; same = tt }
+  kept_same {r = Some n} h a = record { sized = a.sized; few = a.few; same = λ k l g. a.same k l g ∙ ap (λ (x : Bool). has k (take c list) || x) (h k l g) }
 
 -- ---- a run that rises
 
 module _ (t : List ℕ) (a w n lo last c : ℕ) (r : rising (keys_from t w n a) ≡ true) where
-  pub kept-start : {j : ℕ} (list : List ℕ) → j ≡ below_in lo (keys_from t w n a) → j ≤ n → KeysKept (keys_from t w j a) lo last c list list c
-  kept-start list e h = kept_same (λ k l g. sym (run-skips t a w n r lo k e h l)) (kept-none lo last c list)
+  pub kept-start : {j : ℕ} (list : List ℕ) → j ≡ below_in lo (keys_from t w n a) → j ≤ n → c ≤ length list → KeysKept (keys_from t w j a) lo last c list list (Some c)
+  kept-start list e h m = kept_same (λ k l g. sym (run-skips t a w n r lo k e h l)) (kept-none lo last c list m)
 
-  pub kept_next : {k d d' : ℕ} {list list' list'' : List ℕ} (j : ℕ) → k ≡ key_at t (a + w * j) → KeysKept (keys_from t w j a) lo last c list list' d → d ≤ 64 → KeysKept (k ∷ []) lo last d list' list'' d'
-      → KeysKept (keys_from t w (j + 1) a) lo last c list list'' d'
-  kept_next {k} {d} {d'} {list} {list'} {list''} j e s h v =
-      subst (λ (l : List ℕ). KeysKept l lo last c list list'' d')
+  pub kept_next : {k d d' : ℕ} {list list' list'' : List ℕ} (j : ℕ) → k ≡ key_at t (a + w * j) → KeysKept (keys_from t w j a) lo last c list list' (Some d) → KeysKept (k ∷ []) lo last d list' list'' (Some d')
+      → KeysKept (keys_from t w (j + 1) a) lo last c list list'' (Some d')
+  kept_next {k} {d} {d'} {list} {list'} {list''} j e s v =
+      subst (λ (l : List ℕ). KeysKept l lo last c list list'' (Some d'))
       (ap (λ (x : ℕ). keys_from t w j a ++ (x ∷ [])) e ∙ sym (records-more (key_at t) w j a) ∙ ap (λ (x : ℕ). keys_from t w x a) (sym (add-one j)))
-      (kept_then s h v)
+      (kept_then s v)
 
-  pub kept-stop : {k d : ℕ} {list list' : List ℕ} (j : ℕ) → j < n → k ≡ key_at t (a + w * j) → last < k → KeysKept (keys_from t w j a) lo last c list list' d
-      → KeysKept (keys_from t w n a) lo last c list list' d
+  pub kept-stop : {k d : ℕ} {list list' : List ℕ} (j : ℕ) → j < n → k ≡ key_at t (a + w * j) → last < k → KeysKept (keys_from t w j a) lo last c list list' (Some d)
+      → KeysKept (keys_from t w n a) lo last c list list' (Some d)
   kept-stop j h e l s = kept_same (λ x f g. run-stops t a w n r j last x h (omega arith) g) s
 
-  pub kept-end : {d : ℕ} {list list' : List ℕ} (j : ℕ) → j ≡ n → KeysKept (keys_from t w j a) lo last c list list' d → KeysKept (keys_from t w n a) lo last c list list' d
-  kept-end {d} {list} {list'} j e s = subst (λ (x : ℕ). KeysKept (keys_from t w x a) lo last c list list' d) e s
+  pub kept-end : {d : ℕ} {list list' : List ℕ} (j : ℕ) → j ≡ n → KeysKept (keys_from t w j a) lo last c list list' (Some d) → KeysKept (keys_from t w n a) lo last c list list' (Some d)
+  kept-end {d} {list} {list'} j e s = subst (λ (x : ℕ). KeysKept (keys_from t w x a) lo last c list list' (Some d)) e s
 
 -- ---- another list
 
-pub kept_more : (ws : List ℕ) (lo last c : ℕ) {k d d' : ℕ} {list list' list'' : List ℕ} (j : ℕ) → j < length ws → k ≡ get_or ws j 0 → KeysKept (take j ws) lo last c list list' d → d ≤ 64
-    → KeysKept (k ∷ []) lo last d list' list'' d' → KeysKept (take (j + 1) ws) lo last c list list'' d'
-kept_more ws lo last c {k} {d} {d'} {list} {list'} {list''} j h e s m v =
-    subst (λ (l : List ℕ). KeysKept l lo last c list list'' d')
+pub kept_more : (ws : List ℕ) (lo last c : ℕ) {k d d' : ℕ} {list list' list'' : List ℕ} (j : ℕ) → j < length ws → k ≡ get_or ws j 0 → KeysKept (take j ws) lo last c list list' (Some d)
+    → KeysKept (k ∷ []) lo last d list' list'' (Some d') → KeysKept (take (j + 1) ws) lo last c list list'' (Some d')
+kept_more ws lo last c {k} {d} {d'} {list} {list'} {list''} j h e s v =
+    subst (λ (l : List ℕ). KeysKept l lo last c list list'' (Some d'))
     (ap (λ (x : ℕ). take j ws ++ (x ∷ [])) e ∙ sym (ap (λ (i : ℕ). take i ws) (add-one j) ∙ take-suc ws j 0 h))
-    (kept_then s m v)
+    (kept_then s v)
 
 -- ---- a path with one node more
 
@@ -115,14 +120,14 @@ module _ (t : List ℕ) (p r : Path) (b : ℕ) (g : above r ≡ above p ++ (b �
             ∙ sym (v.same k (omega arith) (omega arith)) ∙ ap (λ (i : ℕ). has k (take i ws)) z);
       }
 
-  pub gathered-step : {ws list list' : List ℕ} {lo last c : ℕ} → WaitsGathered t p ws → KeysKept (waiting (store_of t b) ++ take p.waits ws) lo last 0 list list' c → c ≤ 64 → length list ≡ 64
+  pub gathered-step : {ws list list' : List ℕ} {lo last c : ℕ} → WaitsGathered t p ws → KeysKept (waiting (store_of t b) ++ take p.waits ws) lo last 0 list list' (Some c)
       → p.lo ≤ lo → last ≤ p.last → r.lo ≡ lo → r.last ≡ last → r.waits ≡ c → WaitsGathered t r list'
-  gathered-step {ws} {list} {list'} {lo} {last} {c} v s m long up down e f n =
+  gathered-step {ws} {list} {list'} {lo} {last} {c} v s up down e f n =
       record {
-        few = omega (arith, s.sized);
+        few = omega (arith, s.few);
         same = λ k l h.
             let own : Bool = has k (waiting (store_of t b)) in
-            ap (λ (i : ℕ). has k (take i list')) n ∙ s.same m k (omega arith) (omega arith) ∙ has-append k (waiting (store_of t b)) (take p.waits ws)
+            ap (λ (i : ℕ). has k (take i list')) n ∙ s.same k (omega arith) (omega arith) ∙ has-append k (waiting (store_of t b)) (take p.waits ws)
             ∙ ap (λ (x : Bool). own || x) (v.same k (omega arith) (omega arith)) ∙ or_comm own (has k (waiting_above t p)) ∙ sym (waits-more k);
       }
 

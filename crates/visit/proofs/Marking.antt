@@ -4,14 +4,14 @@ use mathlib.Core.Path.{◌≡◌, refl, sym, ap, ap₂, subst, ◌∙◌}
 use mathlib.Core.Logic.{◌⊎◌, inl, inr, ⊎_elim}
 use mathlib.Core.Bool.{Bool, true, false, cond, not, ◌&&◌, ◌||◌, and-true, and_assoc, or-false}
 use mathlib.Core.List.{List, [], ◌∷◌, ◌++◌, Memᴰ}
-use Prim.Native.Nat.{ℕ, zero, suc, ◌+◌, ◌-◌, ◌*◌, ◌≤◌, ◌<◌}
+use Prim.Native.Nat.{ℕ, zero, suc, ◌+◌, ◌-◌, ◌*◌, ◌≤◌, ◌<◌, min, max}
 use native.Mathlib.Numerals.{add-one}
 use native.Mathlib.Nat.{mul-suc, mul-zero}
 use native.Mathlib.Omega.{arith}
 use lib.Dec.{eqb, leb}
 use lib.IntN.{ℤ}
 use lib.ListN.{length, take, get_or, set, replicate, length-append, length-set, length-replicate, get_or-replicate, get_or-eq_default}
-use lib.Seq.{take-suc, take_all, get_or-set_same, get_or-set_other, get_or-take}
+use lib.Seq.{take-suc, take_all, get_or-set_same, get_or-set_other}
 use borrow.Author.Tests.{ne_eqb, eqb-true}
 use Rattle.octets.specs.Lists.{has, keep, records, rising}
 use Rattle.octets.proofs.Order.{same_or_not, less-or-not}
@@ -149,18 +149,18 @@ all_wanted t at n q {lo} {hi} {least} {from} {last} {r} some p e g y f l d h i j
 
 -- none before the query's lowest key or the run's, nor behind the highest
 module _ (t : List ℕ) (at n : ℕ) (q : Query) (some : 0 < n) (p : rising (keys_from t 12 n at) ≡ true) where
-  before-lo : (i : ℕ) {lo from first : ℕ} → i < n → from ≡ lowest_of q → first ≡ key_at t at → (lo ≡ from) ⊎ (lo ≡ first) → key_at t (at + 12 * i) < lo → key_at t (at + 12 * i) < lowest_of q
+  before-lo : (i : ℕ) {lo from first : ℕ} → i < n → from ≡ lowest_of q → first ≡ key_at t at → lo ≡ max from first → key_at t (at + 12 * i) < lo → key_at t (at + 12 * i) < lowest_of q
   before-lo i l d e o h =
       let z : at + 12 * 0 ≡ at = omega arith in
       let a : key_at t at ≤ key_at t (at + 12 * i) = subst (λ (x : ℕ). key_at t x ≤ key_at t (at + 12 * i)) z (run-rises t 12 n at p 0 i (omega arith) l) in
-      ⊎_elim (λ f. omega arith) (λ f. absurd (omega arith)) o
+      omega arith
 
-  behind-hi : (i : ℕ) {hi to last : ℕ} → i < n → to ≡ highest_of q → last ≡ key_at t (at + 12 * (n - 1)) → (hi ≡ to) ⊎ (hi ≡ last) → hi < key_at t (at + 12 * i) → highest_of q < key_at t (at + 12 * i)
+  behind-hi : (i : ℕ) {hi to last : ℕ} → i < n → to ≡ highest_of q → last ≡ key_at t (at + 12 * (n - 1)) → hi ≡ min to last → hi < key_at t (at + 12 * i) → highest_of q < key_at t (at + 12 * i)
   behind-hi i l d e o h =
       let a : key_at t (at + 12 * i) ≤ key_at t (at + 12 * (n - 1)) = run-rises t 12 n at p i (n - 1) (omega arith) (omega arith) in
-      ⊎_elim (λ f. omega arith) (λ f. absurd (omega arith)) o
+      omega arith
 
-  pub wanted-blank : {lo hi from to first last : ℕ} {m : List Bool} → from ≡ lowest_of q → to ≡ highest_of q → first ≡ key_at t at → last ≡ key_at t (at + 12 * (n - 1)) → (lo ≡ from) ⊎ (lo ≡ first) → (hi ≡ to) ⊎ (hi ≡ last)
+  pub wanted-blank : {lo hi from to first last : ℕ} {m : List Bool} → from ≡ lowest_of q → to ≡ highest_of q → first ≡ key_at t at → last ≡ key_at t (at + 12 * (n - 1)) → lo ≡ max from first → hi ≡ min to last
       → Wanted t at n q m → Blank t at n lo hi m
   wanted-blank c d e g a b v i l o =
       let k : ℕ = key_at t (at + 12 * i) in
@@ -424,16 +424,14 @@ module _ (t : List ℕ) (at n : ℕ) (p : Path) (long : length p.blocks ≡ 8) (
   pub path-start : (m : List Bool) → StruckBy t at n p 0 m m
   path-start m = struck-none m (λ i h. refl)
 
-  pub path-more : {m m' m'' : List Bool} (i : ℕ) → i < p.n → StruckBy t at n p i m m' → Struck t at n (waiting (store_of t (get_or p.blocks i 0))) m' m'' → StruckBy t at n p (i + 1) m m''
+  pub path-more : {m m' m'' : List Bool} (i : ℕ) → i < p.n → StruckBy t at n p i m m' → Struck t at n (waiting (store_of t (get_or (above p) i 0))) m' m'' → StruckBy t at n p (i + 1) m m''
   path-more {m} {m'} {m''} i h s v = struck-same same (struck-then s v)
     where
       b : ℕ
-      b = get_or p.blocks i 0
+      b = get_or (above p) i 0
 
       one : take (i + 1) (above p) ≡ take i (above p) ++ (b ∷ [])
-      one =
-          ap (λ (j : ℕ). take j (above p)) (add-one i) ∙ take-suc (above p) i 0 (omega (arith, path-length p long few))
-          ∙ ap (λ (x : ℕ). take i (above p) ++ (x ∷ [])) (get_or-take p.n p.blocks i 0 h)
+      one = ap (λ (j : ℕ). take j (above p)) (add-one i) ∙ take-suc (above p) i 0 (omega (arith, path-length p long few))
 
       same : (j : ℕ) → j < n
           → has (key_at t (at + 12 * j)) (waiting_by (store_of t) (take i (above p)) ++ waiting (store_of t b)) ≡ has (key_at t (at + 12 * j)) (waiting_by (store_of t) (take (i + 1) (above p)))

@@ -8,7 +8,7 @@ use mathlib.Core.List.{List, [], ◌∷◌, ◌++◌, Memᴰ}
 use Prim.Native.Nat.{ℕ, ◌+◌, ◌≤◌, ◌<◌}
 use native.Mathlib.Omega.{arith}
 use lib.ListN.{length, get_or}
-use lib.Seq.{length-take-le, get_or-take}
+use lib.Seq.{length-take-le}
 use Rattle.octets.specs.Lists.{has}
 use Rattle.octets.proofs.Lists.{at_mem}
 use Rattle.octets.proofs.Sets.{has-append}
@@ -31,9 +31,8 @@ module _ (p : Path) (long : length p.blocks ≡ 8) (few : p.n ≤ 7) where
   pub path-length : length (above p) ≡ p.n
   path-length = length-take-le p.n p.blocks (omega arith)
 
-  pub path-at : (i : ℕ) → i < p.n → Memᴰ (get_or p.blocks i 0) (above p)
-  path-at i h =
-      subst (λ (b : ℕ). Memᴰ b (above p)) (get_or-take p.n p.blocks i 0 h) (at_mem (above p) i 0 (omega (arith, path-length)))
+  pub path-at : (i : ℕ) → i < p.n → Memᴰ (get_or (above p) i 0) (above p)
+  path-at i h = at_mem (above p) i 0 (omega (arith, path-length))
 
 -- ---- one node more
 

@@ -1,7 +1,7 @@
 -- Spans and children: what `meets` and `admits` ask of a span, and the entries of a block one after the other.
 -- Assumes nothing.
-use mathlib.Core.Path.{◌≡◌, refl, sym, ap, ap₂, ◌∙◌}
-use mathlib.Core.Bool.{Bool, true, false, cond, not, ◌&&◌, ◌||◌}
+use mathlib.Core.Path.{◌≡◌, sym, ap, ap₂, ◌∙◌}
+use mathlib.Core.Bool.{Bool, cond, not, ◌&&◌}
 use mathlib.Core.List.{List, [], ◌∷◌}
 use Prim.Native.Nat.{ℕ, suc, ◌+◌, ◌*◌, ◌/◌, ◌≤◌, ◌<◌}
 use native.Mathlib.Numerals.{add-one}
@@ -9,10 +9,9 @@ use native.Mathlib.Omega.{arith}
 use lib.Dec.{ltb, leb, eqb, eqb-suc-zero}
 use lib.ListN.{length, drop, drop_of_length-le}
 use lib.Seq.{drop-cons}
-use borrow.Author.Tests.{lt-ltb}
-use Rattle.octets.specs.Lists.{all, is_empty}
+use Rattle.octets.specs.Lists.{all}
 use Rattle.octets.specs.Bytes.{be}
-use Rattle.spot.specs.Keys.{word, all_keys, rank_key}
+use Rattle.spot.specs.Keys.{word, rank_key}
 use Rattle.spot.specs.Spots.{key_at}
 use Rattle.spot.specs.Query.{from_of, last_of, least_of, ends, meets}
 use Rattle.spot.specs.declared.Query.{Query}
@@ -22,24 +21,18 @@ use Rattle.block.specs.Node.{node_of, node_from}
 use Rattle.block.specs.Access.{front_of, entry_of}
 use Rattle.block.proofs.Shut.{all2}
 use Rattle.block.proofs.Reading.{entries-count, entry-is}
-use Rattle.tree.specs.Part.{next_low}
 use Rattle.tree.specs.Walk.{topped, admits}
 use Rattle.visit.specs.declared.Span.{Span}
-use Rattle.visit.specs.Visit.{end_of, part_of, entries_in, child_span}
+use Rattle.visit.specs.Visit.{end_of, part_of, entries_in, child_span, next_end}
+use Rattle.std.specs.Prelude.{Some}
 
 -- ---- tests of a span
 
--- a key lies before the end of a span
-pub before-end : (endless : Bool) (x hi : ℕ) → x < all_keys → endless || ltb x hi ≡ ltb x (cond endless all_keys hi)
-before-end true x hi h = sym (lt-ltb x all_keys h)
-before-end false x hi h = refl
-
-pub meets-is : (q : Query) (s : Span) {from last : ℕ} {r : Bool} → from ≡ from_of q → last ≡ last_of q → s.lo < all_keys → from < all_keys
-    → r ≡ ends q (s.endless || ltb from s.hi) (leb s.lo last) → (s.endless || ltb s.lo s.hi) && r ≡ meets q s.lo (end_of s)
+pub meets-is : (q : Query) (s : Span) {from last : ℕ} {first filled r : Bool} → from ≡ from_of q → last ≡ last_of q → first ≡ ltb from (end_of s) → filled ≡ ltb s.lo (end_of s)
+    → r ≡ ends q first (leb s.lo last) → filled && r ≡ meets q s.lo (end_of s)
 unfolding meets
 meets-is q s {from} f l g h e =
-    ap₂ ◌&&◌ (before-end s.endless s.lo s.hi g)
-    (e ∙ ap₂ (ends q) (before-end s.endless from s.hi h ∙ ap (λ (x : ℕ). ltb x (end_of s)) f) (ap (leb s.lo) l))
+    ap₂ ◌&&◌ h (e ∙ ap₂ (ends q) (g ∙ ap (λ (x : ℕ). ltb x (end_of s)) f) (ap (leb s.lo) l))
     ∙ sym (all2 (ltb s.lo (end_of s)) (ends q (ltb (from_of q) (end_of s)) (leb s.lo (last_of q))))
 
 pub admits-is : (q : Query) (e : Entry) (s : Span)
@@ -76,13 +69,13 @@ module _ (s : List ℕ) where
 
   module _ (i lo : ℕ) (span : Span) where
     abbrev span_at : List Entry → Span
-    span_at es = record { lo = lo; hi = next_low es span.hi; endless = is_empty es && span.endless }
+    span_at es = record { lo = lo; hi = next_end es span.hi }
 
-    pub span-next : i + 1 < be 1 s 7 → record { lo = lo; hi = key_at s (8 + 28 * (i + 1) + 4); endless = false } ≡ child_span (entries_in s) i lo span
+    pub span-next : i + 1 < be 1 s 7 → record { lo = lo; hi = Some (key_at s (8 + 28 * (i + 1) + 4)) } ≡ child_span (entries_in s) i lo span
     span-next h =
-        ap (λ (j : ℕ). record { lo = lo; hi = key_at s (8 + 28 * j + 4); endless = false }) (add-one i)
-        ∙ sym (ap (λ (k : ℕ). record { lo = lo; hi = k; endless = false }) (later-low i))
+        ap (λ (j : ℕ). record { lo = lo; hi = Some (key_at s (8 + 28 * j + 4)) }) (add-one i)
+        ∙ sym (ap (λ (k : ℕ). record { lo = lo; hi = Some k }) (later-low i))
         ∙ sym (ap span_at (entry_next (suc i) (omega arith)))
 
-    pub span_last : be 1 s 7 ≤ i + 1 → record { lo = lo; hi = span.hi; endless = span.endless } ≡ child_span (entries_in s) i lo span
+    pub span_last : be 1 s 7 ≤ i + 1 → record { lo = lo; hi = span.hi } ≡ child_span (entries_in s) i lo span
     span_last h = sym (ap span_at (entry-none (suc i) (omega arith)))

@@ -1,8 +1,8 @@
 -- What is known of a node and of the nodes above it while a walk reads it.
 -- Assumes nothing.
-use Rattle.std.specs.Prelude.{◌≡◌, ◌⊎◌, ℕ, suc, ◌+◌, ◌*◌, ◌≤◌, ◌<◌, Bool, true, false, cond, not, ◌&&◌, ◌||◌, length, take, drop, get_or, ltb}
+use Rattle.std.specs.Prelude.{◌≡◌, ◌⊎◌, ℕ, suc, ◌+◌, ◌*◌, ◌≤◌, ◌<◌, Bool, true, false, cond, not, ◌&&◌, ◌||◌, length, take, drop, get_or, ltb, IfSome, Option, Some, unwrap_or}
 use mathlib.Core.List.{List, [], ◌∷◌, ◌++◌, Memᴰ}
-use Rattle.octets.specs.Lists.{has, keep, records, rising, is_empty}
+use Rattle.octets.specs.Lists.{has, keep, records, rising}
 use Rattle.octets.specs.Bytes.{be}
 use Rattle.spot.specs.Keys.{rank_key, all_keys}
 use Rattle.spot.specs.Spots.{keys, key_at, spot_at, limited_from}
@@ -15,7 +15,7 @@ use Rattle.block.specs.declared.Asked.{Asked}
 use Rattle.block.specs.declared.Asked.TheVariants.{Root, Child}
 use Rattle.block.specs.Node.{Node, Store, store_of, entry_at, first_open}
 use Rattle.block.specs.NodeRules.{ValidBlock}
-use Rattle.tree.specs.Part.{Part, next_low}
+use Rattle.tree.specs.Part.{Part}
 use Rattle.tree.specs.Walk.{takes, takes_key}
 use Rattle.tree.specs.Trace.{named_by}
 use Rattle.visit.specs.declared.Span.{Span}
@@ -23,7 +23,7 @@ use Rattle.visit.specs.declared.Path.{Path}
 
 -- where a span ends: a key, or past every key
 abbrev pub end_of : Span → ℕ
-end_of s = cond s.endless all_keys s.hi
+end_of s = unwrap_or s.hi all_keys
 
 -- the part of the tree at a block
 abbrev pub part_of : ℕ → Asked → Span → Part
@@ -65,9 +65,10 @@ pub record WaitsGathered (t : List ℕ) (p : Path) (list : List ℕ) : Type 0 wh
   pub same : (k : ℕ) → p.lo ≤ k → k ≤ p.last → has k (take p.waits list) ≡ has k (waiting_above t p)
 
 -- behind the first c keys of a list those of ks from lo to last are kept: there are r then, or too many for the list
-pub record KeysKept (ks : List ℕ) (lo last c : ℕ) (list list' : List ℕ) (r : ℕ) : Type 0 where
+pub record KeysKept (ks : List ℕ) (lo last c : ℕ) (list list' : List ℕ) (r : Option ℕ) : Type 0 where
   pub sized : length list' ≡ length list
-  pub same : r ≤ 64 → (k : ℕ) → lo ≤ k → k ≤ last → has k (take r list') ≡ has k (take c list) || has k ks
+  pub few : IfSome r (λ n. n ≤ length list')
+  pub same : IfSome r (λ n. (k : ℕ) → lo ≤ k → k ≤ last → has k (take n list') ≡ has k (take c list) || has k ks)
 
 -- and their P lies above this rank key, so that what they name under it is what waits in them
 pub record Ancestors (t : List ℕ) (p : Path) (top : ℕ) : Type 0 where
@@ -151,7 +152,11 @@ pub record Marks (t : List ℕ) (at n : ℕ) (q : Query) (p : Path) (m : List Bo
 abbrev pub entries_in : List ℕ → List Entry
 entries_in s = first_open (records (entry_at s) 28 (be 1 s 7) 8)
 
+-- where the range before these entries ends: at the first one's low, or where the parent's does
+abbrev pub next_end : List Entry → Option ℕ → Option ℕ
+next_end [] hi = hi
+next_end (e ∷ es) hi = Some e.low
+
 -- the span of the i-th child: from lo, where its range begins, up to the next entry's low, or to the end of the parent's
 abbrev pub child_span : List Entry → ℕ → ℕ → Span → Span
-child_span es i lo s =
-    record { lo = lo; hi = next_low (drop (suc i) es) s.hi; endless = is_empty (drop (suc i) es) && s.endless }
+child_span es i lo s = record { lo = lo; hi = next_end (drop (suc i) es) s.hi }

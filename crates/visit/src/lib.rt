@@ -1,7 +1,7 @@
 // Reading one node during a walk: which of its spots a query takes, given what waits in the nodes above, and which children it reads.
 #![tactic(auto)]
 
-ghost use Rattle.std.specs.Prelude.{◌≡◌, true, false, ◌⊎◌, ◌∷◌, [], ◌++◌, ◌+◌, ◌*◌, ◌≤◌, ◌<◌, length, take};
+ghost use Rattle.std.specs.Prelude.{◌≡◌, true, false, ◌⊎◌, ◌∷◌, [], ◌++◌, ◌+◌, ◌*◌, ◌≤◌, ◌<◌, length, take, ltb, Some};
 ghost use Rattle.octets.specs.Lists.{has};
 ghost use Rattle.octets.specs.Bytes.{be};
 ghost use Rattle.spot.specs.Query.{meets, least_of, is_ring, all_places};
@@ -15,12 +15,12 @@ ghost use Rattle.visit.specs.Visit.{end_of, part_of, above, waiting, waiting_abo
 #[derive(Clone, Copy)]
 pub struct Span {
     pub lo: u64,
-    pub hi: u64,
-    pub endless: bool,
+    pub hi: Option<u64>,
 }
 
 // The blocks of the nodes above a node, from the root on. Of the changes that wait in them the `waits` with a key from lo to last are gathered in a list that
 // goes with the path: those near the node are few, and they are looked for once.
+// Stays: the repository has no heap, so that the blocks and the list have their numbers, n and waits, beside them.
 #[derive(Clone, Copy)]
 pub struct Path {
     pub n: usize,
@@ -30,13 +30,23 @@ pub struct Path {
     pub waits: usize,
 }
 
+// The key lies before the end of the range.
+pub fn before_end(s: Span, k: u64) -> bool
+    ensures { result ≡ ltb k (end_of s) }
+{
+    match s.hi {
+        Some(hi) => k < hi,
+        None => true,
+    }
+}
+
 // The range holds a key of the query's places.
 pub fn meets_span(q: spot::Query, s: Span) -> bool
     ensures { result ≡ meets q s.lo (end_of s) }
 {
-    let first = s.endless | (spot::from_key(q) < s.hi);
+    let first = before_end(s, spot::from_key(q));
     let last = s.lo <= spot::last_key(q);
-    (s.endless | (s.lo < s.hi)) & spot::ends(q, first, last)
+    before_end(s, s.lo) & spot::ends(q, first, last)
 }
 
 // The child that an entry leads to is read.
@@ -54,10 +64,8 @@ fn eighths(t: &[u8], at: usize, w: usize, n: usize, k: u64) -> usize
 {
     let m = n / 8;
     let mut c: usize = 0;
-    let mut j: usize = 0;
-    while j < m {
+    for j in 0..m {
         c += (spot::read_key(t, at + w * (8 * j + 7)) < k) as usize;
-        j += 1;
     }
     c
 }
@@ -68,10 +76,8 @@ fn near(t: &[u8], at: usize, w: usize, n: usize, k: u64, a: usize, e: usize) -> 
     ensures { result ≡ below_in k (keys_from t.now w n at) }
 {
     let mut r = a;
-    let mut i = a;
-    while i < e {
+    for i in a..e {
         r += (spot::read_key(t, at + w * i) < k) as usize;
-        i += 1;
     }
     r
 }
@@ -115,29 +121,27 @@ fn wants_all(t: &[u8], at: usize, n: usize, q: spot::Query) -> bool
 }
 
 // Marks from a on, before e.
+// Stays: a may lie above e, where there is no slice to fill.
 fn range_marks(a: usize, e: usize) -> [bool; 64]
     requires { e ≤ 64 }
     ensures { RangeMarks a e result }
 {
     let mut m = [false; 64];
-    let mut i = a;
-    while i < e {
+    for i in a..e {
         m[i] = true;
-        i += 1;
     }
     m
 }
 
 // Takes the marks away from a on, before e.
+// Stays: as in `range_marks`, there may be no slice from a to e.
 fn unmarked(m: [bool; 64], a: usize, e: usize) -> [bool; 64]
     requires { (e ≤ 64) × (length m ≡ 64) }
     ensures { Unmarked a e m result }
 {
     let mut left = m;
-    let mut i = a;
-    while i < e {
+    for i in a..e {
         left[i] = false;
-        i += 1;
     }
     left
 }
@@ -148,12 +152,10 @@ fn wanted_each(t: &[u8], at: usize, n: usize, q: spot::Query) -> [bool; 64]
     ensures { Wanted t.now at n q result }
 {
     let mut m = [false; 64];
-    let mut i = 0;
-    while i < n {
+    for i in 0..n {
         let place = spot::read_place(t, at + 12 * i);
         let rank = spot::read_rank(t, at + 12 * i);
         m[i] = spot::wanted(place, rank, q.x1, q.x2, q.y);
-        i += 1;
     }
     m
 }
@@ -227,14 +229,12 @@ fn onward(t: &[u8], at: usize, n: usize, k: u64, a: usize) -> usize
     requires { Ready t.now at 12 n × (a ≤ below_in k (keys_from t.now 12 n at)) }
     ensures { result ≡ below_in k (keys_from t.now 12 n at) }
 {
-    let mut i = a;
-    while i < n {
+    for i in a..n {
         if k <= spot::read_key(t, at + 12 * i) {
             return i;
         }
-        i += 1;
     }
-    i
+    n
 }
 
 // Takes the mark from the spot with key k, if it is among the n that rise from at on, and says how many are below k; the first a are.
@@ -266,14 +266,12 @@ fn strike(
     ensures { Struck t.now at n (keys_from t.now w c a) m.old m.new }
 {
     let mut i = 0;
-    let mut j = below(t, a, w, c, lo);
-    while j < c {
+    for j in below(t, a, w, c, lo)..c {
         let k = spot::read_key(t, a + w * j);
         if hi < k {
             return;
         }
         i = strike_key(t, at, n, m, k, i);
-        j += 1;
     }
 }
 
@@ -282,8 +280,8 @@ fn strike_node(t: &[u8], at: usize, n: usize, m: &mut [bool], b: usize, lo: u64,
     requires { Ready t.now at 12 n × ValidBlock t.now b × (n ≤ length m.old) × Blank t.now at n lo hi m.old }
     ensures { Struck t.now at n (waiting (store_of t.now b)) m.old m.new }
 {
-    let from = b * 2048;
-    let to = from + 2048;
+    let from = b * block::BLOCK_BYTES;
+    let to = from + block::BLOCK_BYTES;
     let h = block::front_of(&t[from..to]);
     if (h.i == 0) & (h.d == 0) {
         return;
@@ -294,36 +292,13 @@ fn strike_node(t: &[u8], at: usize, n: usize, m: &mut [bool], b: usize, lo: u64,
     strike(t, at, n, m, ad, 8, h.d, lo, hi);
 }
 
-// The larger of two keys, and the smaller.
-fn later(a: u64, b: u64) -> u64
-    ensures { ((result ≡ a) ⊎ (result ≡ b)) × (a ≤ result) }
-{
-    if a < b {
-        return b;
-    }
-    a
-}
-
-fn earlier(a: u64, b: u64) -> u64
-    ensures { ((result ≡ a) ⊎ (result ≡ b)) × (result ≤ a) }
-{
-    if a < b {
-        return a;
-    }
-    b
-}
-
 // The same with the keys of the changes that wait in all nodes above.
 fn strike_path(t: &[u8], at: usize, n: usize, m: &mut [bool], p: Path, lo: u64, hi: u64)
     requires { Ready t.now at 12 n × ValidPath t.now p × (n ≤ length m.old) × Blank t.now at n lo hi m.old }
     ensures { Struck t.now at n (waiting_above t.now p) m.old m.new }
 {
-    let c = p.n;
-    let mut i = 0;
-    while i < c {
-        let b = p.blocks[i];
-        strike_node(t, at, n, m, b, lo, hi);
-        i += 1;
+    for b in &p.blocks[..p.n] {
+        strike_node(t, at, n, m, *b, lo, hi);
     }
 }
 
@@ -344,13 +319,10 @@ fn strike_keys(t: &[u8], at: usize, n: usize, m: &mut [bool], ws: &[u64], c: usi
 {
     let mut prev = 0;
     let mut i = 0;
-    let mut j = 0;
-    while j < c {
-        let k = ws[j];
-        let a = restart(i, prev, k);
-        i = strike_key(t, at, n, m, k, a);
-        prev = k;
-        j += 1;
+    for k in &ws[..c] {
+        let a = restart(i, prev, *k);
+        i = strike_key(t, at, n, m, *k, a);
+        prev = *k;
     }
 }
 
@@ -364,8 +336,8 @@ pub fn marks(t: &[u8], at: usize, n: usize, q: spot::Query, p: Path, ws: &[u64])
     if n == 0 {
         return m;
     }
-    let lo = later(spot::lowest_key(q), spot::read_key(t, at));
-    let hi = earlier(spot::highest_key(q), spot::read_key(t, at + 12 * (n - 1)));
+    let lo = spot::lowest_key(q).max(spot::read_key(t, at));
+    let hi = spot::highest_key(q).min(spot::read_key(t, at + 12 * (n - 1)));
     if (p.lo <= lo) & (hi <= p.last) {
         strike_keys(t, at, n, &mut m, ws, p.waits);
         return m;
@@ -380,12 +352,10 @@ pub fn count_marks(m: [bool; 64], n: usize) -> usize
     ensures { (result ≡ marks_in (take n m)) × (result ≤ n) }
 {
     let mut sum = 0;
-    let mut i = 0;
-    while i < n {
-        if m[i] {
+    for marked in &m[..n] {
+        if *marked {
             sum += 1;
         }
-        i += 1;
     }
     sum
 }
@@ -425,28 +395,16 @@ pub fn child_span(s: &[u8], i: usize, c: usize, lo: u64, span: Span) -> Span
 {
     if i + 1 < c {
         let hi = spot::read_key(s, block::FRONT_BYTES + block::ENTRY_BYTES * (i + 1) + 4);
-        return Span {
-            lo,
-            hi,
-            endless: false,
-        };
+        return Span { lo, hi: Some(hi) };
     }
-    Span {
-        lo,
-        hi: span.hi,
-        endless: span.endless,
-    }
+    Span { lo, hi: span.hi }
 }
 
 // The range of the root: it has no ends.
 pub fn root_span() -> Span
     ensures { (result.lo ≡ 0) × (end_of result ≡ 18446744073709551616) }
 {
-    Span {
-        lo: 0,
-        hi: 0,
-        endless: true,
-    }
+    Span { lo: 0, hi: None }
 }
 
 // No nodes above: the root. Only the keys of the query's places matter.
@@ -477,13 +435,13 @@ fn with_block(p: Path, b: usize) -> Path
 // Puts k behind the first c keys of the list, if it lies from lo to last, and says how many there are then. No branch depends on it.
 fn keep_key(list: &mut [u64], c: usize, k: u64, lo: u64, last: u64) -> usize
     requires { c < length list.old }
-    ensures { KeysKept (k ∷ []) lo last c list.old list.new result × (result ≤ c + 1) }
+    ensures { KeysKept (k ∷ []) lo last c list.old list.new (Some result) × (result ≤ c + 1) }
 {
     list[c] = k;
     c + ((lo <= k) & (k <= last)) as usize
 }
 
-// The same with n keys that rise, w bytes apart from at on; 65 where there is no room.
+// The same with n keys that rise, w bytes apart from at on; None where there is no room.
 fn keep_run(
     t: &[u8],
     at: usize,
@@ -493,61 +451,59 @@ fn keep_run(
     c: usize,
     lo: u64,
     last: u64,
-) -> usize
+) -> Option<usize>
     requires { Ready t.now at w n × (length list.old ≡ 64) × (c ≤ 64) }
     ensures { KeysKept (keys_from t.now w n at) lo last c list.old list.new result }
 {
     let mut l = c;
-    let mut j = below(t, at, w, n, lo);
-    while j < n {
+    for j in below(t, at, w, n, lo)..n {
         let k = spot::read_key(t, at + w * j);
         if last < k {
-            return l;
+            return Some(l);
         }
         if 64 <= l {
-            return 65;
+            return None;
         }
         l = keep_key(list, l, k, lo, last);
-        j += 1;
     }
-    l
+    Some(l)
 }
 
 // The same with the first n keys of another list.
-fn keep_keys(ws: &[u64], n: usize, list: &mut [u64], c: usize, lo: u64, last: u64) -> usize
+fn keep_keys(ws: &[u64], n: usize, list: &mut [u64], c: usize, lo: u64, last: u64) -> Option<usize>
     requires { (n ≤ length ws.now) × (length list.old ≡ 64) × (c ≤ 64) }
     ensures { KeysKept (take n ws.now) lo last c list.old list.new result }
 {
     let mut l = c;
-    let mut j = 0;
-    while j < n {
+    for k in &ws[..n] {
         if 64 <= l {
-            return 65;
+            return None;
         }
-        l = keep_key(list, l, ws[j], lo, last);
-        j += 1;
+        l = keep_key(list, l, *k, lo, last);
     }
-    l
+    Some(l)
 }
 
 // The same with the changes that wait in the node at b, and after them the first n keys of another list; from the front.
-fn gather(t: &[u8], b: usize, ws: &[u64], n: usize, list: &mut [u64], lo: u64, last: u64) -> usize
+fn gather(
+    t: &[u8],
+    b: usize,
+    ws: &[u64],
+    n: usize,
+    list: &mut [u64],
+    lo: u64,
+    last: u64,
+) -> Option<usize>
     requires { ValidBlock t.now b × (n ≤ length ws.now) × (length list.old ≡ 64) }
     ensures { KeysKept (waiting (store_of t.now b) ++ take n ws.now) lo last 0 list.old list.new result }
 {
-    let from = b * 2048;
-    let to = from + 2048;
+    let from = b * block::BLOCK_BYTES;
+    let to = from + block::BLOCK_BYTES;
     let h = block::front_of(&t[from..to]);
     let ai = from + block::inserts_from(h);
     let ad = from + block::deletes_from(h);
-    let i = keep_run(t, ai, 12, h.i, list, 0, lo, last);
-    if 64 < i {
-        return 65;
-    }
-    let d = keep_run(t, ad, 8, h.d, list, i, lo, last);
-    if 64 < d {
-        return 65;
-    }
+    let i = keep_run(t, ai, 12, h.i, list, 0, lo, last)?;
+    let d = keep_run(t, ad, 8, h.d, list, i, lo, last)?;
     keep_keys(ws, n, list, d, lo, last)
 }
 
@@ -556,8 +512,8 @@ fn settled(t: &[u8], b: usize) -> bool
     requires { ValidBlock t.now b }
     ensures { result ≡ true → waiting (store_of t.now b) ≡ [] }
 {
-    let from = b * 2048;
-    let to = from + 2048;
+    let from = b * block::BLOCK_BYTES;
+    let to = from + block::BLOCK_BYTES;
     let h = block::front_of(&t[from..to]);
     (h.i == 0) & (h.d == 0)
 }
@@ -566,10 +522,10 @@ fn settled(t: &[u8], b: usize) -> bool
 fn last_in(last: u64, s: Span) -> u64
     ensures { result ≤ last }
 {
-    if s.endless {
-        return last;
+    match s.hi {
+        Some(hi) => last.min(hi),
+        None => last,
     }
-    earlier(last, s.hi)
 }
 
 // The nodes above a child of the node at b: what waits in them in the child's span is gathered, from what was gathered in the node's and from the node. Where
@@ -578,21 +534,24 @@ pub fn step(t: &[u8], p: Path, b: usize, part: Span, ws: &[u64], list: &mut [u64
     requires { (p.n ≤ 6) × ValidBlock t.now b × WaitsGathered t.now p ws.now × (length list.old ≡ 64) }
     ensures { (result.n ≡ p.n + 1) × (above result ≡ above p ++ (b ∷ [])) × WaitsGathered t.now result list.new × (length list.new ≡ 64) }
 {
-    let mut next = with_block(p, b);
+    let next = with_block(p, b);
     if (p.waits == 0) & settled(t, b) {
         return next;
     }
-    let lo = later(p.lo, part.lo);
+    let lo = p.lo.max(part.lo);
     let last = last_in(p.last, part);
-    let c = gather(t, b, ws, p.waits, list, lo, last);
-    if 64 < c {
-        next.lo = 1;
-        next.last = 0;
-        next.waits = 0;
-        return next;
+    match gather(t, b, ws, p.waits, list, lo, last) {
+        Some(waits) => Path {
+            lo,
+            last,
+            waits,
+            ..next
+        },
+        None => Path {
+            lo: 1,
+            last: 0,
+            waits: 0,
+            ..next
+        },
     }
-    next.lo = lo;
-    next.last = last;
-    next.waits = c;
-    next
 }

@@ -1,7 +1,7 @@
 -- The spots of a search that is at its end, given from the small buffer or by a second search.
 -- Assumes nothing.
 use mathlib.Core.Path.{◌≡◌, refl, ap, sym, ◌∙◌}
-use mathlib.Core.Bool.{Bool, true, false, true≢false}
+use mathlib.Core.Bool.{true≢false}
 use mathlib.Core.List.{List, ◌++◌}
 use Prim.Native.Nat.{ℕ, ◌*◌, ◌≤◌}
 use native.Mathlib.Omega.{arith}
@@ -15,6 +15,7 @@ use Rattle.spot.specs.declared.Query.{Query}
 use Rattle.spot.proofs.Stored.{length-spots_bytes}
 use Rattle.top.specs.Runs.{Halted, WithinFront}
 use Rattle.top.specs.declared.TopTally.{TopTally}
+use Rattle.std.specs.Prelude.{Option, Some, None}
 use Rattle.within.specs.Within.{HeldFew, GivenOut, Delivered}
 
 -- a search at its end, which gave n spots
@@ -64,17 +65,14 @@ module _ (t : List ℕ) (q : Query) (k most n : ℕ) (read few out : List ℕ) (
       }
 
   -- the search is made again, straight into the output: it breaks no rule that the first kept, and gives as many
-  pub wide-delivered : (read' out'' : List ℕ) (z : TopTally) → WithinFront t q k most n out read' out'' z → Delivered t q k most n out read' out''
-  wide-delivered read' out'' z w =
+  pub wide-delivered : (read' out'' : List ℕ) (z : Option TopTally) → WithinFront t q k most n out read' out'' z → Delivered t q k most n out read' out''
+  wide-delivered read' out'' None w = record { ends = λ x1 x2 a. absurd (true≢false (sym (first_run x1 x2 a).sure.whole ∙ (w.fails x1 x2 a refl).within)) }
+  wide-delivered read' out'' (Some z) w =
       record {
         ends = λ x1 x2 a.
             let u = first_run x1 x2 a in
-            let on = w.ends x1 x2 a (whole x1 x2 a z.ok refl) in
+            let on = w.ends x1 x2 a z refl in
             let h = on.halted in
             let many : n ≡ length h.given = u.counted ∙ u.sure.many ∙ sym h.sure.many in
             given_by n h many out out'' (all_held n h many (omega arith) ∙ ap (λ (bs : List ℕ). spots_bytes h.given ++ bs) on.behind);
       }
-    where
-      whole : (x1 x2 : ℤ) → q ≡ top_query x1 x2 0 → (b : Bool) → z.ok ≡ b → z.ok ≡ true
-      whole x1 x2 a true e = e
-      whole x1 x2 a false e = absurd (true≢false (sym (first_run x1 x2 a).sure.whole ∙ (w.fails x1 x2 a e).within))

@@ -4,7 +4,7 @@ use mathlib.Core.Path.{◌≡◌, refl, ap, sym, subst, ◌∙◌}
 use mathlib.Core.Logic.{◌⊎◌, inl, inr, ⊎_elim}
 use mathlib.Core.Bool.{Bool, true, false, cond, ◌||◌}
 use mathlib.Core.List.{List, [], ◌++◌}
-use Prim.Native.Nat.{ℕ, suc, ◌*◌, ◌/◌, ◌≤◌, ◌<◌}
+use Prim.Native.Nat.{ℕ, ◌*◌, ◌/◌, ◌≤◌, ◌<◌}
 use native.Mathlib.Omega.{arith}
 use lib.ListN.{length, drop}
 use lib.Dec.{eqb}
@@ -16,7 +16,11 @@ use Rattle.spot.specs.Keys.{unbiased}
 use Rattle.spot.specs.Spots.{keys, spots_bytes}
 use Rattle.spot.specs.declared.Spot.{Spot}
 use Rattle.block.specs.declared.Answer.{Answer}
-use Rattle.block.specs.Answers.{answer}
+use Rattle.block.specs.Answers.{answer, refused, answer_of}
+use Rattle.block.specs.declared.Refusal.{Refusal}
+use Rattle.block.specs.declared.Refusal.TheVariants.{TableLength, LentLength, Broken, Output}
+use Rattle.std.specs.Prelude.{Ok, Err}
+use Rattle.block.proofs.Answers.{refused-numbered}
 use Rattle.block.specs.Header.{head_of}
 use Rattle.block.specs.HeaderRules.{header_ok}
 use Rattle.block.specs.Table.{table_sized}
@@ -29,7 +33,7 @@ use Rattle.within_theory.proofs.Repeated.{within_none, none-given, none-ceiling}
 use Rattle.table.specs.Calls.{Call, top_within}
 use Rattle.table.specs.Answers.{with_output, early_number, unless_refused, output_left, map_left, ceiling_left}
 use Rattle.table.specs.Queries.{walk_answer, SearchPost, TopWithinPost}
-use Rattle.table.proofs.Searching.{Serves, search-short, search-lent, search-broken, search-many, search-given}
+use Rattle.table.proofs.Searching.{ceiling-refused, Serves, search-short, search-lent, search-broken, search-many, search-given}
 use Rattle.within.specs.Within.{said_of, Saying, NoneSaid, GivenOut}
 use Rattle.within.specs.declared.Said.{Said}
 
@@ -76,17 +80,16 @@ module _ (x1 x2 : ℤ) (k a : ℕ) (t out map : List ℕ) where
   Search r = SearchPost call x1 x2 gives once t out map r out map
 
   -- refused
-  refused_as : (n d : ℕ) (s : Said) → s ≡ said_of (suc n) d (pos 0) → Search (answer (suc n) d) → Saying x1 x2 k a t out map s out map
-  unfolding ceiling_left
-  refused_as n d s e v =
-      subst (λ (z : Said). Saying x1 x2 k a t out map z out map) (sym e) (record { search = v; ceiling = refl })
+  refused_as : (e : Refusal) (s : Said) → s ≡ said_of (Err e) (pos 0) → Search (refused e) → Saying x1 x2 k a t out map s out map
+  refused_as e s h v =
+      subst (λ (z : Said). Saying x1 x2 k a t out map z out map) (sym h) (record { search = v; ceiling = sym (ceiling-refused (refused e).number (ceiling_within t x1 x2 k a) (refused-numbered e)) })
 
-  pub within-short : (s : Said) → table_sized (length t) ≡ false → s ≡ said_of 1 0 (pos 0) → Saying x1 x2 k a t out map s out map
-  within-short s e h = refused_as 0 0 s h (search-short call refl refl x1 x2 gives once t out map (answer 1 0) e refl)
+  pub within-short : (s : Said) → table_sized (length t) ≡ false → s ≡ said_of (Err TableLength) (pos 0) → Saying x1 x2 k a t out map s out map
+  within-short s e h = refused_as TableLength s h (search-short call refl refl x1 x2 gives once t out map (answer 1 0) e refl)
 
   module _ (e : table_sized (length t) ≡ true) where
-    pub within-lent : (s : Said) → eqb (length map) 512 ≡ false → s ≡ said_of 2 0 (pos 0) → Saying x1 x2 k a t out map s out map
-    within-lent s f h = refused_as 1 0 s h (search-lent call refl refl x1 x2 gives once t out map (answer 2 0) e f refl)
+    pub within-lent : (s : Said) → eqb (length map) 512 ≡ false → s ≡ said_of (Err LentLength) (pos 0) → Saying x1 x2 k a t out map s out map
+    within-lent s f h = refused_as LentLength s h (search-lent call refl refl x1 x2 gives once t out map (answer 2 0) e f refl)
 
     module _ (f : eqb (length map) 512 ≡ true) where
       walk_of : (b : Bool) → ended.whole ≡ b → gives ≡ cond b (walked (given_of k ended) ended.blocks) broken
@@ -94,16 +97,16 @@ module _ (x1 x2 : ℤ) (k a : ℕ) (t out map : List ℕ) where
       walk_of b h = ap (λ (z : Bool). cond z (walked (given_of k ended) ended.blocks) broken) h
 
       -- a rule is broken
-      pub within-broken : (s : Said) → ended.whole ≡ false → s ≡ said_of 3 0 (pos 0) → Saying x1 x2 k a t out map s out map
+      pub within-broken : (s : Said) → ended.whole ≡ false → s ≡ said_of (Err Broken) (pos 0) → Saying x1 x2 k a t out map s out map
       within-broken s w h =
-          refused_as 2 0 s h (search-broken call refl refl x1 x2 gives once t out map (answer 3 0) e f (ap is_broken (walk_of false w)) refl)
+          refused_as Broken s h (search-broken call refl refl x1 x2 gives once t out map (answer 3 0) e f (ap is_broken (walk_of false w)) refl)
 
       -- more spots than the output holds
-      pub within-many : (s : Said) (n : ℕ) → ended.whole ≡ true → n ≡ length (given_of k ended) → length out / 12 < n → s ≡ said_of 5 n (pos 0)
+      pub within-many : (s : Said) (n : ℕ) → ended.whole ≡ true → n ≡ length (given_of k ended) → length out / 12 < n → s ≡ said_of (Err (Output n)) (pos 0)
           → Saying x1 x2 k a t out map s out map
       within-many s n w m l h =
           let is = walk_of true w in
-          refused_as 4 n s h
+          refused_as (Output n) s h
           (search-many call refl refl x1 x2 gives once t out map (answer 5 n) e f n (ap is_broken is) (m ∙ sym (ap (λ (v : Walk). length (spots v)) is)) l refl)
 
       serves : {n : ℕ} {seen' out'' : List ℕ} (g : GivenOut t x1 x2 k a n out seen' out'') → Serves t x1 x2 gives once g.given g.blocks
@@ -120,7 +123,7 @@ module _ (x1 x2 : ℤ) (k a : ℕ) (t out map : List ℕ) where
 
       -- accepted: the spots given, and the ceiling c of a search for the same
       pub within-given : (s : Said) (n c : ℕ) (seen' out'' map' : List ℕ) {given : List Spot} {blocks : List ℕ} → GivenOut t x1 x2 k a n out seen' out'' → Sure t x1 x2 k a given blocks c
-          → n ≤ length out / 12 → map' ≡ seen' → s ≡ said_of 0 n (unbiased c)
+          → n ≤ length out / 12 → map' ≡ seen' → s ≡ said_of (Ok n) (unbiased c)
           → Saying x1 x2 k a t out map s out'' map'
       unfolding ceiling_left ceiling_within
       within-given s n c seen' out'' map' g sure l m h =
@@ -178,10 +181,10 @@ module _ (x1 x2 : ℤ) (t : List ℕ) where
           search =
               record {
                 answered = post.answered ∙ ap (λ (w : Walk). unless_refused (early_number (with_output t out map) (top_within x1 x2 k a)) (walk_answer (length out) w)) same;
-                marks = post.marks ∙ ap (λ (w : Walk). map_left s.answer.number (blocks_read w) map) same;
-                output = λ h. post.output none-rising ∙ ap (λ (w : Walk). output_left s.answer.number (spots w) out) same;
+                marks = post.marks ∙ ap (λ (w : Walk). map_left (answer_of s.answer).number (blocks_read w) map) same;
+                output = λ h. post.output none-rising ∙ ap (λ (w : Walk). output_left (answer_of s.answer).number (spots w) out) same;
                 unchanged = post.unchanged;
                 hands_out = post.hands_out;
               };
-          ceiling = v.ceiling ∙ ap (ceiling_left s.answer.number) (sym ceiling-none);
+          ceiling = v.ceiling ∙ ap (ceiling_left (answer_of s.answer).number) (sym ceiling-none);
         }

@@ -1,12 +1,13 @@
 -- The parts of a Top within an allowance.
 -- Assumes nothing.
-use Rattle.std.specs.Prelude.{◌≡◌, true, ℕ, ◌*◌, ◌≤◌, ◌<◌, length, drop, ℤ, pos}
+use Rattle.std.specs.Prelude.{◌≡◌, true, ℕ, ◌*◌, ◌≤◌, ◌<◌, length, drop, ℤ, pos, Result}
 use mathlib.Core.List.{List, ◌++◌, Memᴰ}
 use Rattle.spot.specs.Spots.{spots_bytes}
 use Rattle.spot.specs.Query.{top_query}
 use Rattle.spot.specs.declared.Spot.{Spot}
 use Rattle.spot.specs.declared.Query.{Query}
-use Rattle.block.specs.Answers.{answer}
+use Rattle.block.specs.Answers.{answer_of}
+use Rattle.block.specs.declared.Refusal.{Refusal}
 use Rattle.block.specs.Node.{store_of}
 use Rattle.block.specs.Table.{table_sized}
 use Rattle.tree.specs.ReadMap.{read_map}
@@ -18,17 +19,17 @@ use Rattle.table.specs.Queries.{TopPost, TopWithinPost}
 use Rattle.within.specs.declared.Said.{Said}
 
 -- an answer with a ceiling
-abbrev pub said_of : ℕ → ℕ → ℤ → Said
-said_of number detail c = record { answer = answer number detail; ceiling = c }
+abbrev pub said_of : Result ℕ Refusal → ℤ → Said
+said_of a c = record { answer = a; ceiling = c }
 
 -- the promise, with the ceiling beside the answer
 abbrev pub Saying : ℤ → ℤ → ℕ → ℕ → List ℕ → List ℕ → List ℕ → Said → List ℕ → List ℕ → Type 0
-Saying x1 x2 k a t out map r out'' map' = TopWithinPost x1 x2 k a t out map r.answer out'' map' r.ceiling
+Saying x1 x2 k a t out map r out'' map' = TopWithinPost x1 x2 k a t out map (answer_of r.answer) out'' map' r.ceiling
 
 -- as a Top of none, with the highest rank as the ceiling where it is accepted
 pub record NoneSaid (x1 x2 : ℤ) (t out map : List ℕ) (r : Said) (out'' map' : List ℕ) : Type 0 where
-  pub top : TopPost x1 x2 0 t out map r.answer out'' map'
-  pub ceiling : r.ceiling ≡ ceiling_left r.answer.number (pos 2147483647)
+  pub top : TopPost x1 x2 0 t out map (answer_of r.answer) out'' map'
+  pub ceiling : r.ceiling ≡ ceiling_left (answer_of r.answer).number (pos 2147483647)
 
 -- the lengths are right, and neither number is 0
 pub record Askable (t map : List ℕ) (k a : ℕ) : Type 0 where

@@ -2,39 +2,35 @@
 #![tactic(auto)]
 
 ghost use Rattle.std.specs.Prelude.{◌≡◌};
+ghost use Rattle.block.specs.Answers.{answer_of};
 ghost use Rattle.table.specs.Queries.{TopWithinPost};
 ghost use Rattle.within.specs.Within.{said_of, NoneSaid, Askable, Saying, HeldFew, Delivered};
 
-// An answer, and the ceiling after it.
-#[derive(Clone, Copy)]
+use block::Refusal;
+
+// What a call says: how many spots are given, or why it is refused, and the ceiling after it, which is a result of a refused call, too.
+#[derive(Clone, Copy, Debug, PartialEq, Eq)]
 pub struct Said {
-    pub answer: block::Answer,
+    pub answer: Result<u32, Refusal>,
     pub ceiling: i32,
 }
 
-fn tell(number: u32, detail: u32, ceiling: i32) -> Said
-    ensures { result ≡ said_of number detail ceiling }
+fn tell(answer: Result<u32, Refusal>, ceiling: i32) -> Said
+    ensures { result ≡ said_of answer ceiling }
 {
-    Said {
-        answer: block::Answer { number, detail },
-        ceiling,
-    }
+    Said { answer, ceiling }
 }
 
 // No node may be read, or no spot is asked for: as a Top of none, and any rank may be left.
 fn say_none(table: &[u8], x1: i32, x2: i32, output: &mut [u8], read_map: &mut [u8]) -> Said
     ensures { NoneSaid x1 x2 table.now output.old read_map.old result output.new read_map.new }
 {
-    let none = table::top(table, x1, x2, 0, output, read_map);
-    if none.number != 0 {
-        return Said {
-            answer: none,
-            ceiling: 0,
-        };
-    }
-    Said {
-        answer: none,
-        ceiling: 2147483647,
+    match table::top(table, x1, x2, 0, output, read_map) {
+        Err(why) => tell(Err(why), 0),
+        Ok(spots) => Said {
+            answer: Ok(spots),
+            ceiling: 2147483647,
+        },
     }
 }
 
@@ -76,7 +72,7 @@ fn say_some(
     let q = spot::top_query(x1, x2, 0);
     let mut read = [0u8; 512];
     let mut few = [0u8; 6144];
-    let found = top::run_within(
+    let Some(found) = top::run_within(
         table,
         &mut read,
         q,
@@ -84,14 +80,14 @@ fn say_some(
         allowance as usize,
         &mut few,
         512,
-    );
-    if !found.ok {
-        return tell(3, 0, 0);
-    }
+    ) else {
+        return tell(Err(Refusal::Broken), 0);
+    };
     let n = found.spots;
     let left = spot::unbias(found.ceiling);
+    let given = n as u32;
     if output.len() / 12 < n {
-        return tell(5, n as u32, 0);
+        return tell(Err(Refusal::Output(given)), 0);
     }
     deliver(
         table,
@@ -104,7 +100,7 @@ fn say_some(
         n,
     );
     octets::copy(&read, read_map, 512);
-    tell(0, n as u32, left)
+    tell(Ok(given), left)
 }
 
 // The answer with the ceiling.
@@ -120,10 +116,10 @@ pub fn say(
     ensures { Saying x1 x2 k allowance table.now output.old read_map.old result output.new read_map.new }
 {
     if !block::sized(table.len()) {
-        return tell(1, 0, 0);
+        return tell(Err(Refusal::TableLength), 0);
     }
     if read_map.len() != 512 {
-        return tell(2, 0, 0);
+        return tell(Err(Refusal::LentLength), 0);
     }
     if (k == 0) | (allowance == 0) {
         return say_none(table, x1, x2, output, read_map);
@@ -142,8 +138,8 @@ pub fn top_within(
     output: &mut [u8],
     read_map: &mut [u8],
     ceiling: &mut i32,
-) -> block::Answer
-    ensures { TopWithinPost x1 x2 k allowance table.now output.old read_map.old result output.new read_map.new ceiling.new }
+) -> Result<u32, Refusal>
+    ensures { TopWithinPost x1 x2 k allowance table.now output.old read_map.old (answer_of result) output.new read_map.new ceiling.new }
 {
     let said = say(table, x1, x2, k, allowance, output, read_map);
     let left = said.ceiling;

@@ -1,44 +1,46 @@
 -- `apply::apply` meets its contract, by that of `carry::carry`; then the work area is cleared, but not after 4.
-use borrow.Author.Rules.{rules}
 use native.Mathlib.Omega.{arith}
 use Prim.Native.Nat.{◌<◌}
-use mathlib.Core.Path.{sym, ◌∙◌}
+use mathlib.Core.Path.{refl, sym, ◌∙◌}
 use lib.ListN.{length}
-use borrow.Author.Tests.{not-true, not-false}
+use borrow.Author.Tests.{eqb-true, eqb-false}
+use Rattle.std.proofs.lemmas.Result.{err_from_is_err_and}
+use Rattle.block.proofs.Answers.{refused-numbered}
 use Rattle.revise.specs.Revising.{Lent}
-use Rattle.apply.proofs.Applied.{message-right, apply-short, apply-lent, apply-refused, apply-turned, apply-ends}
+use Rattle.apply.proofs.Applied.{apply-short, apply-lent, apply-refused, apply-turned, apply-ends}
 use Rattle.apply.proofs.apply.Goals as goal
 
 pub returns-then-not-sized : goal.returns-then-not-sized
 returns-then-not-sized c =
-    apply-short _ _ _ _ (sym c.sized.ensures ∙ c.if-not-sized.true) c.plain_answer.ensures
+    apply-short _ _ _ _ (sym c.sized.ensures ∙ c.if-not-sized.true) refl
 
 pub returns-then-scratch-bytes : goal.returns-then-scratch-bytes
 returns-then-scratch-bytes c =
     let args = c.args in
     let short : length args.scratch.now < length args.table.now = omega (arith, c.if-scratch-bytes.true) in
-    apply-lent _ _ _ _ (sym c.sized.ensures ∙ c.if-not-sized.false) short c.plain_answer-then-scratch-bytes.ensures
+    apply-lent _ _ _ _ (sym c.sized.ensures ∙ c.if-not-sized.false) short refl
 
-pub returns-then-told-ne0 : goal.returns-then-told-ne0
-returns-then-told-ne0 c =
+pub returns-in_err-judge : goal.returns-in_err-judge
+returns-in_err-judge c =
     let args = c.args in
     let lent : Lent args.table.now args.scratch.now = record { sized = sym c.sized.ensures ∙ c.if-not-sized.false; room = omega (arith, c.if-scratch-bytes.false) } in
-    apply-refused _ _ _ _ lent c.judge-told.ensures c.if-told-ne0.true
+    let p = err_from_is_err_and c.from_residual.result c.from_residual.ensures.1 in
+    rw (p.1, p.2) (apply-refused _ _ _ _ lent c.in_err-judge.ensures (refused-numbered c.in_err-judge.field-0.0))
 
 pub carry-done-requires : goal.carry-done-requires
 carry-done-requires c =
     let args = c.args in
     let lent : Lent args.table.now args.scratch.now = record { sized = sym c.sized.ensures ∙ c.if-not-sized.false; room = omega (arith, c.if-scratch-bytes.false) } in
-    (lent, message-right _ c.judge-told.ensures c.if-told-ne0.false)
+    (lent, sym c.in_ok-judge.ensures)
 
-pub returns-then-done-eq4 : goal.returns-then-done-eq4
-returns-then-done-eq4 c =
+pub returns-then-is_full : goal.returns-then-is_full
+returns-then-is_full c =
     let args = c.args in
     let lent : Lent args.table.now args.scratch.now = record { sized = sym c.sized.ensures ∙ c.if-not-sized.false; room = omega (arith, c.if-scratch-bytes.false) } in
-    apply-turned _ _ _ _ lent (message-right _ c.judge-told.ensures c.if-told-ne0.false) c.carry-done.ensures c.if-done-eq4.true
+    apply-turned _ _ _ _ lent (sym c.in_ok-judge.ensures) c.carry-done.ensures (eqb-true _ 4 (sym c.is_full.ensures ∙ c.if-is_full.true))
 
 pub returns : goal.returns
 returns c =
     let args = c.args in
     let lent : Lent args.table.now args.scratch.now = record { sized = sym c.sized.ensures ∙ c.if-not-sized.false; room = omega (arith, c.if-scratch-bytes.false) } in
-    apply-ends _ _ _ _ lent (message-right _ c.judge-told.ensures c.if-told-ne0.false) c.carry-done.ensures c.if-done-eq4.false c.zero.ensures
+    apply-ends _ _ _ _ lent (sym c.in_ok-judge.ensures) c.carry-done.ensures (eqb-false _ 4 (sym c.is_full.ensures ∙ c.if-is_full.false)) c.zero.ensures

@@ -11,7 +11,7 @@ use Rattle.buffer.proofs.Laws.{named-length}
 use Rattle.node.specs.Memory.{entries_of}
 use Rattle.batch.proofs.Picks.{Share, share-of, picked-deletes}
 use Rattle.batch.proofs.pick_deletes.Goals as goal
-use Rattle.batch.proofs.pick_deletes.Goals.{After-keys_end_of-end, Start}
+use Rattle.batch.proofs.pick_deletes.Goals.{After-end_of-end, Start}
 
 entry-count : (c : Start) → length (entries_of c.args.n.entries) ≡ c.args.n.entries.n
 entry-count c =
@@ -22,42 +22,42 @@ entry-count c =
 long : (c : Start) → length (named c.args.n.deletes) ≡ c.args.n.deletes.n
 long c = named-length c.args.n.deletes (search (rules, length-image)) c.requires.0.deletes.fits
 
-pub keys_start_of-start-requires : goal.keys_start_of-start-requires
-keys_start_of-start-requires c =
-    (omega (arith, c.fullest_keys-child.ensures.there, entry-count (goal.at.keys_start_of-start-requires c).Start), c.requires.2, c.requires.0.deletes)
+pub start_of-start-requires : goal.start_of-start-requires
+start_of-start-requires c =
+    (omega (arith, c.fullest-child.ensures.there, entry-count (goal.at.start_of-start-requires c).Start), c.requires.2, c.requires.0.deletes)
 
 pub overflow_add-child : goal.overflow_add-child
-overflow_add-child c = omega (arith, c.fullest_keys-child.ensures.there, entry-count (goal.at.overflow_add-child c).Start, c.requires.2)
+overflow_add-child c = omega (arith, c.fullest-child.ensures.there, entry-count (goal.at.overflow_add-child c).Start, c.requires.2)
 
-share : (c : After-keys_end_of-end)
+share : (c : After-end_of-end)
     → let n = c.args.n in
-    Share n (named n.deletes) n.deletes.n c.fullest_keys-child.result c.keys_start_of-start.result c.keys_end_of-end.result
+    Share n (named n.deletes) n.deletes.n c.fullest-child.result c.start_of-start.result c.end_of-end.result
 share c =
     let n = c.args.n in
-    share-of n c.requires.3 ((let es = c.args.n.entries in let h : length es.list ≡ 8 = search (rules, length-image) in length-take-le es.n es.list (omega (arith, c.requires.2)))) c.requires.2 (named n.deletes) n.deletes.n c.fullest_keys-child.result c.keys_start_of-start.result c.keys_end_of-end.result (sym ((named-length c.args.n.deletes (search (rules, length-image)) c.requires.0.deletes.fits)))
-    c.fullest_keys-child.ensures c.keys_start_of-start.ensures c.keys_end_of-end.ensures
+    share-of n c.requires.3 ((let es = c.args.n.entries in let h : length es.list ≡ 8 = search (rules, length-image) in length-take-le es.n es.list (omega (arith, c.requires.2)))) c.requires.2 (named n.deletes) n.deletes.n c.fullest-child.result c.start_of-start.result c.end_of-end.result (sym ((named-length c.args.n.deletes (search (rules, length-image)) c.requires.0.deletes.fits)))
+    c.fullest-child.ensures c.start_of-start.ensures c.end_of-end.ensures
 
 few : (c : Start) → (c.args.n.deletes.n + 7) / 8 ≤ 16
 few c = omega (arith, c.requires.0.deletes.fits)
 
 pub part_end-stop-requires : goal.part_end-stop-requires
-part_end-stop-requires c = ((share (goal.at.part_end-stop-requires c).After-keys_end_of-end).order, few (goal.at.part_end-stop-requires c).Start)
+part_end-stop-requires c = ((share (goal.at.part_end-stop-requires c).After-end_of-end).order, few (goal.at.part_end-stop-requires c).Start)
 
-pub keys_between-down-requires : goal.keys_between-down-requires
-keys_between-down-requires c =
+pub between-down-requires : goal.between-down-requires
+between-down-requires c =
     let b = c.part_end-stop.ensures in
-    (c.requires.0.deletes, b.from, omega (arith, b.to, (share (goal.at.keys_between-down-requires c).After-keys_end_of-end).inside))
+    (c.requires.0.deletes, b.from, omega (arith, b.to, (share (goal.at.between-down-requires c).After-end_of-end).inside))
 
-pub keys_outside-deletes-requires : goal.keys_outside-deletes-requires
-keys_outside-deletes-requires c =
+pub outside-deletes-requires : goal.outside-deletes-requires
+outside-deletes-requires c =
     let b = c.part_end-stop.ensures in
-    let e = share (goal.at.keys_outside-deletes-requires c).After-keys_end_of-end in
+    let e = share (goal.at.outside-deletes-requires c).After-end_of-end in
     (c.requires.0.deletes, omega (arith, b.from, b.to, e.order), omega (arith, b.to, e.inside))
 
 pub returns : goal.returns
 returns c =
-    let d = c.keys_between-down in
-    let o = c.keys_outside-deletes in
+    let d = c.between-down in
+    let o = c.outside-deletes in
     let z = c.empty-none in
-    picked-deletes c.args.n c.requires.3 (entry-count (goal.at.returns c).Start) c.requires.2 c.requires.0 c.fullest_keys-child.result c.keys_start_of-start.result c.keys_end_of-end.result ((c.args.n.deletes.n + 7) / 8) c.part_end-stop.result
-    (few (goal.at.returns c).Start) c.part_end-stop.ensures d.result o.result z.result (long (goal.at.returns c).Start) (share (goal.at.returns c).After-keys_end_of-end) refl c.requires.4 d.ensures.0 d.ensures.1 o.ensures.0 o.ensures.1 o.ensures.2 z.ensures.0 z.ensures.1
+    picked-deletes c.args.n c.requires.3 (entry-count (goal.at.returns c).Start) c.requires.2 c.requires.0 c.fullest-child.result c.start_of-start.result c.end_of-end.result ((c.args.n.deletes.n + 7) / 8) c.part_end-stop.result
+    (few (goal.at.returns c).Start) c.part_end-stop.ensures d.result o.result z.result (long (goal.at.returns c).Start) (share (goal.at.returns c).After-end_of-end) refl c.requires.4 d.ensures.0 d.ensures.1 o.ensures.0 o.ensures.1 o.ensures.2 z.ensures.0 z.ensures.1

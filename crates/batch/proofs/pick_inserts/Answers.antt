@@ -60,6 +60,6 @@ pub returns : goal.returns
 returns c =
     let d = c.between-down in
     let o = c.outside-inserts in
-    let z = c.empty_keys-none in
+    let z = c.empty-none in
     picked-inserts c.args.n c.requires.3 (entry-count (goal.at.returns c).Start) c.requires.2 c.requires.0 c.fullest-child.result c.start_of-start.result c.end_of-end.result ((c.args.n.inserts.n + 7) / 8) c.part_end-stop.result
     (few (goal.at.returns c).Start) c.part_end-stop.ensures d.result o.result z.result (long (goal.at.returns c).Start) (share (goal.at.returns c).After-end_of-end) refl c.requires.4 d.ensures.0 d.ensures.1 o.ensures.0 o.ensures.1 o.ensures.2 z.ensures.0 z.ensures.1

@@ -9,7 +9,7 @@ returns c =
     let es = c.args.n.entries in
     let p = c.from_key-points.ensures in
     let i = c.from_key-inserts.ensures in
-    let d = c.keys_from-deletes.ensures in
+    let d = c.from_key-deletes.ensures in
     record {
       holds = same-held p.1 i.1 d.1;
       tidy = record { points = p.2; inserts = i.2; deletes = d.2 };

@@ -1,7 +1,6 @@
 -- `block::apart_ok` meets its contract: the loop goes along both rising lists; its invariant is `ApartInv`.
-use Prim.Native.Nat.{◌≤◌, ◌-◌}
 use native.Mathlib.Omega.{arith}
-use Rattle.block.proofs.Apart.{ApartInv, apart-start, apart-few, apart-many, apart-past, apart-stop, apart-next2}
+use Rattle.block.proofs.Apart.{apart-start, apart-few, apart-many, apart-past, apart-stop, apart-next2}
 use Rattle.block.proofs.apart_ok.Goals as goal
 
 pub loop-j-init : goal.loop-j-init

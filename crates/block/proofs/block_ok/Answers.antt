@@ -3,7 +3,6 @@ use mathlib.Core.Path.{◌∙◌, ap}
 use Prim.Native.Nat.{ℕ, ◌*◌, ◌/◌}
 use native.Mathlib.Nat.{add-sub_cancel_left}
 use lib.ListN.{take, drop, length}
-use borrow.Author.Rules.{rules}
 use Rattle.block.specs.NodeRules.{node_ok}
 use Rattle.block.specs.Node.{store_of, node_of}
 use Rattle.block.proofs.block_ok.Goals as goal

@@ -1,27 +1,31 @@
 -- `block::body_ok` meets its contract: its calls make up `body_fine`.
 use mathlib.Core.Bool.{not}
-use mathlib.Core.Path.{◌∙◌, sym, ap}
+use mathlib.Core.Path.{refl, ◌∙◌, sym, ap}
 use native.Mathlib.Omega.{arith}
-use borrow.Author.Tests.{not-false}
-use borrow.Author.Rules.{rules}
 use Rattle.block.specs.Checks.{body_fine, lists_fine, rest_fine}
-use Rattle.block.proofs.Body.{lists-are, inserts-rise, deletes-rise, rest-is}
+use Rattle.block.proofs.Body.{lists-stop, lists-are, inserts-rise, deletes-rise, rest-is}
 use Rattle.block.proofs.Shut.{and-stop, and-go}
 use Rattle.block.proofs.body_ok.Goals as goal
 
-pub returns-then-not-q-rises_under : goal.returns-then-not-q-rises_under
+pub returns-in_default : goal.returns-in_default
 unfolding body_fine
-returns-then-not-q-rises_under c =
+returns-in_default c =
+    let a = c.args in
+    and-stop (rest_fine a.s.now a.blocks a.a a.h) (lists-stop a.s.now a.blocks a.a a.h c.floor_of-floor.ensures c.in_default.ensures) refl
+
+pub returns-then-not-rises_under : goal.returns-then-not-rises_under
+unfolding body_fine
+returns-then-not-rises_under c =
     let a = c.args in
     and-stop (rest_fine a.s.now a.blocks a.a a.h)
-    (lists-are a.s.now a.blocks a.a a.h c.floor_of-floor.ensures c.points_of-q.ensures c.rises_under.ensures c.rises_under-2.ensures) (ap not c.if-not-q-rises_under.true)
+    (lists-are a.s.now a.blocks a.a a.h c.floor_of-floor.ensures c.in-Some.ensures c.rises_under.ensures c.rises_under-2.ensures) (ap not c.if-not-rises_under.true)
 
 pub apart_ok-requires : goal.apart_ok-requires
 apart_ok-requires c =
     let a = c.args in
     let ok =
-    sym (lists-are a.s.now a.blocks a.a a.h c.floor_of-floor.ensures c.points_of-q.ensures c.rises_under.ensures c.rises_under-2.ensures)
-    ∙ c.if-not-q-rises_under.false
+    sym (lists-are a.s.now a.blocks a.a a.h c.floor_of-floor.ensures c.in-Some.ensures c.rises_under.ensures c.rises_under-2.ensures)
+    ∙ c.if-not-rises_under.false
     in
     (omega (arith, c.requires), omega (arith, c.requires), inserts-rise a.s.now a.blocks a.a a.h ok, deletes-rise a.s.now a.blocks a.a a.h ok)
 
@@ -34,7 +38,7 @@ unfolding body_fine
 returns c =
     let a = c.args in
     and-go (lists_fine a.s.now a.a a.h)
-    (lists-are a.s.now a.blocks a.a a.h c.floor_of-floor.ensures c.points_of-q.ensures c.rises_under.ensures c.rises_under-2.ensures)
-    (ap not c.if-not-q-rises_under.false)
-    (rest-is a.s.now a.blocks a.a a.h c.points_of-q.ensures c.floor_of-floor.ensures c.own_of.ensures c.above_tops.ensures
+    (lists-are a.s.now a.blocks a.a a.h c.floor_of-floor.ensures c.in-Some.ensures c.rises_under.ensures c.rises_under-2.ensures)
+    (ap not c.if-not-rises_under.false)
+    (rest-is a.s.now a.blocks a.a a.h c.in-Some.ensures c.floor_of-floor.ensures c.own_of.ensures c.above_tops.ensures
     c.apart_ok.ensures c.zeros.ensures c.entries_ok.ensures c.blocks_ok.ensures c.agrees_ok.ensures)

@@ -1,7 +1,6 @@
 -- `block::bound_of` meets its contract: a number of block 0 stands at the same place of the table.
 use mathlib.Core.Path.{sym, ◌∙◌}
 use native.Mathlib.Omega.{arith}
-use borrow.Author.Rules.{rules}
 use Rattle.block.specs.Header.{head_of, header_of}
 use Rattle.block.proofs.Heads.{head-number}
 use Rattle.block.proofs.bound_of.Goals as goal

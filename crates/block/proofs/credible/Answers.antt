@@ -1,5 +1,4 @@
 -- `block::credible` meets its contract: it computes as `credible_fine` does.
-use borrow.Author.Rules.{rules}
 use Rattle.block.specs.Checks.{credible_fine}
 use Rattle.block.proofs.credible.Goals as goal
 

@@ -1,5 +1,4 @@
 -- `block::entry_ok` meets its contract: it computes as `entry_fine` does.
-use borrow.Author.Rules.{rules}
 use Rattle.block.proofs.Marks.{entry-made}
 use Rattle.block.proofs.entry_ok.Goals as goal
 

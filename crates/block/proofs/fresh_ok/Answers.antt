@@ -1,12 +1,12 @@
 -- `block::fresh_ok` meets its contract: the loop tests each entry before; its invariant is `TestsInv`.
 use mathlib.Core.Path.{ap, ◌∙◌}
 use mathlib.Core.Bool.{not}
-use Prim.Native.Nat.{ℕ, ◌≤◌, ◌-◌}
+use Prim.Native.Nat.{ℕ}
 use native.Mathlib.Omega.{arith}
 use lib.Dec.{eqb}
 use Rattle.octets.specs.Lists.{all, records}
 use Rattle.block.specs.Checks.{other_block, fresh_fine}
-use Rattle.block.proofs.Passes.{TestsInv, tests-start, tests-next, tests-end}
+use Rattle.block.proofs.Passes.{tests-start, tests-next, tests-end}
 use Rattle.block.proofs.fresh_ok.Goals as goal
 
 pub loop-i-init : goal.loop-i-init

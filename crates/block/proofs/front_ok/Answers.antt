@@ -1,5 +1,4 @@
 -- `block::front_ok` meets its contract: it computes as `front_fine` does.
-use borrow.Author.Rules.{rules}
 use Rattle.block.specs.Checks.{front_fine, ◌and◌}
 use Rattle.block.proofs.front_ok.Goals as goal
 

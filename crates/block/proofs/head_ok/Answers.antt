@@ -2,8 +2,6 @@
 use mathlib.Core.Bool.{not}
 use mathlib.Core.Path.{sym, ◌∙◌, ap}
 use native.Mathlib.Omega.{arith}
-use borrow.Author.Tests.{not-false}
-use borrow.Author.Rules.{rules}
 use Rattle.block.proofs.Heads.{head-stop, head-go, numbers-blocks, numbers-root}
 use Rattle.block.proofs.head_ok.Goals as goal
 

@@ -1,5 +1,4 @@
 -- `block::header_ok` meets its contract: the part lent is block 0.
-use borrow.Author.Rules.{rules}
 use Rattle.block.specs.Header.{head_of}
 use Rattle.block.proofs.header_ok.Goals as goal
 

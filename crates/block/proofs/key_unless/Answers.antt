@@ -1,5 +1,4 @@
 -- `block::key_unless` meets its contract: by the test.
-use borrow.Author.Rules.{rules}
 use Rattle.block.proofs.key_unless.Goals as goal
 
 pub read_key-requires : goal.read_key-requires

@@ -1,5 +1,4 @@
 -- `block::map_ok` meets its contract: its calls make up `map_fine`.
-use borrow.Author.Rules.{rules}
 use Rattle.block.specs.Checks.{map_fine}
 use Rattle.block.proofs.map_ok.Goals as goal
 

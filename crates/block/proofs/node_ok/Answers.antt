@@ -2,8 +2,6 @@
 use mathlib.Core.Bool.{not}
 use mathlib.Core.Path.{◌∙◌, sym, ap}
 use native.Mathlib.Omega.{arith}
-use borrow.Author.Tests.{not-false}
-use borrow.Author.Rules.{rules}
 use Rattle.block.proofs.Verdict.{node-stop, node-go, used-fits, used-is}
 use Rattle.block.proofs.node_ok.Goals as goal
 

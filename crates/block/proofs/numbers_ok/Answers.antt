@@ -1,5 +1,4 @@
 -- `block::numbers_ok` meets its contract: it computes as `numbers_fine` does.
-use borrow.Author.Rules.{rules}
 use Rattle.octets.proofs.Bytes.{be-one}
 use Rattle.block.specs.Checks.{numbers_fine, ◌and◌}
 use Rattle.block.proofs.numbers_ok.Goals as goal

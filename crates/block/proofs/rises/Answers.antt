@@ -1,8 +1,7 @@
 -- `block::rises` meets its contract: the loop's invariant is `RiseInv`: what is done and what is left make up the whole.
-use Prim.Native.Nat.{◌≤◌, ◌-◌}
 use native.Mathlib.Omega.{arith}
 use Rattle.octets.proofs.Order.{stride}
-use Rattle.block.proofs.Passes.{RiseInv, rise-none, rise-start, rise-next, rise-end}
+use Rattle.block.proofs.Passes.{rise-none, rise-start, rise-next, rise-end}
 use Rattle.block.proofs.rises.Goals as goal
 
 pub returns-then-n-eq0 : goal.returns-then-n-eq0

@@ -1,10 +1,8 @@
 -- `block::rises_under` meets its contract: the loop's invariant is `BothInv`: what is done and what is left make up the whole.
-use Prim.Native.Nat.{◌≤◌, ◌-◌}
 use native.Mathlib.Omega.{arith}
-use borrow.Author.Rules.{rules}
 use Rattle.octets.proofs.Order.{stride}
 use Rattle.spot.specs.Keys.{end_key}
-use Rattle.block.proofs.Passes.{BothInv, both-none, both-start, both-next, both_end}
+use Rattle.block.proofs.Passes.{both-none, both-start, both-next, both_end}
 use Rattle.block.proofs.rises_under.Goals as goal
 
 pub returns-then-n-eq0 : goal.returns-then-n-eq0

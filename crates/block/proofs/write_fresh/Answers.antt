@@ -2,7 +2,6 @@
 use mathlib.Core.Path.{refl}
 use native.Mathlib.Omega.{arith}
 use lib.ListN.{length-set}
-use borrow.Author.Rules.{rules}
 use Rattle.block.specs.Checks.{fresh_marks}
 use Rattle.block.proofs.write_fresh.Goals as goal
 

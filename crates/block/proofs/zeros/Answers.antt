@@ -1,11 +1,6 @@
 -- `block::zeros` meets its contract: the invariant: what is done and what is left make up the whole.
-use mathlib.Core.Bool.{◌&&◌}
-use mathlib.Core.Path.{◌≡◌, refl}
-use Prim.Native.Nat.{◌≤◌, ◌-◌}
+use mathlib.Core.Path.{refl}
 use native.Mathlib.Omega.{arith}
-use lib.ListN.{length, drop}
-use Rattle.octets.specs.Lists.{every}
-use Rattle.block.specs.Checks.{is_zero}
 use Rattle.block.proofs.Passes.{zeros-next, zeros-end}
 use Rattle.block.proofs.zeros.Goals as goal
 

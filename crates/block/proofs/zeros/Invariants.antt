@@ -1,16 +1,11 @@
 -- `block::zeros` meets its contract: the invariant: what is done and what is left make up the whole.
 use mathlib.Core.Bool.{◌&&◌}
-use mathlib.Core.Path.{◌≡◌, refl}
-use Prim.Native.Nat.{◌≤◌, ◌-◌}
-use native.Mathlib.Omega.{arith}
+use mathlib.Core.Path.{◌≡◌}
+use Prim.Native.Nat.{◌≤◌}
 use lib.ListN.{length, drop}
 use Rattle.octets.specs.Lists.{every}
 use Rattle.block.specs.Checks.{is_zero}
-use Rattle.block.proofs.Passes.{zeros-next, zeros-end}
 use Rattle.block.proofs.zeros.Given as goal
 
 abbrev pub invariant-loop-i : goal.invariant-loop-i
 invariant-loop-i l = (l.i ≤ length l.s) × (every is_zero (drop l.at l.s) ≡ l.ok && every is_zero (drop l.i l.s))
-
-abbrev pub decreases-loop-i : goal.decreases-loop-i
-decreases-loop-i l = length l.s - l.i

@@ -1,13 +1,12 @@
 -- `build::build` meets its contract. The measure is the height; the loop over the children has the invariant `Children`.
 use mathlib.Core.Path.{refl, ap, ◌∙◌}
-use borrow.Author.Rules.{rules}
 use native.Mathlib.Omega.{arith}
-use Prim.Native.Nat.{ℕ, ◌-◌, ◌*◌, ◌<◌}
+use Prim.Native.Nat.{ℕ, ◌-◌, ◌*◌}
 use lib.ListN.{length}
 use Rattle.block.specs.Table.{blocks_of}
 use Rattle.rebuild_theory.specs.Build.{shape_of}
 use Rattle.build.proofs.Segments.{Under}
-use Rattle.build.proofs.Children.{Children, children-none, share-small, child-room, child-ready, child-added}
+use Rattle.build.proofs.Children.{children-none, share-small, child-room, child-ready, child-added}
 use Rattle.build.proofs.Grown.{leaf-ready, leaf-post, ready, inner-ready, inner-post}
 use Rattle.build.proofs.+build.Goals as goal
 use Rattle.build.proofs.+build.Goals.{Else-height-eq0}
@@ -43,13 +42,13 @@ overflow_add-at t c = let p = c.requires in omega (arith, p.last, p.blocks)
 
 pub overflow_mul-at : goal.overflow_mul-at
 overflow_mul-at t c =
-    let room = child-room _ _ _ _ _ _ _ _ (parts t (goal.at.overflow_mul-at t c).Else-height-eq0) c.loop-j.invariant c.loop-j-test.true in
+    let room = child-room _ _ _ _ _ _ _ _ (parts t (goal.at.overflow_mul-at t c).Else-height-eq0) c.loop-j.invariant (omega arith) in
     let j = c.loop-j.j in
     record { fits = omega (arith, room.1, ap (λ (k : ℕ). j * k) c.nodes_of-width.ensures.0) }
 
 pub overflow_add-at-in-loop-j : goal.overflow_add-at-in-loop-j
 overflow_add-at-in-loop-j t c =
-    let room = child-room _ _ _ _ _ _ _ _ (parts t (goal.at.overflow_add-at-in-loop-j t c).Else-height-eq0) c.loop-j.invariant c.loop-j-test.true in
+    let room = child-room _ _ _ _ _ _ _ _ (parts t (goal.at.overflow_add-at-in-loop-j t c).Else-height-eq0) c.loop-j.invariant (omega arith) in
     let j = c.loop-j.j in
     record { fits = omega (arith, room.0, room.1, room.2, ap (λ (k : ℕ). j * k) c.nodes_of-width.ensures.0) }
 
@@ -58,21 +57,18 @@ build-e-requires t c =
     let p = c.requires in
     let d = c.if-height-eq0.false in (
       omega (arith, c.decreases, d),
-      child-ready _ _ _ _ _ _ _ _ (parts t (goal.at.build-e-requires t c).Else-height-eq0) c.loop-j.invariant c.loop-j-test.true p.segment _ 6 _ refl (omega arith) (omega (arith, p.high)) c.nodes_of-width.ensures.0,
+      child-ready _ _ _ _ _ _ _ _ (parts t (goal.at.build-e-requires t c).Else-height-eq0) c.loop-j.invariant (omega arith) p.segment _ 6 _ refl (omega arith) (omega (arith, p.high)) c.nodes_of-width.ensures.0,
     )
 
 pub add_entry-es-requires : goal.add_entry-es-requires
-add_entry-es-requires t c = let below = parts t (goal.at.add_entry-es-requires t c).Else-height-eq0 in omega (arith, below.eight, c.loop-j.invariant.count, c.loop-j-test.true)
+add_entry-es-requires t c = let below = parts t (goal.at.add_entry-es-requires t c).Else-height-eq0 in omega (arith, below.eight, c.loop-j.invariant.count)
 
 pub overflow_sub-left : goal.overflow_sub-left
-overflow_sub-left t c = share-small _ _ _ _ _ _ _ _ (parts t (goal.at.overflow_sub-left t c).Else-height-eq0) c.loop-j.invariant c.loop-j-test.true
-
-pub overflow_add-j : goal.overflow_add-j
-overflow_add-j t c = let below = parts t (goal.at.overflow_add-j t c).Else-height-eq0 in omega (arith, below.eight, c.loop-j-test.true)
+overflow_sub-left t c = share-small _ _ _ _ _ _ _ _ (parts t (goal.at.overflow_sub-left t c).Else-height-eq0) c.loop-j.invariant (omega arith)
 
 pub loop-j-preserved : goal.loop-j-preserved
 loop-j-preserved t c =
-    child-added _ _ _ _ _ _ _ _ (parts t (goal.at.loop-j-preserved t c).Else-height-eq0) c.loop-j.invariant c.loop-j-test.true c.nodes_of-width.ensures.0 c.limit_at-under.ensures c.build-e.ensures.0 c.build-e.ensures.1 c.add_entry-es.ensures.0 c.add_entry-es.ensures.1
+    child-added _ _ _ _ _ _ _ _ (parts t (goal.at.loop-j-preserved t c).Else-height-eq0) c.loop-j.invariant (omega arith) c.nodes_of-width.ensures.0 c.limit_at-under.ensures c.build-e.ensures.0 c.build-e.ensures.1 c.add_entry-es.ensures.0 c.add_entry-es.ensures.1
 
 pub put_own-requires-2 : goal.put_own-requires-2
 put_own-requires-2 t c =
@@ -83,13 +79,10 @@ shape_of-t t c = c.put_own-2.ensures.sized ∙ c.loop-j.invariant.sized
 
 pub returns : goal.returns
 returns t c =
-    inner-post c.requires _ c.if-height-eq0.false _ _ refl c.choose_cut-cut.ensures c.loop-j.invariant c.loop-j-test.false c.put_own-2.ensures
+    inner-post c.requires _ c.if-height-eq0.false _ _ refl c.choose_cut-cut.ensures c.loop-j.invariant (omega arith) c.put_own-2.ensures
 
 pub choose_cut-cut-requires : goal.choose_cut-cut-requires
 choose_cut-cut-requires t c = c.requires.segment
 
 pub overflow_sub-start : goal.overflow_sub-start
 overflow_sub-start t c = let m = c.loop-j.invariant.few in omega arith
-
-pub loop-j-smaller : goal.loop-j-smaller
-loop-j-smaller t c = omega (arith, c.loop-j-test.true)

@@ -1,8 +1,7 @@
 -- `build::nodes_of` meets its contract. The measure is the height.
 use mathlib.Core.Path.{ap, ◌∙◌}
-use Prim.Native.Nat.{◌+◌, ◌*◌, ◌≤◌, ℕ, ◌<◌}
+use Prim.Native.Nat.{◌+◌, ◌*◌, ◌≤◌, ℕ}
 use Rattle.build.proofs.Shapes.{nodes-none, nodes-step, nodes-few, nodes-room, power-some}
-use borrow.Author.Rules.{rules}
 use native.Mathlib.Omega.{arith}
 use Rattle.build.proofs.+nodes_of.Goals as goal
 use Rattle.build.proofs.+nodes_of.Goals.{After-nodes_of}

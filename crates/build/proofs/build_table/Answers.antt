@@ -1,6 +1,5 @@
 -- `build::build_table` meets its contract: the tree, and a header that says so.
 use Rattle.build.proofs.Laid.{table-ready, header-ready, rebuilt}
-use borrow.Author.Rules.{rules}
 use Rattle.build.proofs.build_table.Goals as goal
 
 pub build-root-requires : goal.build-root-requires

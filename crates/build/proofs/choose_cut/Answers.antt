@@ -1,5 +1,4 @@
 -- `build::choose_cut` meets its contract: a cut that fits, or one found by halving.
-use borrow.Author.Rules.{rules}
 use Rattle.build.proofs.choose_cut.Goals as goal
 
 pub returns-then-cut_fits : goal.returns-then-cut_fits

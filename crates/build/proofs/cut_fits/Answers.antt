@@ -3,7 +3,6 @@ use mathlib.Core.Path.{sym}
 use mathlib.Core.Bool.{true≢false}
 use borrow.Author.Tests.{leb-true}
 use Rattle.build.proofs.Bands.{cut_all, cut-some}
-use borrow.Author.Rules.{rules}
 use Rattle.build.proofs.cut_fits.Goals as goal
 
 pub returns-then-cut-eq0 : goal.returns-then-cut-eq0

@@ -1,9 +1,7 @@
 -- `build::halved_cut` meets its contract. The loop's invariant: the lower cut takes too many, the upper one too few; so there is always one between them, and
 -- the loop ends by a hit alone.
 use mathlib.Core.Path.{refl}
-use Prim.Native.Nat.{◌-◌}
-use Rattle.build.proofs.Bands.{Between, cut_all, between_first, between-low, between-high, between-up, between-down, between-hit}
-use borrow.Author.Rules.{rules}
+use Rattle.build.proofs.Bands.{cut_all, between_first, between-low, between-high, between-up, between-down, between-hit}
 use native.Mathlib.Omega.{arith}
 use Rattle.build.proofs.halved_cut.Goals as goal
 
@@ -11,7 +9,7 @@ pub returns-then-count_band-le-POINTS_MOST : goal.returns-then-count_band-le-POI
 returns-then-count_band-le-POINTS_MOST c = cut_all _ _ _ _ c.requires refl c.count_band.ensures.0 c.if-count_band-le-POINTS_MOST.true
 
 pub loop-lo-init : goal.loop-lo-init
-loop-lo-init c = between_first _ _ _ _ c.requires c.count_band.ensures.0 c.if-count_band-le-POINTS_MOST.false
+loop-lo-init c = rw c.unwrap_or-hi.ensures (between_first _ _ _ _ c.requires c.count_band.ensures.0 c.if-count_band-le-POINTS_MOST.false)
 
 pub overflow_add-mid : goal.overflow_add-mid
 overflow_add-mid c =

@@ -1,10 +1,7 @@
 -- `build::halved_cut` meets its contract. The loop's invariant: the lower cut takes too many, the upper one too few; so there is always one between them, and
 -- the loop ends by a hit alone.
-use mathlib.Core.Path.{refl}
 use Prim.Native.Nat.{◌-◌}
-use Rattle.build.proofs.Bands.{Between, cut_all, between_first, between-low, between-high, between-up, between-down, between-hit}
-use borrow.Author.Rules.{rules}
-use native.Mathlib.Omega.{arith}
+use Rattle.build.proofs.Bands.{Between}
 use Rattle.build.proofs.halved_cut.Given as goal
 
 abbrev pub invariant-loop-lo : goal.invariant-loop-lo

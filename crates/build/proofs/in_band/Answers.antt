@@ -2,12 +2,14 @@
 use mathlib.Core.Path.{ap, ◌∙◌}
 use Rattle.spot.specs.Keys.{within}
 use Rattle.build.specs.Building.{limit_of}
-use Rattle.build.proofs.Bands.{test-is}
-use borrow.Author.Rules.{rules}
+use Rattle.build.proofs.Bands.{test-some, test-none}
+use Rattle.std.specs.Prelude.{Some}
 use Rattle.build.proofs.in_band.Goals as goal
 
-pub returns : goal.returns
-returns c =
-    let l = c.args.limit in
-    let k = c.args.cut in
-    test-is k l _ ∙ ap (within k (limit_of l)) c.rank_key-r.ensures
+pub returns-in-None : goal.returns-in-None
+returns-in-None c = rw c.in-None.is (test-none c.args.cut _)
+
+pub returns-in-Some : goal.returns-in-Some
+returns-in-Some c =
+    rw c.in-Some.is
+    (test-some c.args.cut c.in-Some.last _ ∙ ap (within c.args.cut (limit_of (Some c.in-Some.last))) c.rank_key-r.ensures)

@@ -1,7 +1,6 @@
 -- `build::shape_of` meets its contract. The loop's invariant: the shape sought is the first that serves among those from i on.
 use Prim.Native.Nat.{◌-◌}
-use native.Mathlib.Omega.{arith}
-use Rattle.build.proofs.Shapes.{rows, count_small, Sought, sought-first, sought-inside, sought-next, sought-found}
+use Rattle.build.proofs.Shapes.{Sought}
 use Rattle.build.proofs.shape_of.Given as goal
 
 abbrev pub invariant-loop-i : goal.invariant-loop-i

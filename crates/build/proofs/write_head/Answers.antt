@@ -1,7 +1,6 @@
 -- `build::write_head` meets its contract: the numbers, and the map put into its part of the block.
 use Rattle.build.proofs.Head.{head-says}
 use mathlib.Core.Path.{refl, ◌∙◌}
-use borrow.Author.Rules.{rules}
 use Rattle.build.proofs.write_head.Goals as goal
 
 pub returns : goal.returns

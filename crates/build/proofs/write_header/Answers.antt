@@ -5,7 +5,6 @@ use Rattle.build.proofs.Head.{header-written}
 use Rattle.block.proofs.Frames.{put-part-is}
 use lib.ListN.{length}
 use mathlib.Core.Path.{◌∙◌}
-use borrow.Author.Rules.{rules}
 use native.Mathlib.Omega.{arith}
 use Rattle.build.proofs.write_header.Goals as goal
 

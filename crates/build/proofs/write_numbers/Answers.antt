@@ -1,6 +1,5 @@
 -- `build::write_numbers` meets its contract: six writes that do not meet.
 use Rattle.build.proofs.Head.{numbers-are}
-use borrow.Author.Rules.{rules}
 use Rattle.build.proofs.write_numbers.Goals as goal
 
 pub returns : goal.returns

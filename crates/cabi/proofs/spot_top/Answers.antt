@@ -2,12 +2,13 @@
 use mir.Syntax.{w32}
 use mir.ValLaws.{to_z-of_z}
 use borrow.Author.Rules.{rules}
+use Rattle.block.specs.Answers.{answer_of}
 use Rattle.cabi.proofs.spot_top.Goals as goal
 
 pub returns : goal.returns
 returns c =
     record {
-      answer = c.top.result;
+      answer = answer_of c.top.result;
       number = search rules;
       detail = search rules;
       keeps =

@@ -1,10 +1,8 @@
 -- `carry::carry` meets its contract, by the number of changes.
-use borrow.Author.Rules.{rules}
 use native.Mathlib.Omega.{arith}
 use Prim.Native.Nat.{◌≤◌}
-use mathlib.Core.Path.{◌≡◌, sym, ◌∙◌}
+use mathlib.Core.Path.{◌≡◌, refl, sym, ◌∙◌}
 use lib.ListN.{length}
-use borrow.Author.Tests.{not-true, not-false}
 use Rattle.block.proofs.Making.{blocks-least}
 use Rattle.message.specs.Changes.{changes_of}
 use Rattle.message.specs.Messages.{read_message}
@@ -19,7 +17,7 @@ header_ok-requires c =
 
 pub returns-then-not-header_ok : goal.returns-then-not-header_ok
 returns-then-not-header_ok c =
-    carried-unfit _ _ _ (sym c.header_ok.ensures ∙ c.if-not-header_ok.true) _ c.plain_answer.ensures
+    carried-unfit _ _ _ (sym c.header_ok.ensures ∙ c.if-not-header_ok.true) _ refl
 
 pub count_of-n-requires : goal.count_of-n-requires
 count_of-n-requires c =
@@ -28,7 +26,7 @@ count_of-n-requires c =
 pub returns-then-n-eq0 : goal.returns-then-n-eq0
 returns-then-n-eq0 c =
     let none : length (changes_of (read_message c.args.m.now)) ≡ 0 = omega (arith, c.count_of-n.ensures.0, c.if-n-eq0.true) in
-    carried-nothing (sym c.header_ok.ensures ∙ c.if-not-header_ok.false) (length_none _ none) c.plain_answer-then-n-eq0.ensures
+    carried-nothing (sym c.header_ok.ensures ∙ c.if-not-header_ok.false) (length_none _ none) refl
 
 pub carry_one-requires : goal.carry_one-requires
 carry_one-requires c =

@@ -1,10 +1,11 @@
 -- `carry::carry_one` meets its contract: by that of `revise::put_spot` or of `revise::take_key`.
-use borrow.Author.Rules.{rules}
 use mathlib.Core.Path.{sym, ◌∙◌, ap}
 use Rattle.spot.specs.Keys.{limited}
 use mathlib.Core.List.{[], ◌∷◌}
 use Rattle.message.specs.declared.Change.{Change}
 use Rattle.message.specs.Changes.{change_key}
+use Prim.Native.Nat.{ℕ}
+use Rattle.block.specs.Answers.{answer, told}
 use Rattle.carry.proofs.One.{one-change}
 use Rattle.carry.proofs.Carried.{carried-add, carried-withdraw}
 use Rattle.carry.proofs.carry_one.Goals as goal
@@ -26,11 +27,11 @@ take_key-requires c =
 pub returns-in-Add : goal.returns-in-Add
 returns-in-Add c =
     let one = one-change _ c.requires.0.message c.requires.1 in
-    carried-add _ _ _ c.in-Add.s c.put_spot.ensures _ c.plain_answer.ensures
+    carried-add _ _ _ c.in-Add.s c.put_spot.ensures.number _ (ap (λ (d : ℕ). answer (told c.put_spot.result).number d) c.put_spot.ensures.plain)
     (one.is ∙ ap (λ (x : Change). x ∷ []) (sym c.change_at.ensures ∙ c.in-Add.is))
 
 pub returns-in-Withdraw : goal.returns-in-Withdraw
 returns-in-Withdraw c =
     let one = one-change _ c.requires.0.message c.requires.1 in
-    carried-withdraw _ _ _ c.in-Withdraw.k c.take_key.ensures _ c.plain_answer-in-Withdraw.ensures
+    carried-withdraw _ _ _ c.in-Withdraw.k c.take_key.ensures.number _ (ap (λ (d : ℕ). answer (told c.take_key.result).number d) c.take_key.ensures.plain)
     (one.is ∙ ap (λ (x : Change). x ∷ []) (sym c.change_at.ensures ∙ c.in-Withdraw.is))

@@ -1,10 +1,6 @@
 -- `catalogue::apart` meets its contract: it reads the two entries.
-use mathlib.Core.Path.{ap₂, ◌∙◌}
 use native.Mathlib.Numerals.{add-one}
-use lib.Dec.{ltb}
-use borrow.Author.Rules.{rules}
-use Rattle.catalogue.specs.declared.Entry.{Entry}
-use Rattle.catalogue.specs.Catalogue.{apart, tile_entry_at}
+use Rattle.catalogue.specs.Catalogue.{apart}
 use Rattle.catalogue.proofs.apart.Goals as goal
 
 pub returns : goal.returns

@@ -1,26 +1,19 @@
--- `catalogue::apart_all` meets its contract: the invariant: what is done and what is left make up the whole.
+-- `catalogue::apart_all` meets its contract.
 use mathlib.Core.Path.{refl}
-use Prim.Native.Nat.{◌-◌, ◌≤◌}
-use native.Mathlib.Omega.{arith}
-use borrow.Author.Rules.{rules}
+use mathlib.Core.Bool.{true, false}
+use Rattle.std.proofs.Common.{◌≡◌, ◌-◌, arith, rules, tests}
+use Rattle.std.proofs.lemmas.Iterator.{cases_from_all, serves_from_Range, YieldsList-from_range}
 use Rattle.catalogue.specs.Catalogue.{apart, tile_entry_at}
-use Rattle.catalogue.proofs.Making.{EachInv, each_next, each-end}
+use Rattle.catalogue.proofs.Making.{each-of}
 use Rattle.catalogue.proofs.apart_all.Goals as goal
 
-pub loop-b-init : goal.loop-b-init
-loop-b-init c = (omega arith, refl)
-
-pub apart-ok-requires : goal.apart-ok-requires
-apart-ok-requires c = (omega arith, omega arith, c.requires.1)
-
-pub loop-b-preserved : goal.loop-b-preserved
-loop-b-preserved c =
-    let l = c.loop-b in
-    let a = c.args in
-    (omega arith, each_next (apart (tile_entry_at a.s.now)) 1 a.l l.ok l.b l.invariant.1 (omega arith) c.apart-ok.ensures)
+pub all-requires : goal.all-requires
+all-requires c = record { can = tt; finite = tt; callable = serves_from_Range (λ x q k. search (rules, tests)) (λ x low high. grind arith) }
 
 pub returns : goal.returns
 returns c =
-    let l = c.loop-b in
     let a = c.args in
-    each-end (apart (tile_entry_at a.s.now)) 1 a.l l.ok l.b l.invariant.1 (omega arith)
+    let fine = apart (tile_entry_at a.s.now) in
+    each-of fine 1 (a.l - 1) c.all.result
+    (cases_from_all _ _ _ (λ b. fine b ≡ true) (λ b. fine b ≡ false) c.all.ensures.ran
+    (YieldsList-from_range 1 a.l _ refl refl) (λ x q k. search (rules, tests)) (λ x q k. search (rules, tests)))

@@ -1,7 +1,6 @@
 -- `catalogue::asks` meets its contract: its calls make up `asks`.
 use mathlib.Core.Path.{ap₂}
 use mathlib.Core.Bool.{◌&&◌}
-use borrow.Author.Rules.{rules}
 use Rattle.catalogue.specs.Catalogue.{asks}
 use Rattle.catalogue.proofs.asks.Goals as goal
 

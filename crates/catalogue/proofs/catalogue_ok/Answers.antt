@@ -1,6 +1,5 @@
 -- `catalogue::catalogue_ok` meets its contract: its calls make up `catalogue_fine`.
 use native.Mathlib.Omega.{arith}
-use borrow.Author.Rules.{rules}
 use Rattle.catalogue.proofs.Lengths.{Lengths, sized-lengths}
 use Rattle.catalogue.proofs.Making.{catalogue-made}
 use Rattle.catalogue.proofs.catalogue_ok.Goals as goal

@@ -1,6 +1,5 @@
 -- `catalogue::ended_ok` meets its contract: by the test.
 use mathlib.Core.Path.{refl, sym, ◌∙◌}
-use borrow.Author.Rules.{rules}
 use Rattle.catalogue.specs.Catalogue.{ended_fine}
 use Rattle.catalogue.proofs.ended_ok.Goals as goal
 

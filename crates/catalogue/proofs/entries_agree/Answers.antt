@@ -1,5 +1,4 @@
 -- `catalogue::entries_agree` meets its contract: its calls make up `entries_agree`.
-use borrow.Author.Rules.{rules}
 use Rattle.catalogue.specs.Catalogue.{tile_entry_at}
 use Rattle.catalogue.proofs.Making.{agree-made}
 use Rattle.catalogue.proofs.entries_agree.Goals as goal

@@ -1,31 +1,19 @@
--- `catalogue::entries_ok` meets its contract: the invariant: what is done and what is left make up the whole.
-use mathlib.Core.Path.{refl, ◌∙◌, ap}
-use mathlib.Core.Bool.{Bool}
-use mathlib.Core.List.{List}
-use Prim.Native.Nat.{ℕ, ◌-◌, ◌≤◌}
-use native.Mathlib.Omega.{arith}
-use borrow.Author.Rules.{rules}
+-- `catalogue::entries_ok` meets its contract.
+use mathlib.Core.Path.{refl}
+use mathlib.Core.Bool.{true, false}
+use Rattle.std.proofs.Common.{ℕ, ◌≡◌, ◌-◌, arith, rules, tests}
+use Rattle.std.proofs.lemmas.Iterator.{cases_from_all, serves_from_Range, YieldsList-from_range}
 use Rattle.catalogue.specs.Catalogue.{tile_entry_fine, tile_entry_at}
-use Rattle.catalogue.proofs.Making.{EachInv, each_next, each-end}
+use Rattle.catalogue.proofs.Making.{each-of}
 use Rattle.catalogue.proofs.entries_ok.Goals as goal
 
-abbrev fine : ℕ → List ℕ → ℕ → Bool
-fine m s b = tile_entry_fine m b (tile_entry_at s b)
-
-pub loop-b-init : goal.loop-b-init
-loop-b-init c = (omega arith, omega arith, refl)
-
-pub entry_at-requires : goal.entry_at-requires
-entry_at-requires c = ((omega arith, omega arith), c.requires.2)
-
-pub loop-b-preserved : goal.loop-b-preserved
-loop-b-preserved c =
-    let l = c.loop-b in
-    let a = c.args in
-    (omega arith, omega arith, each_next (fine a.m a.s.now) 1 a.m l.ok l.b l.invariant.2 (omega arith) (c.entry_ok-ok.ensures ∙ ap (tile_entry_fine a.m l.b) c.entry_at.ensures))
+pub all-requires : goal.all-requires
+all-requires c = record { can = tt; finite = tt; callable = serves_from_Range (λ x q k. search (rules, tests)) (λ x low high. grind arith) }
 
 pub returns : goal.returns
 returns c =
-    let l = c.loop-b in
     let a = c.args in
-    each-end (fine a.m a.s.now) 1 a.m l.ok l.b l.invariant.2 (omega arith)
+    let fine = λ (b : ℕ). tile_entry_fine a.m b (tile_entry_at a.s.now b) in
+    each-of fine 1 (a.m - 1) c.all.result
+    (cases_from_all _ _ _ (λ b. fine b ≡ true) (λ b. fine b ≡ false) c.all.ensures.ran
+    (YieldsList-from_range 1 a.m _ refl refl) (λ x q k. search (rules, tests)) (λ x q k. search (rules, tests)))

@@ -1,5 +1,4 @@
 -- `catalogue::entry_at` meets its contract: its calls make up `entry_at`.
-use borrow.Author.Rules.{rules}
 use Rattle.catalogue.specs.Catalogue.{tile_entry_at}
 use Rattle.catalogue.proofs.entry_at.Goals as goal
 

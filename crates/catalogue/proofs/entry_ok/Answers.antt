@@ -1,5 +1,4 @@
 -- `catalogue::entry_ok` meets its contract: its calls make up `tile_entry_fine`.
-use borrow.Author.Rules.{rules}
 use Rattle.catalogue.proofs.Making.{entry-made}
 use Rattle.catalogue.proofs.entry_ok.Goals as goal
 

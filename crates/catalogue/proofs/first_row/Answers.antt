@@ -1,5 +1,4 @@
 -- `catalogue::first_row` meets its contract: the blocks in turn.
-use native.Mathlib.Omega.{arith}
 use Rattle.catalogue.proofs.Rows.{first-held}
 use Rattle.catalogue.proofs.first_row.Goals as goal
 

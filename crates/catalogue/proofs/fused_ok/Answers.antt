@@ -1,5 +1,4 @@
 -- `catalogue::fused_ok` meets its contract: its calls make up `fused_fine`.
-use borrow.Author.Rules.{rules}
 use Rattle.catalogue.proofs.Making.{fused-made}
 use Rattle.catalogue.proofs.fused_ok.Goals as goal
 

@@ -2,7 +2,6 @@
 use mathlib.Core.Path.{refl}
 use Prim.Native.Nat.{◌/◌}
 use borrow.Author.Tests.{le-leb, lt-leb}
-use borrow.Author.Rules.{rules}
 use Rattle.catalogue.specs.Catalogue.{made_fine}
 use Rattle.catalogue.proofs.made_ok.Goals as goal
 

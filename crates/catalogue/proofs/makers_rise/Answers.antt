@@ -1,6 +1,5 @@
 -- `catalogue::makers_rise` meets its contract: it reads the two entries.
 use native.Mathlib.Numerals.{add-one}
-use borrow.Author.Rules.{rules}
 use Rattle.catalogue.specs.Catalogue.{makers_rise}
 use Rattle.catalogue.proofs.makers_rise.Goals as goal
 

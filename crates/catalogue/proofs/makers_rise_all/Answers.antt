@@ -1,27 +1,20 @@
--- `catalogue::makers_rise_all` meets its contract: the invariant: what is done and what is left make up the whole.
-use mathlib.Core.Path.{refl, ◌∙◌}
-use Prim.Native.Nat.{◌+◌, ◌-◌, ◌≤◌}
-use native.Mathlib.Omega.{arith}
-use borrow.Author.Rules.{rules}
+-- `catalogue::makers_rise_all` meets its contract.
+use mathlib.Core.Path.{refl, ap, ◌∙◌}
+use mathlib.Core.Bool.{true, false}
+use Rattle.std.proofs.Common.{ℕ, ◌≡◌, ◌-◌, ◌+◌, arith, rules, tests}
+use Rattle.std.proofs.lemmas.Iterator.{cases_from_all, serves_from_Range, YieldsList-from_range}
 use Rattle.catalogue.specs.Catalogue.{makers_rise, tile_entry_at}
-use Rattle.catalogue.proofs.Making.{EachInv, each_next, each-end, fused-few}
+use Rattle.catalogue.proofs.Making.{each-of, fused-few}
 use Rattle.catalogue.proofs.makers_rise_all.Goals as goal
 
-pub loop-b-init : goal.loop-b-init
-loop-b-init c = (omega arith, omega arith, refl)
-
-pub makers_rise-ok-requires : goal.makers_rise-ok-requires
-makers_rise-ok-requires c = (omega arith, omega arith, c.requires.2)
-
-pub loop-b-preserved : goal.loop-b-preserved
-loop-b-preserved c =
-    let l = c.loop-b in
-    let a = c.args in
-    (omega arith, omega arith, each_next (makers_rise (tile_entry_at a.s.now)) (a.l + 1) (a.m - 1) l.ok l.b l.invariant.2 (omega arith) c.makers_rise-ok.ensures)
+pub all-requires : goal.all-requires
+all-requires c = record { can = tt; finite = tt; callable = serves_from_Range (λ x q k. search (rules, tests)) (λ x low high. grind arith) }
 
 pub returns : goal.returns
 returns c =
-    let l = c.loop-b in
     let a = c.args in
-    each-end (makers_rise (tile_entry_at a.s.now)) (a.l + 1) (a.m - 1) l.ok l.b l.invariant.2 (omega arith)
-    ∙ fused-few (makers_rise (tile_entry_at a.s.now)) a.l a.m
+    let rise = makers_rise (tile_entry_at a.s.now) in
+    each-of rise (a.l + 1) (a.m - 1 - (a.l + 1)) c.all.result
+    (cases_from_all _ _ _ (λ b. rise b ≡ true) (λ b. rise b ≡ false) c.all.ensures.ran
+    (YieldsList-from_range (a.l + 1) (a.m - 1) _ (ap (λ (k : ℕ). record { start = a.l + 1; end = k }) c.saturating_sub.ensures) refl) (λ x q k. search (rules, tests)) (λ x q k. search (rules, tests)))
+    ∙ fused-few rise a.l a.m

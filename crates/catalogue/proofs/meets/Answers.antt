@@ -2,7 +2,6 @@
 use mathlib.Core.Path.{ap₂, ◌∙◌}
 use Prim.Native.Nat.{ℕ}
 use lib.Dec.{leb}
-use borrow.Author.Rules.{rules}
 use Rattle.spot.specs.Query.{ends}
 use Rattle.sweep.specs.Report.{meets_span}
 use Rattle.catalogue.proofs.meets.Goals as goal

@@ -1,7 +1,6 @@
 -- `catalogue::read_entry` meets its contract: every identity of a catalogue in order may be read.
 use Prim.Native.Nat.{◌≤◌}
 use native.Mathlib.Omega.{arith}
-use borrow.Author.Rules.{rules}
 use Rattle.catalogue.specs.Catalogue.{tile_entry_at}
 use Rattle.catalogue.specs.Reading.{LimitedEntry}
 use Rattle.catalogue.proofs.Lengths.{sized-lengths}

@@ -1,6 +1,5 @@
 -- `catalogue::standing` meets its contract: of a key of 64 bits, the rank is the lower half.
 use native.Mathlib.Omega.{arith}
-use borrow.Author.Rules.{rules}
 use Rattle.catalogue.proofs.Making.{stands-made}
 use Rattle.catalogue.proofs.standing.Goals as goal
 

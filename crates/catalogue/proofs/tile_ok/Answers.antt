@@ -1,5 +1,4 @@
 -- `catalogue::tile_ok` meets its contract: its calls make up `tile_fine`.
-use borrow.Author.Rules.{rules}
 use Rattle.catalogue.proofs.Making.{tile-made}
 use Rattle.catalogue.proofs.tile_ok.Goals as goal
 

@@ -2,7 +2,6 @@
 use mathlib.Core.Bool.{true}
 use mathlib.Core.Path.{◌≡◌}
 use native.Mathlib.Omega.{arith}
-use borrow.Author.Tests.{not-false}
 use mathlib.Core.List.{Memᴰ}
 use Prim.Native.Nat.{ℕ}
 use Rattle.spot.specs.Keys.{start_key, end_key, within}
@@ -25,29 +24,26 @@ pub save-requires : goal.save-requires
 save-requires c =
     (heavy-starts c.requires.0, let z = nine-blocks c.args.t.now c.requires.0.start.header in omega (arith, z))
 
-pub grow-g-requires : goal.grow-g-requires
-grow-g-requires c =
+pub grow-requires : goal.grow-requires
+grow-requires c =
     let s = c.save.ensures in
     heavy-settles c.requires.0 s.0 s.1 c.spare_blocks-spare.ensures
 
 pub undo-requires : goal.undo-requires
 undo-requires c =
-    undoable-kept (kept_trans c.save.ensures.0 c.grow-g.ensures.kept) (heavy-starts c.requires.0)
+    undoable-kept (kept_trans c.save.ensures.0 c.grow.ensures.kept) (heavy-starts c.requires.0)
 
-pub returns-then-not-g : goal.returns-then-not-g
-returns-then-not-g c =
+pub returns-in-Err : goal.returns-in-Err
+returns-in-Err c =
     let s = c.save.ensures in
-    let g = c.grow-g.ensures in
-    heavy-undone c.requires.0 s.0 s.1 c.spare_blocks-spare.ensures g.kept g.grown c.refused.ensures c.undo.ensures (all-spots (goal.at.returns-then-not-g c).Start) (all-keys (goal.at.returns-then-not-g c).Start)
+    heavy-undone c.requires.0 s.0 s.1 c.spare_blocks-spare.ensures c.grow.ensures.kept c.in-Err.ensures.grown c.undo.ensures (all-spots (goal.at.returns-in-Err c).Start) (all-keys (goal.at.returns-in-Err c).Start)
 
 pub finish-requires : goal.finish-requires
 finish-requires c =
     let s = c.save.ensures in
-    let g = c.grow-g.ensures in
-    heavy-finishes c.requires.0 s.0 s.1 c.spare_blocks-spare.ensures g.kept g.grown (not-false _ c.if-not-g.false)
+    heavy-finishes c.requires.0 s.0 s.1 c.spare_blocks-spare.ensures c.grow.ensures.kept c.in-Ok.ensures.grown
 
-pub returns : goal.returns
-returns c =
+pub returns-in-Ok : goal.returns-in-Ok
+returns-in-Ok c =
     let s = c.save.ensures in
-    let g = c.grow-g.ensures in
-    heavy-done c.requires.0 s.0 s.1 c.spare_blocks-spare.ensures g.kept g.grown (not-false _ c.if-not-g.false) c.finish.ensures (all-spots (goal.at.returns c).Start) (all-keys (goal.at.returns c).Start)
+    heavy-done c.requires.0 s.0 s.1 c.spare_blocks-spare.ensures c.grow.ensures.kept c.in-Ok.ensures.grown c.finish.ensures (all-spots (goal.at.returns-in-Ok c).Start) (all-keys (goal.at.returns-in-Ok c).Start)

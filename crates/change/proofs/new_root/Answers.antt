@@ -2,12 +2,12 @@
 use mathlib.Core.Path.{refl, subst⁻¹}
 use Prim.Native.Nat.{ℕ, ◌<◌, ◌≤◌}
 use native.Mathlib.Omega.{arith}
-use borrow.Author.Tests.{not-false}
 use Rattle.block.specs.Table.{blocks_of}
 use Rattle.journal.proofs.Kept.{kept_refl, kept_trans, undoable-kept}
 use Rattle.settle.proofs.Ways.{last-inside}
-use Rattle.change.proofs.Settles.{crown-fails, crown-done, room-above}
-use Rattle.change.proofs.Crown.{crown-works, crown-stores, crown-whole}
+use Rattle.std.proofs.lemmas.Result.{err_from_is_err_and}
+use Rattle.change.proofs.Settles.{crown-done, room-above}
+use Rattle.change.proofs.Crown.{crown-works, crown-fails, crown-stores}
 use Rattle.change.proofs.new_root.Goals as goal
 use Rattle.change.proofs.new_root.Goals.{Else-left-level}
 
@@ -16,28 +16,29 @@ roomy : (c : Else-left-level) → let a = c.args in (0 < a.left) × (a.level ≤
 roomy c = let a = c.args in room-above a.left a.level c.if-left-level.false
 
 pub returns-then-left-level : goal.returns-then-left-level
-returns-then-left-level c = record { kept = kept_refl; crowned = crown-fails c.not_grown.ensures (λ f low high kids finds. refl) }
+returns-then-left-level c = record { kept = kept_refl; crowned = record { whole = λ f low high kids finds. refl } }
 
 pub last_of-root-requires : goal.last_of-root-requires
 last_of-root-requires c = let p = c.requires in ((roomy (goal.at.last_of-root-requires c).Else-left-level).0, omega (arith, p.less, p.spares.few))
 
-pub fill-f-requires : goal.fill-f-requires
-fill-f-requires c =
+pub fill-requires : goal.fill-requires
+fill-requires c =
     let p = c.requires in
-    crown-works c.over-n.ensures p.undoable (roomy (goal.at.fill-f-requires c).Else-left-level).1 p.fits p.inside p.inside_too
+    crown-works c.over-n.ensures p.undoable (roomy (goal.at.fill-requires c).Else-left-level).1 p.fits p.inside p.inside_too
 
-pub returns-then-not-f : goal.returns-then-not-f
-returns-then-not-f c =
-    let f = c.fill-f.ensures in
-    record { kept = f.kept; crowned = crown-fails c.not_grown-then-not-f.ensures (crown-whole c.over-n.ensures f.filled c.requires.zero) }
+pub returns-in_err-full : goal.returns-in_err-full
+returns-in_err-full c =
+    let r = err_from_is_err_and c.from_residual.result c.from_residual.ensures.1 in
+    rw (r.1, r.2) (record { kept = c.fill.ensures.kept; crowned = crown-fails c.over-n.ensures c.requires.zero c.in_err-full.ensures.filled })
 
 pub write_node-requires : goal.write_node-requires
 write_node-requires c =
     let last = c.last_of-root in
     let p = c.requires in
-    let f = c.fill-f.ensures in
+    let f = c.fill.ensures in
+    let full = c.in_ok-full.ensures.filled in
     let i = last-inside p.spares p.less last.ensures in
-    (undoable-kept f.kept p.undoable, subst⁻¹ (λ (n : ℕ). last.result < blocks_of n) f.kept.table i.1, crown-stores c.over-n.ensures f.filled p.zero)
+    (undoable-kept f.kept p.undoable, subst⁻¹ (λ (n : ℕ). last.result < blocks_of n) f.kept.table i.1, crown-stores c.over-n.ensures full p.zero)
 
 pub overflow_add-result : goal.overflow_add-result
 overflow_add-result c =
@@ -51,8 +52,8 @@ pub returns : goal.returns
 returns c =
     let a = c.args in
     let p = c.requires in
-    let f = c.fill-f.ensures in
+    let f = c.fill.ensures in
+    let full = c.in_ok-full.ensures.filled in
     let w = c.write_node.ensures in
     let last = c.last_of-root in
-    let went = (not-false _ c.if-not-f.false) in
-    record { kept = kept_trans f.kept w.0; crowned = crown-done _ a.spare a.left last.result c.over-n.ensures f.filled went p.zero p.inner (roomy (goal.at.returns c).Else-left-level).1 (roomy (goal.at.returns c).Else-left-level).0 last.ensures w.1 }
+    record { kept = kept_trans f.kept w.0; crowned = crown-done _ a.spare a.left last.result c.over-n.ensures full p.zero p.inner (roomy (goal.at.returns c).Else-left-level).1 (roomy (goal.at.returns c).Else-left-level).0 last.ensures w.1 }

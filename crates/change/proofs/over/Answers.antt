@@ -12,7 +12,7 @@ pub returns : goal.returns
 returns c =
     let p = c.empty-points.ensures in
     let i = c.empty-inserts.ensures in
-    let d = c.empty_keys-deletes.ensures in
+    let d = c.empty-deletes.ensures in
     record {
       level = refl;
       count = refl;

@@ -5,29 +5,28 @@ use native.Mathlib.Omega.{arith}
 use borrow.Author.Rules.{rules}
 use lib.ListN.{length}
 use lib.Seq.{length-take-le}
-use Rattle.spot.specs.Spots.{keys}
-use Rattle.buffer.specs.Buffer.{held}
 use Rattle.buffer.specs.Buffer.{below}
 use Rattle.buffer.proofs.Lists.{length-image}
 use Rattle.node.specs.Memory.{entries_of}
 use Rattle.choose.proofs.Chosen.{end-in, end-out}
+use Rattle.choose.proofs.end_of.Given.{Over}
 use Rattle.choose.proofs.end_of.Goals as goal
 use Rattle.choose.proofs.end_of.Goals.{Start}
 
-long : (c : Start) → length c.args.es.list ≡ 8
-long c = search (rules, length-image)
+long : (g : Over) (c : Start g) → length c.args.es.list ≡ 8
+long g c = search (rules, length-image)
 
-counted : (c : Start) → length (entries_of c.args.es) ≡ c.args.es.n
-counted c = length-take-le c.args.es.n c.args.es.list (omega (arith, long c, c.requires.0))
+counted : (g : Over) (c : Start g) → length (entries_of c.args.es) ≡ c.args.es.n
+counted g c = length-take-le c.args.es.n c.args.es.list (omega (arith, long g c, c.requires.0))
 
 pub returns-then-i-es : goal.returns-then-i-es
-returns-then-i-es c =
+returns-then-i-es g c =
     let b = c.args.b in
     c.position.ensures.0
-    ∙ ap (λ (k : ℕ). below k (keys (held b))) c.low_at-low.ensures
-    ∙ sym (end-in (entries_of c.args.es) (keys (held b)) b.n c.args.i (omega (arith, counted (goal.at.returns-then-i-es c).Start)))
+    ∙ ap (λ (k : ℕ). below k (g.B.Item.Element.keyed.named (g.B.Buffer.held b))) c.low_at.ensures
+    ∙ sym (end-in (entries_of c.args.es) (g.B.Item.Element.keyed.named (g.B.Buffer.held b)) (g.B.Buffer.count b) c.args.i (omega (arith, counted g (goal.at.returns-then-i-es g c).Start)))
 
 pub returns : goal.returns
-returns c =
+returns g c =
     let b = c.args.b in
-    sym (end-out (entries_of c.args.es) (keys (held b)) b.n c.args.i (omega (arith, counted (goal.at.returns c).Start)))
+    c.as_slice.ensures.1 ∙ sym (end-out (entries_of c.args.es) (g.B.Item.Element.keyed.named (g.B.Buffer.held b)) (g.B.Buffer.count b) c.args.i (omega (arith, counted g (goal.at.returns g c).Start)))

@@ -2,9 +2,8 @@
 use mathlib.Core.Path.{◌≡◌, subst, ◌∙◌}
 use mir.Syntax.{w32}
 use mir.ValLaws.{to_z-of_z}
-use Prim.Native.Nat.{ℕ, ◌-◌, ◌*◌, ◌≤◌}
+use Prim.Native.Nat.{ℕ, ◌*◌}
 use native.Mathlib.Omega.{arith}
-use borrow.Author.Rules.{rules}
 use Rattle.sort.proofs.Limits.{limits-at}
 use Rattle.text.specs.Written.{Wrote}
 use Rattle.commands.specs.Printed.{lines_of}
@@ -18,10 +17,6 @@ pub read_spot-s-requires : goal.read_spot-s-requires
 read_spot-s-requires c =
     (omega arith, limits-at c.args.output.now c.args.n c.requires.1 c.loop-i.i c.loop-i-test.true)
 
-pub write_spot_line-end-requires : goal.write_spot_line-end-requires
-write_spot_line-end-requires c =
-    omega (arith, c.loop-i.invariant.1.near, c.loop-i.invariant.1.sized, c.requires.2)
-
 pub loop-i-preserved : goal.loop-i-preserved
 loop-i-preserved c =
     let spot = c.read_spot-s in
@@ -34,9 +29,6 @@ loop-i-preserved c =
           (to_z-of_z w32 rank.result (record { sfits = rank.type_inv }) ∙ rank.ensures)
           spot.ensures.0,
     )
-
-pub shape_of-out : goal.shape_of-out
-shape_of-out c = c.loop-i.invariant.1.sized
 
 pub returns : goal.returns
 returns c =

@@ -1,5 +1,4 @@
 -- `commands::write_spots` meets its contract.
-use borrow.Author.Rules.{rules}
 use Rattle.commands.proofs.Lines.{all}
 use Rattle.commands.proofs.write_spots.Goals as goal
 

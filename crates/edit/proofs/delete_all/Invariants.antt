@@ -9,6 +9,3 @@ use Rattle.edit.proofs.delete_all.Given as goal
 abbrev pub invariant-loop-i : goal.invariant-loop-i
 invariant-loop-i l =
     (l.i ≤ l.batch.n) × Edited l.initial.next l.next (delete_all l.r (drop l.i (named l.batch)) (held_in l.initial.next)) l.initial.next.points.n l.initial.next.inserts.n (l.initial.next.deletes.n + (l.batch.n - l.i))
-
-abbrev pub decreases-loop-i : goal.decreases-loop-i
-decreases-loop-i l = l.i

@@ -9,9 +9,9 @@ use Rattle.edit.specs.Edits.{held_in}
 use Rattle.edit.proofs.Buffered.{key-gone, deleted-high, deleted-low}
 use Rattle.edit.proofs.delete_one.Goals as goal
 
-pub put_key-deletes-requires : goal.put_key-deletes-requires
-put_key-deletes-requires c =
-    let w = c.without_key-deletes in
+pub put-deletes-requires : goal.put-deletes-requires
+put-deletes-requires c =
+    let w = c.without-deletes in
     let k = c.args.k in
     (w.ensures.2, omega arith, ap (has k) w.ensures.1 ∙ key-gone k (named c.args.n.deletes))
 
@@ -19,8 +19,8 @@ pub returns-then-rank_key-r : goal.returns-then-rank_key-r
 returns-then-rank_key-r c =
     let p = c.without-points.ensures in
     let i = c.without-inserts.ensures in
-    let d = c.without_key-deletes.ensures in
-    let q = c.put_key-deletes.ensures in
+    let d = c.without-deletes.ensures in
+    let q = c.put-deletes.ensures in
     let h : rank_key c.args.k < c.args.r = omega arith in
     record {
       holds = deleted-low c.args.r c.args.k (held_in c.args.n) h p.1 i.1 d.1 q.1;
@@ -36,7 +36,7 @@ pub returns : goal.returns
 returns c =
     let p = c.without-points.ensures in
     let i = c.without-inserts.ensures in
-    let d = c.without_key-deletes.ensures in
+    let d = c.without-deletes.ensures in
     let h : c.args.r ≤ rank_key c.args.k = omega arith in
     record {
       holds = deleted-high c.args.r c.args.k (held_in c.args.n) h p.1 i.1 d.1;

@@ -22,7 +22,7 @@ pub returns-then-r-rank_key : goal.returns-then-r-rank_key
 returns-then-r-rank_key c =
     let p = c.without-points.ensures in
     let i = c.without-inserts.ensures in
-    let d = c.without_key-deletes.ensures in
+    let d = c.without-deletes.ensures in
     let q = c.put-points.ensures in
     let h : c.args.r ≤ rank_key c.args.s.key = omega arith in
     record {
@@ -45,7 +45,7 @@ pub returns : goal.returns
 returns c =
     let p = c.without-points.ensures in
     let i = c.without-inserts.ensures in
-    let d = c.without_key-deletes.ensures in
+    let d = c.without-deletes.ensures in
     let q = c.put-inserts.ensures in
     let h : rank_key c.args.s.key < c.args.r = omega arith in
     record {

@@ -57,7 +57,7 @@ pub loop-i-preserved-then-r-rank_key : goal.loop-i-preserved-then-r-rank_key
 loop-i-preserved-then-r-rank_key c =
     let l = c.loop-i in
     let g = l.invariant.1 in
-    let d = c.without_key-deletes in
+    let d = c.without-deletes in
     let i = c.without-inserts in
     let o = c.without-others in
     let h = c.put-high in
@@ -78,7 +78,7 @@ pub loop-i-preserved : goal.loop-i-preserved
 loop-i-preserved c =
     let l = c.loop-i in
     let g = l.invariant.1 in
-    let d = c.without_key-deletes in
+    let d = c.without-deletes in
     let p = c.without-points in
     let o = c.without-others-else-r-rank_key in
     let w = c.put-low in
@@ -116,8 +116,8 @@ offset_bounds-batch-i c = omega (arith, c.loop-i.invariant.0)
 pub bounds-batch-i : goal.bounds-batch-i
 bounds-batch-i c = omega (arith, c.loop-i.invariant.0)
 
-pub without_key-deletes-requires : goal.without_key-deletes-requires
-without_key-deletes-requires c = c.loop-i.invariant.1.deletes
+pub without-deletes-requires : goal.without-deletes-requires
+without-deletes-requires c = c.loop-i.invariant.1.deletes
 
 pub without-inserts-requires : goal.without-inserts-requires
 without-inserts-requires c = c.loop-i.invariant.1.low.old

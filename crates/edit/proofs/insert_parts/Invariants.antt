@@ -11,6 +11,3 @@ abbrev pub invariant-loop-i : goal.invariant-loop-i
 invariant-loop-i l =
     (l.i ≤ l.batch.n)
     × Gathered l.r l.initial.points l.initial.inserts l.initial.deletes (insert_all l.r (drop l.i (held l.batch)) (buffers (held l.initial.points) (held l.initial.inserts) (named l.initial.deletes))) (l.batch.n - l.i) l.points l.inserts l.deletes l.high l.low
-
-abbrev pub decreases-loop-i : goal.decreases-loop-i
-decreases-loop-i l = l.i

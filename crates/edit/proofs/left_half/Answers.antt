@@ -18,7 +18,7 @@ returns c =
     let e = c.entries_before-entries.ensures in
     let p = c.below_key-points.ensures in
     let i = c.below_key-inserts.ensures in
-    let d = c.keys_below-deletes.ensures in
+    let d = c.below_key-deletes.ensures in
     record {
       holds = same-held p.1 i.1 d.1;
       tidy = record { points = p.2; inserts = i.2; deletes = d.2 };

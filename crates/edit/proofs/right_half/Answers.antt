@@ -21,7 +21,7 @@ returns c =
     let e = c.replace-entries.ensures in
     let p = c.from_key-points.ensures in
     let i = c.from_key-inserts.ensures in
-    let d = c.keys_from-deletes.ensures in
+    let d = c.from_key-deletes.ensures in
     let k : c.args.k ≤ es.n = omega (arith, c.requires.1) in
     record {
       holds = same-held p.1 i.1 d.1;

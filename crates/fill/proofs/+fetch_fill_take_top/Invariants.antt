@@ -1,5 +1,5 @@
 -- fill, fetch and take_top meet their contracts: one induction, on the level.
-use Prim.Native.Nat.{◌≤◌, ◌+◌, ◌-◌, ◌*◌}
+use Prim.Native.Nat.{◌+◌, ◌*◌}
 use mathlib.Core.Path.{◌≡◌}
 use lib.ListN.{length}
 use Rattle.fill.proofs.Whole.{Filling}
@@ -14,8 +14,5 @@ decreases-fill l = 3 * l.level + 1
 abbrev pub decreases-take_top : goal.decreases-take_top
 decreases-take_top l = 3 * l.level + 2
 
-abbrev pub invariant-fill-loop-node : goal.invariant-fill-loop-node
-invariant-fill-loop-node l = Filling l.initial.t l.initial.s l.initial.map l.level l.initial.node l.t l.s l.map l.node × (l.rounds ≤ 128) × (length l.node.points.spots ≡ 80)
-
-abbrev pub decreases-fill-loop-node : goal.decreases-fill-loop-node
-decreases-fill-loop-node l = 128 - l.rounds
+abbrev pub invariant-fill-loop-round : goal.invariant-fill-loop-round
+invariant-fill-loop-round l = Filling l.initial.t l.initial.s l.initial.map l.level l.initial.node l.t l.s l.map l.node × (length l.node.points.spots ≡ 80)

@@ -7,7 +7,7 @@ use Rattle.fill.proofs.without_deletes.Goals as goal
 
 pub returns : goal.returns
 returns c =
-    let d = c.empty_keys-deletes.ensures in
+    let d = c.empty.ensures in
     record {
       holds = same-held refl refl d.1;
       tidy = record { points = c.requires.points; inserts = c.requires.inserts; deletes = record { fits = omega (arith, d.0); up = ap rising d.1 } };

@@ -6,7 +6,7 @@ use Rattle.fill.proofs.without_point.Goals as goal
 
 pub returns : goal.returns
 returns c =
-    let p = c.without-points.ensures in
+    let p = c.without.ensures in
     record {
       holds = same-held p.1 refl refl;
       tidy = record { points = p.2; inserts = c.requires.inserts; deletes = c.requires.deletes };

@@ -1,10 +1,9 @@
 -- `frontier::place_at` meets its contract. The measure is the slot: its parent's comes before it.
-use Rattle.frontier.proofs.Chains.{slot-first, child-inside, hangs-inside, hangs-lower, hangs-up, hangs-child, hangs-valid}
+use Rattle.frontier.proofs.Chains.{slot-first, child-inside, hangs-up, hangs-child, hangs-valid}
 use Rattle.frontier.specs.Frontier.{kid_count, slot_place, kid_place, parent_by, index_by, slot_by}
 use Rattle.frontier.specs.declared.Place.{Place}
 use Rattle.block.specs.NodeRules.{ValidBlock}
 use mathlib.Core.Path.{ap, sym, subst, ◌∙◌}
-use borrow.Author.Rules.{rules}
 use native.Mathlib.Omega.{arith}
 use Prim.Native.Nat.{ℕ, ◌≤◌, ◌<◌}
 use Rattle.frontier.proofs.+place_at.Goals as goal
@@ -14,28 +13,10 @@ use Rattle.frontier.proofs.+place_at.Goals.{After-row-1}
 some : (t : ℕ) (c : After-row-1 t) → 0 < c.args.i
 some t c = omega (arith, c.if-i-eq0.false)
 
-lower : (t : ℕ) (c : After-row-1 t) → let a = c.args in parent_by a.rows.now a.i < a.i
-lower t c = hangs-lower c.requires (some t c)
-
-pub root_place-requires : goal.root_place-requires
-root_place-requires t c = let h = c.requires in (h.chain.sized, h.chain.header)
-
 pub returns-then-i-eq0 : goal.returns-then-i-eq0
 returns-then-i-eq0 t c =
     let a = c.args in
     c.root_place.ensures ∙ ap slot_place (sym (ap (slot_by a.t.now a.rows.now) c.if-i-eq0.true ∙ slot-first a.t.now a.rows.now))
-
-pub offset_bounds-rows-i : goal.offset_bounds-rows-i
-offset_bounds-rows-i t c = omega (arith, hangs-inside c.requires)
-
-pub bounds-rows-i : goal.bounds-rows-i
-bounds-rows-i t c = hangs-inside c.requires
-
-pub overflow_cast-up : goal.overflow_cast-up
-overflow_cast-up t c = let h = c.requires in omega (arith, hangs-inside h, lower t (goal.at.overflow_cast-up t c).After-row-1)
-
-pub place_at-parent-requires : goal.place_at-parent-requires
-place_at-parent-requires t c = (omega (arith, lower t (goal.at.place_at-parent-requires t c).After-row-1, c.decreases), hangs-up c.requires (some t (goal.at.place_at-parent-requires t c).After-row-1))
 
 pub kid_place-requires : goal.kid_place-requires
 kid_place-requires t c =

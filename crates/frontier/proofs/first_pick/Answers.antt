@@ -5,9 +5,7 @@ use Rattle.spot.specs.Keys.{all_keys}
 use Rattle.block.specs.NodeRules.{ValidBlock}
 use Rattle.frontier.specs.Frontier.{slot_by}
 use Rattle.frontier.specs.Picks.{wanted_in, PickedUnder}
-use Rattle.frontier.proofs.Chains.{hangs-inside, hangs-block, hangs-valid}
-use borrow.Author.Rules.{rules}
-use native.Mathlib.Omega.{arith}
+use Rattle.frontier.proofs.Chains.{hangs-block, hangs-valid}
 use Rattle.frontier.proofs.first_pick.Goals as goal
 use Rattle.frontier.proofs.first_pick.Goals.{After-best_wanted-first}
 
@@ -18,22 +16,10 @@ wanted c =
     let a = c.args in
     subst (λ (b : ℕ). PickedUnder a.t.now b a.q all_keys (wanted_in a.t.now a.q b) c.best_wanted-first.result) (hangs-block c.requires) c.best_wanted-first.ensures
 
-pub offset_bounds-rows-i : goal.offset_bounds-rows-i
-offset_bounds-rows-i c = omega (arith, hangs-inside c.requires)
-
-pub bounds-rows-i : goal.bounds-rows-i
-bounds-rows-i c = hangs-inside c.requires
-
-pub overflow_cast-row : goal.overflow_cast-row
-overflow_cast-row c = let h = c.requires in omega (arith, hangs-block h, (hangs-valid h).inside)
-
 pub best_wanted-first-requires : goal.best_wanted-first-requires
 best_wanted-first-requires c =
     let h = c.requires in
     subst (λ (b : ℕ). ValidBlock c.args.t.now b) (sym (hangs-block h)) (hangs-valid h)
-
-pub unwaited-requires : goal.unwaited-requires
-unwaited-requires c = (c.requires, record { limit = all_keys; picked = wanted (goal.at.unwaited-requires c).After-best_wanted-first })
 
 pub returns : goal.returns
 returns c = c.unwaited.ensures.on all_keys (wanted (goal.at.returns c).After-best_wanted-first)

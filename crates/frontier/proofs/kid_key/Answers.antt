@@ -4,10 +4,8 @@ use Rattle.frontier.proofs.Spots.{part-sizes}
 use Rattle.frontier.specs.Frontier.{kid_count, kid_cell}
 use Rattle.block.specs.declared.Entry.{Entry}
 use Rattle.spot.specs.Keys.{rank_of}
-use borrow.Author.Tests.{not-true, not-false}
 use Prim.Native.Nat.{ℕ, ◌+◌, ◌-◌, ◌*◌, ◌/◌}
 use mathlib.Core.Path.{◌≡◌, ap, ◌∙◌}
-use borrow.Author.Rules.{rules}
 use native.Mathlib.Omega.{arith}
 use Rattle.frontier.proofs.kid_key.Goals as goal
 use Rattle.frontier.proofs.kid_key.Goals.{After-front_of-c}

@@ -14,7 +14,6 @@ use Prim.Native.Nat.{ℕ}
 use mathlib.Core.Bool.{cond}
 use mathlib.Core.List.{List}
 use mathlib.Core.Path.{◌≡◌, sym, ap, ap₂, subst, ◌∙◌}
-use borrow.Author.Rules.{rules}
 use native.Mathlib.Omega.{arith}
 use Rattle.frontier.proofs.kid_of.Goals as goal
 use Rattle.frontier.proofs.kid_of.Goals.{After-front_of-c, Start}

@@ -3,7 +3,6 @@ use Rattle.visit.specs.declared.Span.{Span}
 use Rattle.block.specs.declared.Entry.{Entry}
 use Prim.Native.Nat.{◌-◌}
 use mathlib.Core.Path.{ap₂}
-use borrow.Author.Rules.{rules}
 use Rattle.frontier.proofs.kid_place.Goals as goal
 
 pub returns : goal.returns

@@ -2,10 +2,8 @@
 use native.Mathlib.Omega.{arith}
 use mathlib.Core.Path.{◌≡◌, subst}
 use Prim.Native.Nat.{ℕ, ◌+◌, ◌-◌, ◌*◌, ◌<◌}
-use borrow.Author.Rules.{rules}
 use Rattle.spot.proofs.Limits.{limited-each}
 use Rattle.visit.proofs.Search.{Reads}
-use Rattle.frontier.proofs.Fews.{one-first}
 use Rattle.frontier.proofs.low_end.Goals as goal
 use Rattle.frontier.proofs.low_end.Goals.{Start}
 
@@ -25,6 +23,3 @@ read_key-last-requires c = reads (goal.at.read_key-last-requires c).Start (c.arg
 pub returns-then-top_key : goal.returns-then-top_key
 returns-then-top_key c =
     record { index = c.args.n - 1; inside = omega (arith, c.requires.0); is = c.read_key-last.ensures.0 }
-
-pub returns : goal.returns
-returns c = one-first c.requires.0 c.read_key-first.ensures.0

@@ -4,8 +4,7 @@ use Prim.Native.Nat.{ℕ, ◌+◌, ◌-◌}
 use Rattle.spot.specs.Keys.{top_key}
 use Rattle.spot.specs.declared.Spot.{Spot}
 use Rattle.frontier.specs.Picks.{wanted_in, PickedUnder}
-use Rattle.frontier.proofs.Ladders.{Leading, ladder-leads, leading-picked, picked_none}
-use borrow.Author.Rules.{rules}
+use Rattle.frontier.proofs.Ladders.{Leading, ladder-leads, leading-picked}
 use native.Mathlib.Omega.{arith}
 use Rattle.frontier.proofs.next_wanted.Goals as goal
 use Rattle.frontier.proofs.next_wanted.Goals.{Then-more-ne1}
@@ -20,9 +19,6 @@ spot_by-s-requires c = (c.requires.0, (leading (goal.at.spot_by-s-requires c).Th
 pub returns-then-more-ne1 : goal.returns-then-more-ne1
 returns-then-more-ne1 c =
     leading-picked (leading (goal.at.returns-then-more-ne1 c).Then-more-ne1) refl (c.top_key.ensures ∙ ap (λ (s : Spot). top_key s.key) c.spot_by-s.ensures) refl refl
-
-pub returns-then-r-eq0 : goal.returns-then-r-eq0
-returns-then-r-eq0 c = picked_none c.if-r-eq0.true refl
 
 pub returns : goal.returns
 returns c =

@@ -3,7 +3,7 @@ use mathlib.Core.Path.{refl, sym}
 use Prim.Native.Nat.{◌-◌, ◌<◌}
 use borrow.Author.Tests.{le-ltb, lt-ltb}
 use Rattle.frontier.specs.Picks.{few_at}
-use Rattle.frontier.proofs.Ladders.{Packs, pack-first, pack-small, pack-next, pack-end}
+use Rattle.frontier.proofs.Ladders.{pack-small, pack-next, pack-end}
 use native.Mathlib.Omega.{arith}
 use Rattle.frontier.proofs.pick_of.Goals as goal
 use Rattle.frontier.proofs.pick_of.Goals.{After-row-1}
@@ -28,9 +28,6 @@ returns-then-n-eq0 c =
       at = λ y. let z : ⊥ = omega arith in absurd z;
       more = λ y. let z : ⊥ = omega arith in absurd z;
     }
-
-pub loop-i-init : goal.loop-i-init
-loop-i-init c = let a = c.args in pack-first a.few.now a.n (omega (arith, c.if-n-eq0.false))
 
 pub overflow_mul-more : goal.overflow_mul-more
 overflow_mul-more c = let b = small (goal.at.overflow_mul-more c).After-row-1 in omega (arith, b)

@@ -1,7 +1,7 @@
 -- `frontier::root_place` meets its contract.
 use Rattle.visit.proofs.Roots.{sized-long, levels-some}
+use Rattle.std.specs.Prelude.{None}
 use Prim.Native.Nat.{ℕ, ◌-◌}
-use mathlib.Core.Bool.{true}
 use mathlib.Core.Path.{ap₂}
 use native.Mathlib.Omega.{arith}
 use Rattle.frontier.proofs.root_place.Goals as goal
@@ -19,4 +19,4 @@ overflow_sub-level c =
 
 pub returns : goal.returns
 returns c =
-    ap₂ (λ (b l : ℕ). record { block = b; level = l - 1; span = record { lo = 0; hi = 0; endless = true } }) c.root_of-block.ensures.0 c.levels_of-level.ensures.0
+    ap₂ (λ (b l : ℕ). record { block = b; level = l - 1; span = record { lo = 0; hi = None } }) c.root_of-block.ensures.0 c.levels_of-level.ensures.0

@@ -1,22 +1,15 @@
 -- `frontier::run_few` meets its contract: the best of those seen so far.
 use mathlib.Core.Logic.{⊎_elim}
-use mathlib.Core.Path.{◌≡◌, refl, sym, subst, ◌∙◌}
-use Prim.Native.Nat.{ℕ, ◌-◌, ◌≤◌, ◌<◌}
+use mathlib.Core.Path.{◌≡◌, sym, subst, ◌∙◌}
+use Prim.Native.Nat.{ℕ, ◌≤◌, ◌<◌}
 use lib.ListN.{length}
 use Rattle.spot.proofs.Limits.{limited-each}
 use Rattle.frontier.specs.Picks.{Few}
-use Rattle.frontier.proofs.Fews.{Passed, passed-skip, passed-taken}
+use Rattle.frontier.proofs.Fews.{passed-skip, passed-taken}
 use Rattle.octets.proofs.Order.{less-or-not}
-use borrow.Author.Rules.{rules}
 use native.Mathlib.Omega.{arith}
 use Rattle.frontier.proofs.run_few.Goals as goal
 use Rattle.frontier.proofs.run_few.Goals.{then-is_taken, else-is_taken}
-
-pub floor_few-floor-requires : goal.floor_few-floor-requires
-floor_few-floor-requires c = let p = c.requires in (p.0, p.6.room)
-
-pub loop-i-init : goal.loop-i-init
-loop-i-init c = let p = c.requires in (p.1, record { long = refl; floor-is = c.floor_few-floor.ensures; best = p.6 })
 
 pub read_key-k-requires : goal.read_key-k-requires
 read_key-k-requires c =
@@ -46,9 +39,6 @@ loop-i-preserved c =
         | else-is_taken w ↦ passed-skip l.invariant.1 c.read_key-k.ensures.0 (sym c.is_taken.ensures ∙ w.if-is_taken.false) w.few-is w.n-is w.floor-is
       ],
     )
-
-pub shape_of-few : goal.shape_of-few
-shape_of-few c = c.loop-i.invariant.1.long
 
 pub returns : goal.returns
 returns c =

@@ -6,7 +6,6 @@ use Rattle.spot.specs.Spots.{key_at, spot_at}
 use lib.ListN.{length}
 use Prim.Native.Nat.{ℕ, ◌+◌, ◌*◌, ◌≤◌}
 use mathlib.Core.Path.{◌≡◌, sym, ap, ◌∙◌}
-use borrow.Author.Rules.{rules}
 use native.Mathlib.Omega.{arith}
 use Rattle.frontier.proofs.spot_by.Goals as goal
 use Rattle.frontier.proofs.spot_by.Goals.{After-front_of-h, After-points_from}

@@ -1,13 +1,12 @@
 -- `frontier::waits_above` meets its contract: from parent to parent.
-use Rattle.frontier.proofs.Chains.{hangs-inside, hangs-block, hangs-lower, hangs-up, hangs-valid}
+use Rattle.frontier.proofs.Chains.{hangs-block, hangs-lower, hangs-up, hangs-valid}
 use Rattle.frontier.proofs.Waits.{over_root, over_yes, over_no}
 use Rattle.frontier.specs.Frontier.{parent_by, slot_by, Hangs}
 use Rattle.visit.specs.Visit.{waiting_above}
 use Rattle.block.specs.NodeRules.{ValidBlock}
 use Rattle.octets.specs.Lists.{has}
 use Prim.Native.Nat.{ℕ}
-use mathlib.Core.Path.{◌≡◌, refl, ap, sym, subst, ◌∙◌}
-use borrow.Author.Rules.{rules}
+use mathlib.Core.Path.{◌≡◌, ap, sym, subst, ◌∙◌}
 use native.Mathlib.Omega.{arith}
 use Rattle.frontier.proofs.waits_above.Goals as goal
 use Rattle.frontier.proofs.waits_above.Goals.{After-row-1}
@@ -15,27 +14,6 @@ use Rattle.frontier.proofs.waits_above.Goals.{After-row-1}
 -- the parent is a slot
 up : (c : After-row-1) → let a = c.args in Hangs a.t.now a.rows.now (parent_by a.rows.now c.loop-j.j)
 up c = hangs-up c.loop-j.invariant.0 c.loop-j-test.true
-
-pub loop-j-init : goal.loop-j-init
-loop-j-init c = (c.requires, refl)
-
-pub offset_bounds-rows-j : goal.offset_bounds-rows-j
-offset_bounds-rows-j c = omega (arith, hangs-inside c.loop-j.invariant.0)
-
-pub bounds-rows-j : goal.bounds-rows-j
-bounds-rows-j c = hangs-inside c.loop-j.invariant.0
-
-pub overflow_cast-j : goal.overflow_cast-j
-overflow_cast-j c = let h = c.loop-j.invariant.0 in omega (arith, hangs-inside h, hangs-lower h c.loop-j-test.true)
-
-pub offset_bounds-rows-j-in-loop-j : goal.offset_bounds-rows-j-in-loop-j
-offset_bounds-rows-j-in-loop-j c = omega (arith, hangs-inside (up (goal.at.offset_bounds-rows-j-in-loop-j c).After-row-1))
-
-pub bounds-rows-j-in-loop-j : goal.bounds-rows-j-in-loop-j
-bounds-rows-j-in-loop-j c = hangs-inside (up (goal.at.bounds-rows-j-in-loop-j c).After-row-1)
-
-pub overflow_cast-above : goal.overflow_cast-above
-overflow_cast-above c = let h = up (goal.at.overflow_cast-above c).After-row-1 in omega (arith, hangs-block h, (hangs-valid h).inside)
 
 pub waits_in-requires : goal.waits_in-requires
 waits_in-requires c =

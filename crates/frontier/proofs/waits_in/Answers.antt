@@ -3,7 +3,6 @@ use Rattle.frontier.proofs.Spots.{part-sizes}
 use Rattle.frontier.proofs.Waits.{waits-first, waits-second}
 use Rattle.visit.proofs.Runs.{Runs, inserts-ready, deletes-ready}
 use mathlib.Core.Path.{sym, ◌∙◌}
-use borrow.Author.Rules.{rules}
 use native.Mathlib.Omega.{arith}
 use Rattle.frontier.proofs.waits_in.Goals as goal
 use Rattle.frontier.proofs.waits_in.Goals.{After-front_of-h}

@@ -1,16 +1,14 @@
 -- `lookup::look_in` meets its contract. The measure is the level. The invariant: the children before the i-th don't hold the key.
 use mathlib.Core.Bool.{true}
 use mathlib.Core.Path.{◌≡◌, sym, ap, ◌∙◌}
-use Prim.Native.Nat.{ℕ, ◌-◌, ◌≤◌, ◌<◌}
+use Prim.Native.Nat.{ℕ}
 use native.Mathlib.Omega.{arith}
-use borrow.Author.Rules.{rules}
-use borrow.Author.Tests.{not-true, not-false}
 use Rattle.block.specs.NodeRules.{node_ok}
 use Rattle.block.specs.declared.Front.{Front}
 use Rattle.block.specs.Access.{front_of}
 use Rattle.block.specs.Node.{store_of}
-use Rattle.visit.proofs.Children.{lent, lent-valid, few-children}
-use Rattle.lookup.proofs.Steps.{Going, going_start, broken-node, named_live, named-gone, no-child, Kid, kid-level, kid-asks, kid-next, kid-says}
+use Rattle.visit.proofs.Children.{lent, lent-valid}
+use Rattle.lookup.proofs.Steps.{broken-node, named_live, named-gone, no-child, Kid, kid-level, kid-asks, kid-next, kid-says}
 use Rattle.lookup.proofs.+look_in.Goals as goal
 use Rattle.lookup.proofs.+look_in.Goals.{After-child_span-part, After-front_of-c}
 
@@ -47,31 +45,25 @@ returns-then-not-block_ok t c =
     let a = c.args in
     broken-node a.t.now a.b a.level a.asked a.span a.k (sym c.block_ok.ensures ∙ c.if-not-block_ok.true)
 
-pub node_says-w-requires : goal.node_says-w-requires
-node_says-w-requires t c =
+pub node_says-requires : goal.node_says-requires
+node_says-requires t c =
     let a = c.args in
     record { level = a.level; asked = a.asked; ok = sym c.block_ok.ensures ∙ c.if-not-block_ok.false; inside = omega (arith, c.requires.inside) }
 
-pub returns-then-w : goal.returns-then-w
-returns-then-w t c =
+pub returns-in-Live : goal.returns-in-Live
+returns-in-Live t c =
     let a = c.args in
-    named_live a.t.now a.b a.level a.asked a.span a.k (sym c.block_ok.ensures ∙ c.if-not-block_ok.false) c.node_says-w.ensures c.if-w.true
+    named_live a.t.now a.b a.level a.asked a.span a.k (sym c.block_ok.ensures ∙ c.if-not-block_ok.false) c.in-Live.ensures
 
-pub returns-then-w-2 : goal.returns-then-w-2
-returns-then-w-2 t c =
+pub returns-in-Gone : goal.returns-in-Gone
+returns-in-Gone t c =
     let a = c.args in
-    named-gone a.t.now a.b a.level a.asked a.span a.k (sym c.block_ok.ensures ∙ c.if-not-block_ok.false) c.node_says-w.ensures c.if-w.false c.if-w-2.true
-
-pub loop-i-init : goal.loop-i-init
-loop-i-init t c = (omega arith, going_start _ _ _ _ _)
+    named-gone a.t.now a.b a.level a.asked a.span a.k (sym c.block_ok.ensures ∙ c.if-not-block_ok.false) c.in-Gone.ensures
 
 pub entry_at-e-requires : goal.entry_at-e-requires
 entry_at-e-requires t c =
     let a = c.args in
     (lent-valid a.t.now a.b a.level a.asked (node t (goal.at.entry_at-e-requires t c).After-front_of-c) c.requires.inside, omega (arith, count t (goal.at.entry_at-e-requires t c).After-front_of-c, c.loop-i-test.true))
-
-pub slice_bounds-child_span-end : goal.slice_bounds-child_span-end
-slice_bounds-child_span-end t c = omega (arith, c.requires.inside)
 
 pub child_span-part-requires : goal.child_span-part-requires
 unfolding front_of
@@ -90,20 +82,12 @@ look_in-requires t c = (omega (arith, kid-level (kid t (goal.at.look_in-requires
 
 pub returns-then-holds : goal.returns-then-holds
 returns-then-holds t c =
-    kid-says (kid t ((goal.at.returns-then-holds t c).After-child_span-part)) c.node_says-w.ensures c.if-w.false c.if-w-2.false (sym c.holds.ensures ∙ c.if-holds.true) c.look_in.ensures
-
-pub overflow_add-i : goal.overflow_add-i
-overflow_add-i t c =
-    let a = c.args in
-    omega (arith, few-children a.t.now a.b a.level a.asked (node t (goal.at.overflow_add-i t c).After-front_of-c), count t (goal.at.overflow_add-i t c).After-front_of-c, c.loop-i-test.true)
-
-pub loop-i-smaller : goal.loop-i-smaller
-loop-i-smaller t c = omega (arith, c.loop-i-test.true)
+    kid-says (kid t ((goal.at.returns-then-holds t c).After-child_span-part)) c.in-Silent.ensures (sym c.holds.ensures ∙ c.if-holds.true) c.look_in.ensures
 
 pub loop-i-preserved : goal.loop-i-preserved
-loop-i-preserved t c = (omega (arith, c.loop-i-test.true), kid-next (kid t (goal.at.loop-i-preserved t c).After-child_span-part) (sym c.holds.ensures ∙ c.if-holds.false))
+loop-i-preserved t c = (omega (arith, c.loop-i-test.true), rw c.unwrap_or-lo.ensures (kid-next (kid t (goal.at.loop-i-preserved t c).After-child_span-part) (sym c.holds.ensures ∙ c.if-holds.false)))
 
 pub returns : goal.returns
 returns t c =
     let a = c.args in
-    no-child a.t.now a.b a.level a.asked a.span a.k (node t (goal.at.returns t c).After-front_of-c) c.node_says-w.ensures c.if-w.false c.if-w-2.false c.loop-i.invariant.1 (omega (arith, count t (goal.at.returns t c).After-front_of-c, c.loop-i-test.false))
+    no-child a.t.now a.b a.level a.asked a.span a.k (node t (goal.at.returns t c).After-front_of-c) c.in-Silent.ensures c.loop-i.invariant.1 (omega (arith, count t (goal.at.returns t c).After-front_of-c, c.loop-i-test.false))

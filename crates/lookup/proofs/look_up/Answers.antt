@@ -1,6 +1,5 @@
 -- `lookup::look_up` meets its contract: block 0, then the lookup from the root.
 use mathlib.Core.Path.{sym, ◌∙◌}
-use borrow.Author.Rules.{rules}
 use Rattle.tree.proofs.Sources.{header-few}
 use Rattle.visit.proofs.Roots.{sized-long, root-low, levels-some, levels-few, levels-are, root-part}
 use Rattle.lookup.proofs.Steps.{no_header, from-root}

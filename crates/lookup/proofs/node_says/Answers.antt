@@ -1,12 +1,11 @@
 -- `lookup::node_says` meets its contract: P, then I, then D, each a run in the table.
-use borrow.Author.Rules.{rules}
 use native.Mathlib.Omega.{arith}
 use mathlib.Core.Path.{ap, ◌∙◌}
 use Rattle.block.specs.Node.{store_of}
 use Rattle.block.specs.Access.{front_of}
 use Rattle.block.proofs.Frames.{part-is}
 use Rattle.visit.proofs.Runs.{Runs, runs_of, points-ready, inserts-ready, deletes-ready}
-use Rattle.lookup.proofs.Finds.{points-find, inserts-find, deletes-has, word-point, word-change}
+use Rattle.lookup.proofs.Finds.{points-find, inserts-find, deletes-has, word-point, word-insert, word-change}
 use Rattle.lookup.proofs.node_says.Goals as goal
 use Rattle.lookup.proofs.node_says.Goals.{After-front_of-h}
 
@@ -25,40 +24,52 @@ inserts_from-requires c = omega (arith, (runs (goal.at.inserts_from-requires c).
 pub deletes_from-requires : goal.deletes_from-requires
 deletes_from-requires c = omega (arith, (runs (goal.at.deletes_from-requires c).After-front_of-h).used)
 
-pub find_run-p-requires : goal.find_run-p-requires
-find_run-p-requires c =
-    points-ready c.args.t.now c.args.b c.front_of-h.result (runs (goal.at.find_run-p-requires c).After-front_of-h) c.requires.inside c.points_from.ensures
+pub find_run-requires : goal.find_run-requires
+find_run-requires c =
+    points-ready c.args.t.now c.args.b c.front_of-h.result (runs (goal.at.find_run-requires c).After-front_of-h) c.requires.inside c.points_from.ensures
 
-pub returns-then-p : goal.returns-then-p
-returns-then-p c =
+pub returns-in-Some : goal.returns-in-Some
+returns-in-Some c =
     let t = c.args.t.now in
-    let r = runs (goal.at.returns-then-p c).After-front_of-h in
-    record {
-      word = λ below. word-point (store_of t c.args.b) c.args.k c.find_run-p.result
-          (points-find t c.args.b c.front_of-h.result r c.args.k c.points_from.ensures c.find_run-p.ensures)
-          below
-          c.if-p.true;
-    }
+    let r = runs (goal.at.returns-in-Some c).After-front_of-h in
+    record { word = λ below. word-point (store_of t c.args.b) c.args.k below (points-find t c.args.b c.front_of-h.result r c.args.k c.points_from.ensures c.in-Some.ensures) }
 
-pub find_run-s-requires : goal.find_run-s-requires
-find_run-s-requires c =
-    inserts-ready c.args.t.now c.args.b c.front_of-h.result (runs (goal.at.find_run-s-requires c).After-front_of-h) c.requires.inside c.inserts_from.ensures
+pub find_run-requires-2 : goal.find_run-requires-2
+find_run-requires-2 c =
+    inserts-ready c.args.t.now c.args.b c.front_of-h.result (runs (goal.at.find_run-requires-2 c).After-front_of-h) c.requires.inside c.inserts_from.ensures
 
 pub has_key-requires : goal.has_key-requires
 has_key-requires c =
     deletes-ready c.args.t.now c.args.b c.front_of-h.result (runs (goal.at.has_key-requires c).After-front_of-h) c.requires.inside c.deletes_from.ensures
+
+pub returns-in-Some-find_run : goal.returns-in-Some-find_run
+returns-in-Some-find_run c =
+    let t = c.args.t.now in
+    let r = runs (goal.at.returns-in-Some-find_run c).After-front_of-h in
+    record {
+      word = λ below. word-insert (store_of t c.args.b) c.args.k below
+          (points-find t c.args.b c.front_of-h.result r c.args.k c.points_from.ensures c.in_default.ensures)
+          (inserts-find t c.args.b c.front_of-h.result r c.args.k c.inserts_from.ensures c.in-Some-find_run.ensures);
+    }
+
+pub returns-then-has_key : goal.returns-then-has_key
+returns-then-has_key c =
+    let t = c.args.t.now in
+    let r = runs (goal.at.returns-then-has_key c).After-front_of-h in
+    record {
+      word = λ below. word-change (store_of t c.args.b) c.args.k below
+          (points-find t c.args.b c.front_of-h.result r c.args.k c.points_from.ensures c.in_default.ensures)
+          (inserts-find t c.args.b c.front_of-h.result r c.args.k c.inserts_from.ensures c.in_default-find_run.ensures)
+          (deletes-has t c.args.b c.front_of-h.result r c.args.k c.deletes_from.ensures c.if-has_key.ensures);
+    }
 
 pub returns : goal.returns
 returns c =
     let t = c.args.t.now in
     let r = runs (goal.at.returns c).After-front_of-h in
     record {
-      word = λ below. word-change (store_of t c.args.b) c.args.k c.find_run-p.result
-          (points-find t c.args.b c.front_of-h.result r c.args.k c.points_from.ensures c.find_run-p.ensures)
-          below
-          c.if-p.false
-          c.find_run-s.result
-          c.has_key.result
-          (inserts-find t c.args.b c.front_of-h.result r c.args.k c.inserts_from.ensures c.find_run-s.ensures)
-          (deletes-has t c.args.b c.front_of-h.result r c.args.k c.deletes_from.ensures c.has_key.ensures);
+      word = λ below. word-change (store_of t c.args.b) c.args.k below
+          (points-find t c.args.b c.front_of-h.result r c.args.k c.points_from.ensures c.in_default.ensures)
+          (inserts-find t c.args.b c.front_of-h.result r c.args.k c.inserts_from.ensures c.in_default-find_run.ensures)
+          (deletes-has t c.args.b c.front_of-h.result r c.args.k c.deletes_from.ensures c.if-has_key.ensures);
     }

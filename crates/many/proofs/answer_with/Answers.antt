@@ -1,18 +1,16 @@
 -- `many::answer_with` meets its contract: all are counted, then written; their counts and the map of the blocks seen are handed out.
-use mathlib.Core.Path.{◌≡◌, refl, sym, ◌∙◌}
-use mathlib.Core.Bool.{true}
+use mathlib.Core.Path.{refl, sym, ◌∙◌}
 use Prim.Native.Nat.{ℕ}
 use lib.ListN.{length-replicate}
-use borrow.Author.Tests.{not-true, not-false}
-use borrow.Author.Rules.{rules}
+use borrow.Author.Tests.{not-true}
 use native.Mathlib.Omega.{arith}
 use Rattle.table.proofs.Answering.{map_is}
 use Rattle.table.proofs.Topping.{map-none}
 use Rattle.many.proofs.Answering.{all-broken, all-many, all-given}
 use Rattle.many.proofs.answer_with.Goals as goal
 
-pub count_all-all-requires : goal.count_all-all-requires
-count_all-all-requires c =
+pub count_all-requires : goal.count_all-requires
+count_all-requires c =
     let pre = c.requires.0 in (
       record {
         sized = pre.sized;
@@ -25,40 +23,31 @@ count_all-all-requires c =
       c.requires.2,
     )
 
-pub returns-then-not-all : goal.returns-then-not-all
-returns-then-not-all c =
-    all-broken _ _ _ _ _ c.count_all-all.ensures _ (not-true _ c.if-not-all.true) c.refused.ensures
+pub returns-in_default : goal.returns-in_default
+returns-in_default c = all-broken _ _ _ _ _ _ c.in_default.ensures refl
 
-pub returns-then-output-all : goal.returns-then-output-all
-returns-then-output-all c =
-    all-many _ _ _ _ _ c.count_all-all.ensures _ (not-false _ c.if-not-all.false) (omega (arith, c.if-output-all.true)) refl
+pub returns-then-output-spots : goal.returns-then-output-spots
+returns-then-output-spots c = all-many _ _ _ _ _ _ c.in-Some.ensures (omega (arith, c.if-output-spots.true)) refl
 
 pub give_all-requires : goal.give_all-requires
 give_all-requires c =
     let pre = c.requires.0 in
-    let ok : c.count_all-all.result.ok ≡ true = (not-false _ c.if-not-all.false) in
-    let counted = c.count_all-all.ensures in
+    let counted = c.in-Some.ensures in
     record {
       sized = pre.sized;
       many = pre.many;
-      whole = not-true _ (sym counted.ok ∙ ok);
-      counts = counted.counts ok;
-      buffer = omega (arith, pre.buffer, c.count_all-all.auto.few);
-      held = counted.held ok;
-      room = omega (arith, c.if-output-all.false, counted.spots ok);
+      whole = not-true _ (sym counted.told);
+      counts = counted.counts;
+      buffer = omega (arith, pre.buffer, c.count_all.auto.few);
+      held = counted.held;
+      room = omega (arith, c.if-output-spots.false, counted.spots);
     }
-
-pub copy_counts-requires : goal.copy_counts-requires
-copy_counts-requires c =
-    let pre = c.requires in
-    omega (arith, pre.0.matched, pre.1, c.count_all-all.auto.each)
 
 pub copy-requires : goal.copy-requires
 copy-requires c =
-    (omega (arith, c.count_all-all.auto.seen, c.set_bit.auto.map, length-replicate {A = ℕ} 512 0), omega (arith, c.requires.0.mapped))
+    (omega (arith, c.count_all.auto.seen, c.set_bit.auto.map, length-replicate {A = ℕ} 512 0), omega (arith, c.requires.0.mapped))
 
 pub returns : goal.returns
 returns c =
-    all-given _ _ _ _ _ c.count_all-all.ensures _ (not-false _ c.if-not-all.false) (omega (arith, c.if-output-all.false)) refl c.give_all.ensures c.requires.0.matched
-    c.copy_counts.ensures
-    (map_is _ c.args.read_map.now _ (c.count_all-all.auto.seen ∙ c.set_bit.auto.map ∙ length-replicate {A = ℕ} 512 0) c.requires.0.mapped c.copy.ensures)
+    all-given _ _ _ _ _ _ c.in-Some.ensures (omega (arith, c.if-output-spots.false)) refl c.give_all.ensures c.copy_from_slice.ensures.after
+    (map_is _ c.args.read_map.now _ (c.count_all.auto.seen ∙ c.set_bit.auto.map ∙ length-replicate {A = ℕ} 512 0) c.requires.0.mapped c.copy.ensures)

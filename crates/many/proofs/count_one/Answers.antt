@@ -2,7 +2,6 @@
 use mathlib.Core.Path.{refl}
 use mir.Syntax.{w32}
 use mir.ValLaws.{to_z-of_z}
-use borrow.Author.Rules.{rules}
 use Rattle.query.proofs.Whole.{counted-as}
 use Rattle.query.proofs.Gathered.{held-as}
 use Rattle.report.proofs.Reporting.{query-same}

@@ -7,7 +7,7 @@ use mir.ValLaws.{to_z-of_z}
 use borrow.Author.Rules.{rules}
 use native.Mathlib.Omega.{arith}
 use Rattle.buffer.proofs.Lists.{length-image}
-use Rattle.many.proofs.Giving.{Giving, giving-start, giving-next, giving-all, givable, numbered, room}
+use Rattle.many.proofs.Giving.{giving-start, giving-next, giving-all, givable, numbered, room}
 use Rattle.many.proofs.give_all.Goals as goal
 use Rattle.many.proofs.give_all.Goals.{In-loop-i, Start}
 
@@ -91,12 +91,6 @@ slice_bounds-give-count-in-loop-i c = omega (arith, within (goal.at.slice_bounds
 
 pub slice_bounds-give-start-in-loop-i : goal.slice_bounds-give-start-in-loop-i
 slice_bounds-give-start-in-loop-i c = omega (arith, within (goal.at.slice_bounds-give-start-in-loop-i c).In-loop-i)
-
-pub overflow_add-i : goal.overflow_add-i
-overflow_add-i c = omega (arith, within (goal.at.overflow_add-i c).In-loop-i)
-
-pub loop-i-smaller : goal.loop-i-smaller
-loop-i-smaller c = omega (arith, within (goal.at.loop-i-smaller c).In-loop-i)
 
 pub shape_of-output : goal.shape_of-output
 shape_of-output c = c.loop-i.invariant.sized

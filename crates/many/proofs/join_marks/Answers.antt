@@ -1,7 +1,6 @@
 -- `many::join_marks` meets its contract: the first i bytes are joined.
-use Prim.Native.Nat.{◌-◌}
 use native.Mathlib.Omega.{arith}
-use Rattle.many.proofs.Unions.{Joining, joining-start, joining-next, joining-all}
+use Rattle.many.proofs.Unions.{joining-start, joining-next, joining-all}
 use Rattle.many.proofs.join_marks.Goals as goal
 
 pub loop-i-init : goal.loop-i-init

@@ -1,11 +1,9 @@
 -- `many::report_batch` meets its contract: refused by lengths and arguments, by block 0, or answered.
-use mathlib.Core.Path.{◌≡◌, sym, ◌∙◌}
+use mathlib.Core.Path.{◌≡◌, refl, sym, ◌∙◌}
 use mathlib.Core.Bool.{true}
 use mathlib.Core.List.{List}
 use Prim.Native.Nat.{ℕ, ◌*◌, ◌≤◌}
 use lib.ListN.{length, length-replicate}
-use borrow.Author.Tests.{not-true, not-false}
-use borrow.Author.Rules.{rules}
 use native.Mathlib.Omega.{arith}
 use Rattle.block.specs.Table.{table_sized}
 use Rattle.visit.proofs.Roots.{sized-long}
@@ -16,11 +14,11 @@ use Rattle.many.proofs.report_batch.Goals as goal
 use Rattle.many.proofs.report_batch.Goals.{Else-not-header_ok, Else-read_map-counts}
 
 pub returns-then-not-sized : goal.returns-then-not-sized
-returns-then-not-sized c = many-short _ _ _ _ _ _ (sym c.sized.ensures ∙ c.if-not-sized.true) c.refused.ensures
+returns-then-not-sized c = many-short _ _ _ _ _ _ (sym c.sized.ensures ∙ c.if-not-sized.true) refl
 
 pub returns-then-read_map-counts : goal.returns-then-read_map-counts
 returns-then-read_map-counts c =
-    many-lent _ _ _ _ _ _ (sym c.sized.ensures ∙ c.if-not-sized.false) c.if-read_map-counts.true c.refused-then-read_map-counts.ensures
+    many-lent _ _ _ _ _ _ (sym c.sized.ensures ∙ c.if-not-sized.false) c.if-read_map-counts.true refl
 
 -- what is known once the lengths are right
 record Fitting (c : Else-read_map-counts) : Type 0 where
@@ -37,7 +35,7 @@ fitting c =
 pub returns-then-b-gt64 : goal.returns-then-b-gt64
 returns-then-b-gt64 c =
     let k = fitting (goal.at.returns-then-b-gt64 c).Else-read_map-counts in
-    many-over _ _ _ _ _ _ k.sized k.mapped k.matched (omega (arith, c.if-b-gt64.true)) c.refused-then-b-gt64.ensures
+    many-over _ _ _ _ _ _ k.sized k.mapped k.matched (omega (arith, c.if-b-gt64.true)) refl
 
 pub header_ok-requires : goal.header_ok-requires
 header_ok-requires c =
@@ -46,7 +44,7 @@ header_ok-requires c =
 pub returns-then-not-header_ok : goal.returns-then-not-header_ok
 returns-then-not-header_ok c =
     let k = fitting (goal.at.returns-then-not-header_ok c).Else-read_map-counts in
-    many-header _ _ _ _ _ _ k.sized k.mapped k.matched (omega (arith, c.if-b-gt64.false)) (sym c.header_ok.ensures ∙ c.if-not-header_ok.true) c.refused-then-not-header_ok.ensures
+    many-header _ _ _ _ _ _ k.sized k.mapped k.matched (omega (arith, c.if-b-gt64.false)) (sym c.header_ok.ensures ∙ c.if-not-header_ok.true) refl
 
 -- all can be answered, with a buffer that has room for each
 answerable : (c : Else-not-header_ok) (few : List ℕ) → 1536 * c.args.b.n ≤ length few

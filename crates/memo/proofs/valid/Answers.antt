@@ -2,8 +2,6 @@
 use mathlib.Core.Path.{refl, sym, ◌∙◌}
 use native.Mathlib.Omega.{arith}
 use lib.ListN.{length}
-use borrow.Author.Rules.{rules}
-use borrow.Author.Tests.{not-true, not-false}
 use Rattle.memo.proofs.Remembering.{slot-low, known-found, known-put}
 use Rattle.memo.proofs.valid.Goals as goal
 
@@ -12,15 +10,10 @@ offset_bounds-known-slot c =
     let a = c.args in
     omega (arith, slot-low a.b (length a.known.now) c.if-slots-eq0.false)
 
-pub slice_copy_out-same_words : goal.slice_copy_out-same_words
-slice_copy_out-same_words c =
-    let a = c.args in
-    omega (arith, slot-low a.b (length a.known.now) c.if-slots-eq0.false)
-
-pub returns-then-same_words : goal.returns-then-same_words
-returns-then-same_words c =
+pub returns-then-eq : goal.returns-then-eq
+returns-then-eq c =
     let a = c.args in (
-      known-found a.t.now a.known.now _ a.level a.b a.asked c.requires.3 c.requires.2 c.words-way.ensures c.same_words.ensures c.if-same_words.true,
+      known-found a.t.now a.known.now _ a.level a.b a.asked c.requires.3 c.requires.2 c.words-way.ensures c.eq.ensures c.if-eq.true,
       record { right = c.requires.3; sized = refl },
     )
 

@@ -1,6 +1,5 @@
 -- `memo::words` meets its contract: by the variant.
 use mathlib.Core.Path.{sym, ap}
-use borrow.Author.Rules.{rules}
 use Rattle.memo.specs.Known.{words_of}
 use Rattle.memo.proofs.words.Goals as goal
 

@@ -1,6 +1,5 @@
 -- `message::change_at` meets its contract.
 use mathlib.Core.Path.{sym, ap, ◌∙◌}
-use borrow.Author.Rules.{rules}
 use native.Mathlib.Omega.{arith}
 use Rattle.message.specs.declared.Change.TheVariants.{Add, Withdraw}
 use Rattle.message.proofs.Cursor.{change-adds, change-withdraws}

@@ -1,10 +1,9 @@
 -- `message::count_adds` meets its contract; the loop's invariant is `AddsInv`.
-use Prim.Native.Nat.{◌-◌}
 use native.Mathlib.Omega.{arith}
 use lib.Dec.{eqb}
 use lib.ListN.{get_or}
 use Rattle.message.proofs.Cursor.{walk_here, walk_inside}
-use Rattle.message.proofs.Judging.{bit-small, AddsInv, adds-start, adds-next, adds-end}
+use Rattle.message.proofs.Judging.{bit-small, adds-start, adds-next, adds-end}
 use Rattle.message.proofs.count_adds.Goals as goal
 
 pub loop-i-init : goal.loop-i-init

@@ -1,5 +1,4 @@
 -- `message::head_ok` meets its contract.
-use borrow.Author.Rules.{rules}
 use Rattle.message.proofs.Judging.{head-short, head-tests}
 use Rattle.message.proofs.head_ok.Goals as goal
 

@@ -1,8 +1,6 @@
 -- `message::message_ok` meets its contract.
 use mathlib.Core.Path.{refl, sym, ◌∙◌}
 use mathlib.Core.Logic.{inl}
-use borrow.Author.Rules.{rules}
-use borrow.Author.Tests.{not-true, not-false}
 use native.Mathlib.Omega.{arith}
 use Rattle.message.proofs.Judging.{head-long, no-message, headed-message}
 use Rattle.message.proofs.message_ok.Goals as goal

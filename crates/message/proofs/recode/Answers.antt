@@ -1,10 +1,9 @@
 -- `message::recode` meets its contract. The loop's invariant: the changes so far with the others behind them make the whole.
 use mathlib.Core.Path.{ap, ◌∙◌}
-use Prim.Native.Nat.{◌-◌}
 use native.Mathlib.Omega.{arith}
 use Rattle.octets.specs.Bytes.{put_bytes}
 use Rattle.message.specs.Changes.{change_bytes}
-use Rattle.message.proofs.Writing.{Recoding, recoding-none, recoding-more, recoding-all, turn-given}
+use Rattle.message.proofs.Writing.{recoding-none, recoding-more, recoding-all, turn-given}
 use Rattle.message.proofs.recode.Goals as goal
 
 pub loop-i-init : goal.loop-i-init

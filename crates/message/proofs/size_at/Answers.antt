@@ -1,7 +1,5 @@
 -- `message::size_at` meets its contract: one law for each way out.
 use mathlib.Core.Path.{sym, ◌∙◌}
-use borrow.Author.Rules.{rules}
-use borrow.Author.Tests.{not-true, not-false}
 use native.Mathlib.Omega.{arith}
 use Rattle.message.proofs.Cursor.{fill-small}
 use Rattle.message.proofs.Judging.{size-short, size-row, size-strange, size-dirty, size-clean}

@@ -1,6 +1,5 @@
 -- `message::size_of` meets its contract.
 use mathlib.Core.Path.{sym}
-use borrow.Author.Rules.{rules}
 use native.Mathlib.Omega.{arith}
 use Rattle.message.proofs.Cursor.{size-adds, size-withdraws, fill-small}
 use Rattle.message.proofs.size_of.Goals as goal

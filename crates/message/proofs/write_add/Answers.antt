@@ -1,5 +1,4 @@
 -- `message::write_add` meets its contract: a byte, and the spot behind it.
-use borrow.Author.Rules.{rules}
 use native.Mathlib.Omega.{arith}
 use lib.ListN.{length-set}
 use mathlib.Core.Path.{◌∙◌}

@@ -1,6 +1,5 @@
 -- `message::write_change` meets its contract: each arm is given the change it matched.
 use mathlib.Core.Path.{sym, ap, ◌∙◌}
-use borrow.Author.Rules.{rules}
 use native.Mathlib.Omega.{arith}
 use Rattle.octets.specs.Bytes.{put_bytes}
 use Rattle.message.specs.Changes.{change_bytes}

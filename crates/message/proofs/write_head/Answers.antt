@@ -1,5 +1,4 @@
 -- `message::write_head` meets its contract: three numbers one behind the other.
-use borrow.Author.Rules.{rules}
 use Rattle.message.proofs.Writing.{head-written}
 use Rattle.message.proofs.write_head.Goals as goal
 

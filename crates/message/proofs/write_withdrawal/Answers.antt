@@ -1,5 +1,4 @@
 -- `message::write_withdrawal` meets its contract: a byte, the key behind it, and in a list four zeros behind that.
-use borrow.Author.Rules.{rules}
 use native.Mathlib.Omega.{arith}
 use lib.ListN.{length-set}
 use mathlib.Core.Path.{◌∙◌}

@@ -1,5 +1,4 @@
 -- `node::load` meets its contract: the part lent is the block.
-use borrow.Author.Rules.{rules}
 use Rattle.node.proofs.Loads.{valid-part, loaded-part}
 use Rattle.node.proofs.load.Goals as goal
 

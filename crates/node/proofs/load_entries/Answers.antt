@@ -1,10 +1,9 @@
 -- `node::load_entries` meets its contract: each entry read is put behind those before it.
 use mathlib.Core.Path.{◌≡◌, refl}
-use Prim.Native.Nat.{◌-◌, ◌≤◌}
 use native.Mathlib.Omega.{arith}
 use borrow.Author.Rules.{rules}
 use Rattle.block.specs.Access.{front_of}
-use Rattle.node.proofs.Loading.{FirstLoaded, none-loaded, one-loaded, all-loaded}
+use Rattle.node.proofs.Loading.{none-loaded, one-loaded, all-loaded}
 use Rattle.node.proofs.Loads.{counts}
 use Rattle.node.proofs.load_entries.Goals as goal
 

@@ -1,5 +1,4 @@
 -- `node::put_node` meets its contract: the part lent is the block.
-use borrow.Author.Rules.{rules}
 use Rattle.node.proofs.Storing.{block-stored}
 use Rattle.node.proofs.put_node.Goals as goal
 

@@ -17,4 +17,4 @@ long c =
 pub returns : goal.returns
 returns c =
     stored-in c.args.n c.args.s.now c.requires.0 c.requires.1 (long (goal.at.returns c).Start) c.write_front.ensures c.write_entries.ensures
-    c.write_spots.ensures c.write_spots-2.ensures c.write_keys.ensures c.zero_from.ensures
+    c.write_list.ensures c.write_list-2.ensures c.write_list-3.ensures c.zero_from.ensures

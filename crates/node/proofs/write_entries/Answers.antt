@@ -1,6 +1,5 @@
 -- `node::write_entries` meets its contract: each entry is written behind those before it.
 use mathlib.Core.Path.{◌≡◌, refl, ap, ◌∙◌}
-use Prim.Native.Nat.{◌-◌, ◌≤◌}
 use native.Mathlib.Omega.{arith}
 use borrow.Author.Rules.{rules}
 use lib.ListN.{length, take}
@@ -9,12 +8,10 @@ use Rattle.octets.specs.Bytes.{put_bytes}
 use Rattle.node.specs.Bytes.{entries_bytes, keys_fit}
 use Rattle.node.specs.Memory.{entries_of}
 use Rattle.buffer.proofs.Lists.{length-image}
-use Rattle.octets.specs.Lists.{every}
 use Rattle.node.proofs.Listed.{blank}
 use Rattle.octets.proofs.Parts.{bytes-nothing}
 use Rattle.node.proofs.Put.{entry-behind}
 use Rattle.node.proofs.Fits.{every_more}
-use mathlib.Core.Bool.{true}
 use Rattle.node.proofs.write_entries.Goals as goal
 use Rattle.node.proofs.write_entries.Goals.{Start}
 

@@ -1,5 +1,4 @@
 -- `node::write_entry` meets its contract: its numbers and keys stand one behind the other.
-use borrow.Author.Rules.{rules}
 use Rattle.octets.proofs.Tests.{and_both}
 use Rattle.node.proofs.Put.{entry-written}
 use Rattle.node.proofs.write_entry.Goals as goal

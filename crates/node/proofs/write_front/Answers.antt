@@ -1,5 +1,4 @@
 -- `node::write_front` meets its contract: its numbers stand one behind the other.
-use borrow.Author.Rules.{rules}
 use Rattle.node.proofs.Put.{front-written}
 use Rattle.node.proofs.write_front.Goals as goal
 

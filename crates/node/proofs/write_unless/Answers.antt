@@ -1,7 +1,6 @@
 -- `node::write_unless` meets its contract: by the test.
 use mathlib.Core.Path.{◌∙◌}
 use native.Mathlib.Omega.{arith}
-use borrow.Author.Rules.{rules}
 use Rattle.node.specs.Bytes.{bytes_unless}
 use Rattle.spot.proofs.PutBytes.{key-bytes}
 use Rattle.node.proofs.Put.{unused-bytes}

@@ -1,5 +1,4 @@
 -- `node::zero_from` meets its contract: the part lent comes back as zeros.
-use borrow.Author.Rules.{rules}
 use Rattle.node.proofs.Put.{zeroed}
 use Rattle.node.proofs.zero_from.Goals as goal
 

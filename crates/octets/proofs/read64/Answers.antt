@@ -1,6 +1,5 @@
 -- `octets::read64` meets its contract: two numbers of four bytes are one of eight.
 use native.Mathlib.Omega.{arith}
-use borrow.Author.Rules.{rules}
 use Rattle.octets.proofs.Bytes.{be-split}
 use Rattle.octets.proofs.read64.Goals as goal
 

@@ -1,6 +1,5 @@
 -- `octets::set_bit` meets its contract: a one moved up by n % 8 digits is 2 ^ (n % 8).
 use native.Mathlib.Omega.{arith}
-use borrow.Author.Rules.{rules}
 use mathlib.Core.Path.{ap}
 use Prim.Native.Nat.{ℕ, ◌/◌, ◌%◌}
 use lib.ListN.{get_or, set}

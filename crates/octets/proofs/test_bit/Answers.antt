@@ -1,5 +1,4 @@
 -- `octets::test_bit` meets its contract: it computes what `bit` does.
-use borrow.Author.Rules.{rules}
 use mathlib.Core.Path.{refl}
 use Rattle.octets.specs.Bitmap.{bit}
 use Rattle.octets.proofs.test_bit.Goals as goal

@@ -1,6 +1,5 @@
 -- `octets::write32` meets its contract: its four stores are those of `put_be 4`.
 use native.Mathlib.Omega.{arith}
-use borrow.Author.Rules.{rules}
 use Rattle.octets.specs.Bytes.{put_be}
 use native.Mathlib.Nat.{add-zero}
 use lib.ListN.{length-set}

@@ -1,5 +1,4 @@
 -- `octets::write8` meets its contract.
-use borrow.Author.Rules.{rules}
 use Rattle.octets.specs.Bytes.{put_be}
 use native.Mathlib.Nat.{add-zero}
 use Rattle.octets.proofs.write8.Goals as goal

@@ -1,5 +1,5 @@
 -- `perf::perf_change` meets its contract: the node that was loaded stays one that may be stored.
-use Rattle.std.proofs.Common.{◌≡◌, ℕ, ◌<◌, true, sym, ◌∙◌, arith, rules}
+use Rattle.std.proofs.Common.{◌≡◌, ℕ, ◌<◌, true, sym, ◌∙◌, arith}
 use mathlib.Core.Path.{subst⁻¹}
 use Rattle.block.specs.declared.Asked.TheVariants.{Root}
 use Rattle.block.specs.NodeRules.{zero_first, lows}

@@ -1,6 +1,6 @@
 -- `plan::count_left` meets its contract. The loop's invariant: what is counted, and what is still to be counted, is the whole.
 use mathlib.Core.Path.{◌≡◌, sym, ap, ◌∙◌}
-use Prim.Native.Nat.{◌+◌, ◌-◌, ◌*◌}
+use Prim.Native.Nat.{◌*◌}
 use native.Mathlib.Omega.{arith}
 use lib.Dec.{leb}
 use Rattle.spot.specs.Keys.{rank_key}

@@ -1,15 +1,12 @@
 -- `plan::next_rank` meets its contract. The loop's invariant: the least of the first i.
 use mathlib.Core.Path.{◌≡◌, ap, ◌∙◌}
-use Prim.Native.Nat.{◌-◌, ◌*◌, ◌≤◌}
+use Prim.Native.Nat.{◌*◌}
 use native.Mathlib.Omega.{arith}
 use Rattle.spot.specs.Keys.{rank_key}
 use Rattle.spot.specs.Spots.{key_at}
-use Rattle.plan.specs.Plans.{Nearer, NextRank}
-use Rattle.plan.proofs.Reading.{readable-at, rank-none, rank-turn}
+use Rattle.plan.specs.Plans.{Nearer}
+use Rattle.plan.proofs.Reading.{readable-at, rank-turn}
 use Rattle.plan.proofs.next_rank.Goals as goal
-
-pub loop-i-init : goal.loop-i-init
-loop-i-init c = (omega arith, rank-none c.args.spots.now c.args.floor 18446744073709551615)
 
 pub read_key-requires : goal.read_key-requires
 read_key-requires c =
@@ -22,8 +19,3 @@ loop-i-preserved c =
     c.rank_key.ensures ∙ ap rank_key c.read_key.ensures.0 in
     let k : Nearer l.best (rank_key (key_at c.args.spots.now (12 * l.i))) c.args.floor c.nearer-best.result = rw e at c.nearer-best.ensures in
     (omega arith, rank-turn c.args.spots.now c.args.floor 18446744073709551615 l.i l.best c.nearer-best.result l.invariant.1 k)
-
-pub returns : goal.returns
-returns c =
-    let e : c.loop-i.i ≡ c.args.n = omega arith in
-    rw e at c.loop-i.invariant.1

@@ -1,13 +1,9 @@
 -- `plan::plan_of` meets its contract. The loop's invariant: the plan is the sweep's, once it has passed so many spots.
-use Prim.Native.Nat.{◌-◌, ◌≤◌, ◌<◌}
+use Prim.Native.Nat.{◌<◌}
 use native.Mathlib.Omega.{arith}
-use Rattle.spot.specs.Spots.{spots_in}
-use Rattle.plan.proofs.Swept.{Swept, readable, swept-start, rank-small, swept-next, swept-shaped, swept_all}
+use Rattle.plan.proofs.Swept.{readable, swept-start, rank-small, swept-next, swept-shaped, swept_all}
 use Rattle.plan.proofs.plan_of.Goals as goal
 use Rattle.plan.proofs.plan_of.Goals.{After-next_rank-r}
-
-pub start-plan-requires : goal.start-plan-requires
-start-plan-requires c = c.requires.few
 
 pub loop-passed-init : goal.loop-passed-init
 loop-passed-init c =

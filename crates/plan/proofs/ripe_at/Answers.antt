@@ -1,7 +1,7 @@
 -- `plan::ripe_at` meets its contract. The loop's invariant: none before the i-th is ripe.
 use mathlib.Core.Path.{◌≡◌, ap, ap₂, sym, subst, ◌∙◌}
 use mathlib.Core.Logic.{⊎_elim}
-use Prim.Native.Nat.{ℕ, ◌+◌, ◌-◌, ◌≤◌, ◌<◌}
+use Prim.Native.Nat.{ℕ, ◌+◌}
 use native.Mathlib.Omega.{arith}
 use Rattle.octets.proofs.Order.{same_or_not}
 use Rattle.plan.specs.declared.Piece.{Piece}
@@ -29,19 +29,8 @@ sum_is c =
     (c.count_left-here.ensures.0 ∙ ap (λ (p : Piece). piece_left s.spots.now p s.floor) c.piece_at.ensures)
     (c.count_left-next.ensures.0 ∙ ap (λ (p : Piece). piece_left s.spots.now p s.floor) c.piece_at-in-loop-i.ensures)
 
-pub loop-i-init : goal.loop-i-init
-loop-i-init c = (omega arith, λ j h. let z : ⊥ = omega arith in absurd z)
-
-pub piece_at-requires : goal.piece_at-requires
-piece_at-requires c =
-    (omega (arith, c.requires.few), omega (arith, c.requires.made c.loop-i.i (omega arith), c.requires.room))
-
 pub count_left-here-requires : goal.count_left-here-requires
 count_left-here-requires c = readable (goal.at.count_left-here-requires c).After-piece_at
-
-pub piece_at-requires-in-loop-i : goal.piece_at-requires-in-loop-i
-piece_at-requires-in-loop-i c =
-    (omega (arith, c.requires.few), omega (arith, c.requires.made (c.loop-i.i + 1) (omega arith), c.requires.room))
 
 pub count_left-next-requires : goal.count_left-next-requires
 count_left-next-requires c = readable-2 (goal.at.count_left-next-requires c).After-piece_at-in-loop-i
@@ -52,23 +41,15 @@ overflow_add-here c =
     let b = readable-2 (goal.at.overflow_add-here c).After-piece_at-in-loop-i in
     omega (arith, a.inside, b.inside, c.count_left-here.ensures.1, c.count_left-next.ensures.1)
 
-pub returns-then-here-next-eq64 : goal.returns-then-here-next-eq64
-returns-then-here-next-eq64 c =
-    let l = c.loop-i in
-    (record { before = l.invariant.1; here = λ h. sym (sum_is (goal.at.returns-then-here-next-eq64 c).After-count_left-next) ∙ c.if-here-next-eq64.true }, l.invariant.0)
-
 pub loop-i-preserved : goal.loop-i-preserved
 loop-i-preserved c =
     let s = c.args in
-    let l = c.loop-i in (
-      omega arith,
-      λ j h k e.
-          ⊎_elim (λ (d : j ≡ l.i). c.if-here-next-eq64.false (sum_is (goal.at.loop-i-preserved c).After-count_left-next ∙ ap (left_at s.spots.now s.plan s.floor) (sym d) ∙ e))
-          (λ (d : j ≡ l.i → ⊥). l.invariant.1 j (omega arith) k e)
-          (same_or_not j l.i),
-    )
+    let l = c.loop-i in
+    λ j h k e.
+    ⊎_elim (λ (d : j ≡ l.i). c.if-here-next-eq64.false (sum_is (goal.at.loop-i-preserved c).After-count_left-next ∙ ap (left_at s.spots.now s.plan s.floor) (sym d) ∙ e))
+    (λ (d : j ≡ l.i → ⊥). l.invariant j (omega arith) k e)
+    (same_or_not j l.i)
 
 pub returns : goal.returns
 returns c =
-    let l = c.loop-i in
-    (record { before = λ j h k e. l.invariant.1 j (omega arith) k e; here = λ h. let z : ⊥ = omega arith in absurd z }, omega (arith, c.requires.few))
+    record { before = λ j h k e. c.loop-i.invariant j (omega arith) k e; here = λ h. let z : ⊥ = omega arith in absurd z }

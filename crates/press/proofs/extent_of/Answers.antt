@@ -1,8 +1,7 @@
 -- `press::extent_of` meets its contract. The loop's invariant: the spots kept so far, and what the catalogue says of them.
 use mathlib.Core.Path.{◌∙◌}
-use Prim.Native.Nat.{◌-◌}
 use native.Mathlib.Omega.{arith}
-use Rattle.press.proofs.Pieces.{Shown, shown-none, shown-room, shown-in, shown-out, shown-all, spot-inside, spot-limited}
+use Rattle.press.proofs.Pieces.{shown-none, shown-room, shown-in, shown-out, shown-all, spot-inside, spot-limited}
 use Rattle.press.proofs.extent_of.Goals as goal
 use Rattle.press.proofs.extent_of.Goals.{then-p-rank_key, else-p-rank_key}
 

@@ -1,5 +1,4 @@
 -- `press::inside` meets its contract: of keys that rise the first and the last decide.
-use borrow.Author.Rules.{rules}
 use native.Mathlib.Omega.{arith}
 use Rattle.spot.specs.Keys.{start_key, end_key}
 use Rattle.press.proofs.Accepting.{none-limited, ends-decide}

@@ -1,5 +1,4 @@
 -- `press::made_key` meets its contract.
-use borrow.Author.Rules.{rules}
 use Rattle.press.proofs.Pieces.{made-is}
 use Rattle.press.proofs.made_key.Goals as goal
 

@@ -1,25 +1,25 @@
 -- `press::press` meets its contract: a refusal leaves all, else the tour is written.
-use mathlib.Core.Path.{sym, ap, ◌∙◌}
-use borrow.Author.Rules.{rules}
+use mathlib.Core.Path.{refl, sym, ap}
 use lib.ListN.{length}
-use Prim.Native.Nat.{ℕ}
-use Rattle.block.specs.Answers.{answer}
-use Rattle.press.proofs.Accepting.{accepted, refused, tour-pressed}
+use Rattle.std.proofs.lemmas.Result.{err_from_is_err_and}
+use Rattle.block.specs.declared.Answer.{Answer}
+use Rattle.block.proofs.Answers.{refused-numbered}
+use Rattle.press.proofs.Accepting.{accepted, left-alone, tour-pressed}
 use Rattle.press.proofs.press.Goals as goal
 
-pub returns-then-number-ne0 : goal.returns-then-number-ne0
-returns-then-number-ne0 c =
+pub returns-in_err-judge : goal.returns-in_err-judge
+returns-in_err-judge c =
     let a = c.args in
-    refused a.spots.now a.tour.now c.refusal-number.ensures c.plain_answer.ensures c.if-number-ne0.true
+    let p = err_from_is_err_and c.from_residual.result c.from_residual.ensures.1 in
+    rw (p.1, p.2) (left-alone a.spots.now a.tour.now c.in_err-judge.ensures (refused-numbered c.in_err-judge.field-0.0))
 
 pub write_tour-requires : goal.write_tour-requires
 write_tour-requires c =
     let a = c.args in
-    let h = accepted (length a.tour.now) a.spots.now (sym c.refusal-number.ensures ∙ c.if-number-ne0.false) in
+    let h = accepted (length a.tour.now) a.spots.now (sym (ap (λ (x : Answer). x.number) c.in_ok-judge.ensures)) in
     (h.1, h.0)
 
 pub returns : goal.returns
 returns c =
     let a = c.args in
-    let z = c.if-number-ne0.false in
-    tour-pressed a.spots.now a.tour.now c.refusal-number.ensures (c.plain_answer-2.ensures ∙ ap (λ (k : ℕ). answer k 0) (sym z)) z c.write_tour.ensures
+    tour-pressed a.spots.now a.tour.now c.in_ok-judge.ensures refl c.write_tour.ensures

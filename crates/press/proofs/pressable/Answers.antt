@@ -4,7 +4,6 @@ use mathlib.Core.Bool.{Bool, ◌&&◌}
 use Prim.Native.Nat.{◌%◌}
 use lib.ListN.{length}
 use lib.Dec.{leb, eqb}
-use native.Mathlib.Omega.{arith}
 use Rattle.octets.specs.Lists.{rising}
 use Rattle.spot.specs.Spots.{keys_from}
 use Rattle.block.proofs.Shut.{all3}

@@ -1,5 +1,4 @@
 -- `press::with_key` meets its contract.
-use borrow.Author.Rules.{rules}
 use Rattle.press.proofs.Pieces.{with_first, with-more}
 use Rattle.press.proofs.with_key.Goals as goal
 

@@ -1,31 +1,14 @@
 -- `press::write_catalogue` meets its contract. The loop's invariant: the front and the entries so far.
 use mathlib.Core.Path.{refl, sym, ◌∙◌}
-use Prim.Native.Nat.{◌-◌}
 use native.Mathlib.Omega.{arith}
 use Rattle.press.specs.Press.{spots_given}
 use Rattle.plan.specs.Plans.{no_piece}
-use Rattle.press.proofs.Tiles.{Entries, entries_none, entries-more, entries-all, fits-at}
+use Rattle.press.proofs.Tiles.{entries_none, entries-more, entries-all, fits-at}
 use Rattle.press.proofs.write_catalogue.Goals as goal
-
-pub write_head-requires : goal.write_head-requires
-write_head-requires c =
-    (c.requires.1, c.requires.0.planned.few)
 
 pub loop-i-init : goal.loop-i-init
 loop-i-init c =
     entries_none (spots_given c.args.spots.now) c.args.p c.requires.0.planned 2048 (c.write_head.auto.s ∙ c.requires.1) c.write_head.ensures
-
-pub offset_bounds-p-i : goal.offset_bounds-p-i
-offset_bounds-p-i c = omega (arith, c.requires.0.planned.few)
-
-pub bounds-p-i : goal.bounds-p-i
-bounds-p-i c = omega (arith, c.requires.0.planned.few)
-
-pub overflow_mul-i : goal.overflow_mul-i
-overflow_mul-i c = omega (arith, c.requires.0.planned.few)
-
-pub overflow_add-i : goal.overflow_add-i
-overflow_add-i c = omega (arith, c.requires.0.planned.few)
 
 pub write_entry-requires : goal.write_entry-requires
 write_entry-requires c =

@@ -1,5 +1,4 @@
 -- `press::write_entry` meets its contract: what the fields hold is what the entry says.
-use borrow.Author.Rules.{rules}
 use Rattle.press.specs.Press.{spots_given}
 use Rattle.press.proofs.Pieces.{entry-written}
 use Rattle.press.proofs.write_entry.Goals as goal

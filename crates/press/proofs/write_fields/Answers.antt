@@ -1,5 +1,4 @@
 -- `press::write_fields` meets its contract: its parts stand one behind the other.
-use borrow.Author.Rules.{rules}
 use Rattle.press.proofs.PutBytes.{fields-written}
 use Rattle.press.proofs.write_fields.Goals as goal
 

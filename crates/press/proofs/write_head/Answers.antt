@@ -1,5 +1,4 @@
 -- `press::write_head` meets its contract: two numbers at the front of zeros.
-use borrow.Author.Rules.{rules}
 use native.Mathlib.Omega.{arith}
 use Rattle.press.proofs.PutBytes.{zeroed, head-written}
 use Rattle.press.proofs.write_head.Goals as goal

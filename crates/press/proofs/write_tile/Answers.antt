@@ -1,9 +1,8 @@
 -- `press::write_tile` meets its contract. The loop's invariant: the spots kept so far stand at the front of the block.
 use mathlib.Core.Path.{refl, sym, ◌∙◌}
-use Prim.Native.Nat.{◌-◌}
 use native.Mathlib.Omega.{arith}
 use Rattle.press.proofs.PutBytes.{zeroed}
-use Rattle.press.proofs.Pieces.{Laid, laid_none, laid-room, laid_in, laid_out_lem, laid-all, spot-inside, spot-limited}
+use Rattle.press.proofs.Pieces.{laid_none, laid-room, laid_in, laid_out_lem, laid-all, spot-inside, spot-limited}
 use Rattle.press.proofs.write_tile.Goals as goal
 use Rattle.press.proofs.write_tile.Goals.{then-p-rank_key, else-p-rank_key}
 

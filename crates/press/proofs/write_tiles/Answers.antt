@@ -1,29 +1,17 @@
 -- `press::write_tiles` meets its contract. The loop's invariant: the blocks so far stand one behind the other.
 use mathlib.Core.Path.{◌∙◌}
-use Prim.Native.Nat.{◌+◌, ◌-◌, ◌*◌}
+use Prim.Native.Nat.{◌+◌, ◌*◌}
 use native.Mathlib.Nat.{add-sub_cancel_left}
 use borrow.Rule.Slice.PartMut.{mid_len}
 use native.Mathlib.Omega.{arith}
 use Rattle.press.specs.Press.{spots_given}
 use Rattle.plan.specs.Plans.{no_piece}
-use Rattle.press.proofs.Tiles.{Blocks, blocks-none, blocks_more, blocks-all, fits-at}
+use Rattle.press.proofs.Tiles.{blocks-none, blocks_more, blocks-all, fits-at}
 use Rattle.press.proofs.write_tiles.Goals as goal
 
 pub loop-i-init : goal.loop-i-init
 loop-i-init c =
     blocks-none (spots_given c.args.spots.now) c.args.p c.requires.0.planned c.args.tour.now
-
-pub offset_bounds-p-i : goal.offset_bounds-p-i
-offset_bounds-p-i c = omega (arith, c.requires.0.planned.few)
-
-pub bounds-p-i : goal.bounds-p-i
-bounds-p-i c = omega (arith, c.requires.0.planned.few)
-
-pub overflow_mul-from : goal.overflow_mul-from
-overflow_mul-from c = omega (arith, c.requires.0.planned.few)
-
-pub overflow_add-to : goal.overflow_add-to
-overflow_add-to c = omega (arith, c.requires.0.planned.few)
 
 pub slice_bounds-write_tile-end : goal.slice_bounds-write_tile-end
 slice_bounds-write_tile-end c = omega (arith, c.requires.0.planned.few, c.requires.1, c.loop-i.invariant.long)

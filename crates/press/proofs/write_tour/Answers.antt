@@ -1,5 +1,4 @@
 -- `press::write_tour` meets its contract: the catalogue at the front, and the blocks of the plan behind it.
-use borrow.Author.Rules.{rules}
 use native.Mathlib.Omega.{arith}
 use borrow.Rule.Slice.PartMut.{mid_len, same_len_mid}
 use Rattle.plan.specs.Plans.{SweepPlanned}

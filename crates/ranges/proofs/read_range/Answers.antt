@@ -2,7 +2,6 @@
 use mathlib.Core.Path.{◌∙◌}
 use mir.Syntax.{w32}
 use mir.ValLaws.{to_z-of_z}
-use borrow.Author.Rules.{rules}
 use Rattle.ranges.specs.Ranges.{range_in}
 use Rattle.ranges.proofs.read_range.Goals as goal
 

@@ -9,32 +9,30 @@ use Rattle.block.specs.Table.{capacity}
 use Rattle.tree.proofs.Says.{replaced-rises}
 use Rattle.renew.proofs.Inside.{replaced-limited}
 use Rattle.renew.proofs.Renewing.{renew-broken, renew-amendable, renew-full, renew-segment, renew-fits, renew-built}
-use borrow.Author.Rules.{rules}
 use native.Mathlib.Omega.{arith}
 use Rattle.renew.proofs.with_spot.Goals as goal
 
-pub returns-then-not-all : goal.returns-then-not-all
-returns-then-not-all c = renew-broken _ _ c.gather-all.ensures (not-true _ c.if-not-all.true)
+pub returns-in_default : goal.returns-in_default
+returns-in_default c = renew-broken _ _ c.in_default.ensures
 
 pub put_in-n-requires : goal.put_in-n-requires
 put_in-n-requires c =
-    renew-amendable c.requires.0 c.requires.1 c.gather-all.ensures (not-false _ c.if-not-all.false)
+    renew-amendable c.requires.0 c.requires.1 c.in-Some.ensures
 
 pub returns-then-capacity_of-n : goal.returns-then-capacity_of-n
 returns-then-capacity_of-n c =
     let many : capacity (length c.args.table.now) < c.put_in-n.result = omega (arith, c.capacity_of.ensures) in
-    renew-full c.requires.0 c.requires.1 c.gather-all.ensures (not-false _ c.if-not-all.false) (λ (l : List Spot). put c.args.s (without c.args.s.key l)) c.put_in-n.ensures many
+    renew-full c.requires.0 c.requires.1 c.in-Some.ensures (λ (l : List Spot). put c.args.s (without c.args.s.key l)) c.put_in-n.ensures many
 
 pub build_table-requires : goal.build_table-requires
 build_table-requires c =
     let few : c.put_in-n.result ≤ capacity (length c.args.table.now) = omega (arith, c.capacity_of.ensures) in
-    (c.requires.0, few, renew-segment c.requires.0 c.requires.1 c.gather-all.ensures (not-false _ c.if-not-all.false) (λ (l : List Spot). put c.args.s (without c.args.s.key l)) c.put_in-n.ensures few (replaced-rises c.args.s _) (replaced-limited c.args.s _ c.requires.2))
+    (c.requires.0, few, renew-segment c.requires.0 c.requires.1 c.in-Some.ensures (λ (l : List Spot). put c.args.s (without c.args.s.key l)) c.put_in-n.ensures few (replaced-rises c.args.s _) (replaced-limited c.args.s _ c.requires.2))
 
 pub returns : goal.returns
 returns c =
-    let got = c.gather-all.ensures in
+    let got = c.in-Some.ensures in
     let in_place = c.put_in-n.ensures in
     let few : c.put_in-n.result ≤ capacity (length c.args.table.now) = omega (arith, c.capacity_of.ensures) in
-    let ok = not-false _ c.if-not-all.false in
     let with_it : List Spot → List Spot = λ (l : List Spot). put c.args.s (without c.args.s.key l) in
-    renew-built c.requires.0 c.requires.1 got ok with_it in_place (renew-fits c.requires.0 c.requires.1 got ok with_it in_place few) c.build_table.ensures
+    renew-built c.requires.0 c.requires.1 got with_it in_place (renew-fits c.requires.0 c.requires.1 got with_it in_place few) c.build_table.ensures

@@ -1,7 +1,6 @@
 -- `report::held` meets its contract: the spots are copied, and turned to begin at x1.
 use mir.Syntax.{w32}
 use mir.ValLaws.{to_z-of_z}
-use borrow.Author.Rules.{rules}
 use native.Mathlib.Omega.{arith}
 use Rattle.report.proofs.Reporting.{query-same, turn-asks, held-order, held-turned}
 use Rattle.report.proofs.held.Goals as goal

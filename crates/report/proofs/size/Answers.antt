@@ -1,7 +1,6 @@
 -- `report::size` meets its contract: the walk of the query that its arguments make.
 use mir.Syntax.{w32}
 use mir.ValLaws.{to_z-of_z}
-use borrow.Author.Rules.{rules}
 use Rattle.query.proofs.Whole.{counted-as}
 use Rattle.query.proofs.Gathered.{held-as}
 use Rattle.report.proofs.Reporting.{query-same}

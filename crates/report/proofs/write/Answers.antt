@@ -2,7 +2,6 @@
 use mathlib.Core.Path.{sym, subst}
 use mir.Syntax.{w32}
 use mir.ValLaws.{to_z-of_z}
-use borrow.Author.Rules.{rules}
 use native.Mathlib.Omega.{arith}
 use Rattle.query.specs.Merging.{Orderly}
 use Rattle.query.proofs.Ordered.{walk-order}

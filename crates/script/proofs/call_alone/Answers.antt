@@ -16,25 +16,30 @@ row c =
       third = c.read32-c.ensures.0;
     }
 
-pub returns-then-op-eq0 : goal.returns-then-op-eq0
-returns-then-op-eq0 c = made-format (row (goal.at.returns-then-op-eq0 c).After-read32-c) _ _ _ _ c.if-op-eq0.true c.format.ensures
+pub returns-in-0 : goal.returns-in-0
+returns-in-0 c =
+    rw c.told.ensures (made-format (row (goal.at.returns-in-0 c).After-read32-c) _ _ _ _ c.in-0.is c.format.ensures)
 
-pub returns-then-op-eq1 : goal.returns-then-op-eq1
-returns-then-op-eq1 c =
-    made-add (row (goal.at.returns-then-op-eq1 c).After-read32-c) _ _ _ _ _ c.if-op-eq1.true c.add.ensures
+pub returns-in-1 : goal.returns-in-1
+returns-in-1 c =
+    rw c.told-in-1.ensures (made-add (row (goal.at.returns-in-1 c).After-read32-c) _ _ _ _ _ c.in-1.is c.add.ensures)
 
-pub returns-then-op-eq2 : goal.returns-then-op-eq2
-returns-then-op-eq2 c =
-    made-withdraw (row (goal.at.returns-then-op-eq2 c).After-read32-c) _ _ _ _ _ c.if-op-eq2.true c.withdraw.ensures
+pub returns-in-2 : goal.returns-in-2
+returns-in-2 c =
+    rw c.told-in-2.ensures (made-withdraw (row (goal.at.returns-in-2 c).After-read32-c) _ _ _ _ _ c.in-2.is c.withdraw.ensures)
 
-pub returns-then-op-eq5 : goal.returns-then-op-eq5
-returns-then-op-eq5 c = made-count (row (goal.at.returns-then-op-eq5 c).After-read32-c) _ _ _ c.if-op-eq5.true c.count.ensures
+pub returns-in-5 : goal.returns-in-5
+returns-in-5 c =
+    rw c.answer_of.ensures (made-count (row (goal.at.returns-in-5 c).After-read32-c) _ _ _ c.in-5.is c.count.ensures)
 
-pub returns-then-op-eq6 : goal.returns-then-op-eq6
-returns-then-op-eq6 c = made-check (row (goal.at.returns-then-op-eq6 c).After-read32-c) _ _ _ c.if-op-eq6.true c.check.ensures
+pub returns-in-6 : goal.returns-in-6
+returns-in-6 c =
+    rw c.yes_or_no.ensures (made-check (row (goal.at.returns-in-6 c).After-read32-c) _ _ _ c.in-6.is c.check.ensures)
 
-pub returns : goal.returns
-returns c =
+pub returns-in_default : goal.returns-in_default
+returns-in_default c =
     let pre = c.requires in
-    made-rebuild (row (goal.at.returns c).After-read32-c) _ _ _ _ _ pre.1 pre.2 pre.3 c.if-op-eq0.false c.if-op-eq1.false c.if-op-eq2.false c.if-op-eq5.false c.if-op-eq6.false
-    c.rebuild.ensures
+    rw c.told-in_default.ensures
+    (made-rebuild (row (goal.at.returns-in_default c).After-read32-c) _ _ _ _ _ pre.1 pre.2 pre.3 (λ e. search rules) (λ e. search rules) (λ e. search rules) (λ e. search rules)
+    (λ e. search rules)
+    c.rebuild.ensures)

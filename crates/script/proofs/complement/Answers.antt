@@ -1,6 +1,5 @@
 -- `script::complement` meets its contract: a number moved up by 2 ^ 31, turned.
 use mathlib.Core.Path.{sym, ap, ◌∙◌}
-use borrow.Author.Rules.{rules}
 use Rattle.spot.specs.Keys.{turned}
 use Rattle.spot.proofs.Signed.{biased-back}
 use Rattle.demands.proofs.Orders.{turned-biased}

@@ -3,10 +3,8 @@ use mathlib.Core.Path.{◌≡◌, refl, ◌∙◌}
 use Prim.Native.Nat.{ℕ, ◌+◌, ◌-◌, ◌*◌, ◌≤◌}
 use native.Mathlib.Omega.{arith}
 use lib.ListN.{length, drop, length-take, length-drop}
-use borrow.Author.Rules.{rules}
 use borrow.Rule.Slice.PartMut.{same_len_mid}
-use Rattle.script.specs.Run.{run_state, run_lengths}
-use Rattle.script.proofs.Turns.{Going, part-fits, start, next, ended}
+use Rattle.script.proofs.Turns.{part-fits, start, next, ended}
 use Rattle.script.proofs.make_calls.Goals as goal
 use Rattle.script.proofs.make_calls.Goals.{In-loop-i}
 

@@ -1,5 +1,4 @@
 -- `script::part_of` meets its contract.
-use borrow.Author.Rules.{rules}
 use borrow.Author.Tests.{eq-eqb, ne_eqb}
 use Rattle.script.specs.Script.{log_part}
 use Rattle.script.proofs.part_of.Goals as goal

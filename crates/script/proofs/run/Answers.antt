@@ -1,8 +1,6 @@
 -- `script::run` meets its contract: refused before anything is written, or all calls made on a formatted table.
 use mathlib.Core.Path.{sym, ◌∙◌}
 use native.Mathlib.Omega.{arith}
-use borrow.Author.Rules.{rules}
-use borrow.Author.Tests.{not-true, not-false}
 use Rattle.script.proofs.Whole.{parts-fit, says-unsized, says-short, says-run}
 use Rattle.script.proofs.run.Goals as goal
 

@@ -2,21 +2,16 @@
 use mathlib.Core.Bool.{true}
 use mathlib.Core.List.{List}
 use mathlib.Core.Path.{◌≡◌, refl, sym, ap, ◌∙◌}
-use Prim.Native.Nat.{ℕ, ◌-◌, ◌≤◌, ◌<◌}
+use Prim.Native.Nat.{ℕ}
 use native.Mathlib.Omega.{arith}
 use lib.ListN.{length}
-use borrow.Author.Rules.{rules}
-use borrow.Author.Tests.{not-true, not-false}
 use Rattle.octets.proofs.Bits.{set_bit-length}
 use Rattle.block.specs.NodeRules.{node_ok}
 use Rattle.block.specs.declared.Front.{Front}
 use Rattle.block.specs.Access.{front_of}
 use Rattle.block.specs.Node.{store_of}
-use Rattle.tree.specs.Reach.{reach}
-use Rattle.tree.specs.Sound.{sound_at}
-use Rattle.visit.proofs.Children.{lent, lent-valid, few-children}
-use Rattle.query.proofs.Threads.{Threaded, thread-start}
-use Rattle.soundness.proofs.Steps.{left, kids_fresh, no-twice, no_node, no-range, no_kids, whole_part, Kid, kid-level, kid-asks, kid-next, kid-stop, kids-done}
+use Rattle.visit.proofs.Children.{lent, lent-valid}
+use Rattle.soundness.proofs.Steps.{kids_fresh, no-twice, no_node, no-range, no_kids, whole_part, Kid, kid-level, kid-asks, kid-next, kid-stop, kids-done}
 use Rattle.soundness.proofs.+sound_walk.Goals as goal
 use Rattle.soundness.proofs.+sound_walk.Goals.{After-child_span-part, After-front_of-c}
 
@@ -74,16 +69,10 @@ returns-then-not-in_range t c =
     let a = c.args in
     no-range a.t.now a.seen.now a.b a.level a.asked a.span c.requires refl (sym c.in_range.ensures ∙ c.if-not-in_range.true)
 
-pub loop-i-init : goal.loop-i-init
-loop-i-init t c = (omega arith, thread-start _ _ _ _)
-
 pub entry_at-e-requires : goal.entry_at-e-requires
 entry_at-e-requires t c =
     let a = c.args in
     (lent-valid a.t.now a.b a.level a.asked (node t (goal.at.entry_at-e-requires t c).After-front_of-c) c.requires.inside, omega (arith, count t (goal.at.entry_at-e-requires t c).After-front_of-c, c.loop-i-test.true))
-
-pub slice_bounds-child_span-end : goal.slice_bounds-child_span-end
-slice_bounds-child_span-end t c = omega (arith, c.requires.inside)
 
 pub child_span-part-requires : goal.child_span-part-requires
 unfolding front_of
@@ -113,19 +102,8 @@ returns-then-not-sound_walk t c =
     (c.sound_walk.ensures.sized ∙ k.thread.sized ∙ ap length c.set_bit.ensures ∙ set_bit-length c.args.seen.now c.args.b)
     (ap (λ (m : List ℕ). kids_fresh a.t.now a.b a.level a.span m) (sym c.set_bit.ensures) ∙ kid-stop k c.sound_walk.ensures c.if-not-sound_walk.true)
 
-pub overflow_add-i : goal.overflow_add-i
-overflow_add-i t c =
-    omega (arith, few-children c.args.t.now c.args.b c.args.level c.args.asked (node t (goal.at.overflow_add-i t c).After-front_of-c), count t (goal.at.overflow_add-i t c).After-front_of-c, c.loop-i-test.true)
-
-pub loop-i-smaller : goal.loop-i-smaller
-loop-i-smaller t c = omega (arith, c.loop-i-test.true)
-
 pub loop-i-preserved : goal.loop-i-preserved
-loop-i-preserved t c = (omega (arith, c.loop-i-test.true), kid-next (kid t (goal.at.loop-i-preserved t c).After-child_span-part) c.sound_walk.ensures c.if-not-sound_walk.false)
-
-pub shape_of-seen : goal.shape_of-seen
-shape_of-seen t c =
-    c.loop-i.invariant.1.sized ∙ ap length c.set_bit.ensures ∙ set_bit-length c.args.seen.now c.args.b
+loop-i-preserved t c = (omega (arith, c.loop-i-test.true), rw c.unwrap_or-lo.ensures (kid-next (kid t (goal.at.loop-i-preserved t c).After-child_span-part) c.sound_walk.ensures c.if-not-sound_walk.false))
 
 pub returns : goal.returns
 returns t c =

@@ -1,6 +1,5 @@
 -- `soundness::in_range` meets its contract: the node's buffers, and its entries' lows from the second on.
 use native.Mathlib.Omega.{arith}
-use borrow.Author.Rules.{rules}
 use Rattle.soundness.proofs.Ranges.{front-used, points-run, inserts-run, deletes-run, lows-run, range-inner, range-leaf}
 use Rattle.soundness.proofs.in_range.Goals as goal
 

@@ -1,5 +1,4 @@
 -- `soundness::keys_within` meets its contract: of keys that rise the first and the last decide.
-use borrow.Author.Rules.{rules}
 use native.Mathlib.Omega.{arith}
 use Rattle.soundness.proofs.Ranges.{keys_none, keys-decide, last-ends, ends-limited}
 use Rattle.soundness.proofs.keys_within.Goals as goal
@@ -14,16 +13,6 @@ read_key-requires c =
     let a = c.args in
     (omega (arith, last-ends a.w a.n (λ e. omega arith)), (ends-limited a.t.now a.w a.n a.at (λ e. omega arith) c.requires.5).0)
 
-pub overflow_mul-w : goal.overflow_mul-w
-overflow_mul-w c =
-    let a = c.args in
-    omega (arith, last-ends a.w a.n (λ e. omega arith))
-
-pub overflow_add-at : goal.overflow_add-at
-overflow_add-at c =
-    let a = c.args in
-    omega (arith, last-ends a.w a.n (λ e. omega arith))
-
 pub read_key-requires-2 : goal.read_key-requires-2
 read_key-requires-2 c =
     let a = c.args in
@@ -32,4 +21,4 @@ read_key-requires-2 c =
 pub returns : goal.returns
 returns c =
     let a = c.args in
-    keys-decide a.t.now a.w a.n a.at a.span _ _ (λ e. omega arith) c.requires.4 c.read_key.ensures.0 c.read_key-2.ensures.0
+    keys-decide a.t.now a.w a.n a.at a.span _ _ (λ e. omega arith) c.requires.4 c.read_key.ensures.0 c.read_key-2.ensures.0 c.before_end.ensures

@@ -1,11 +1,10 @@
 -- `soundness::tree_ok` meets its contract: the map in block 0 is compared with the map of the blocks reached.
-use mathlib.Core.Path.{refl}
+use mathlib.Core.Path.{refl, ◌∙◌}
 use native.Mathlib.Omega.{arith}
-use borrow.Author.Tests.{not-true, not-false}
-use borrow.Author.Rules.{rules}
+use lib.ListN.{take, drop}
 use Rattle.tree.proofs.Sources.{header-few}
 use Rattle.visit.proofs.Roots.{header-long, root-low, levels-some, levels-few}
-use Rattle.soundness.proofs.Whole.{tree-no, tree-yes}
+use Rattle.soundness.proofs.Whole.{tree-no, tree-yes, equal-same}
 use Rattle.soundness.proofs.tree_ok.Goals as goal
 
 pub root_of-root-requires : goal.root_of-root-requires
@@ -35,8 +34,8 @@ returns-then-not-sound_walk c =
     c.sound_walk.ensures
     c.if-not-sound_walk.true
 
-pub slice_bounds-same_map-end : goal.slice_bounds-same_map-end
-slice_bounds-same_map-end c =
+pub slice_bounds-eq-end : goal.slice_bounds-eq-end
+slice_bounds-eq-end c =
     omega (arith, header-long c.args.t.now c.requires)
 
 pub returns : goal.returns
@@ -46,4 +45,4 @@ returns c =
     c.sound_walk.ensures
     c.if-not-sound_walk.false
     c.set_bit.ensures
-    c.same_map.ensures
+    (c.eq.ensures ∙ equal-same (take 512 (drop 12 c.args.t.now)) c.set_bit.new.map)

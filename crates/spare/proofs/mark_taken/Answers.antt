@@ -21,9 +21,6 @@ set_bit-requires c =
     let n = to_below _ _ c.args.map.now c.requires.1 (long (goal.at.set_bit-requires c).Start) c.loop-i.i c.loop-i.invariant.from c.loop-i-test.true in
     omega (arith, n, c.loop-i.invariant.marks.sized, c.requires.0)
 
-pub overflow_add-i : goal.overflow_add-i
-overflow_add-i c = let i = c.loop-i.invariant in omega (arith, i.most, c.requires.1.few, c.loop-i-test.true)
-
 pub loop-i-preserved : goal.loop-i-preserved
 loop-i-preserved c =
     to-next _ _ _ c.requires.1 (long ((goal.at.loop-i-preserved c).Start)) c.loop-i.invariant c.loop-i-test.true c.requires.0 c.set_bit.ensures

@@ -1,10 +1,6 @@
 -- `spare::mark_taken` meets its contract. The loop's invariant: the blocks from `left` up to i are marked besides those that were.
 use Rattle.spare.proofs.Marking.{MarkedTo}
-use Prim.Native.Nat.{◌-◌}
 use Rattle.spare.proofs.mark_taken.Given as goal
 
 abbrev pub invariant-loop-i : goal.invariant-loop-i
 invariant-loop-i l = MarkedTo l.s l.left l.initial.map l.map l.i
-
-abbrev pub decreases-loop-i : goal.decreases-loop-i
-decreases-loop-i l = l.s.n - l.i

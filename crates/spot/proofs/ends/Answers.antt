@@ -1,5 +1,5 @@
 -- `spot::ends` meets its contract.
-use Rattle.std.proofs.Common.{◌≡◌, Bool, true, false, cond, ◌&&◌, ◌||◌, refl, ap, ◌∙◌, rules}
+use Rattle.std.proofs.Common.{◌≡◌, Bool, true, false, cond, ◌&&◌, ◌||◌, refl, ap, ◌∙◌}
 use Rattle.spot.specs.Query.{is_ring, ends}
 use Rattle.spot.proofs.ends.Goals as goal
 

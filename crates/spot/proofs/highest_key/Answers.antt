@@ -1,5 +1,5 @@
 -- `spot::highest_key` meets its contract.
-use Rattle.std.proofs.Common.{sym, refl, ◌∙◌, rules}
+use Rattle.std.proofs.Common.{sym, refl, ◌∙◌}
 use Rattle.spot.specs.Query.{highest_of}
 use Rattle.spot.proofs.highest_key.Goals as goal
 

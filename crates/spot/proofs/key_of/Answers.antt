@@ -1,5 +1,5 @@
 -- `spot::key_of` meets its contract.
-use Rattle.std.proofs.Common.{ℕ, ◌+◌, ◌*◌, ap₂, rules}
+use Rattle.std.proofs.Common.{ℕ, ◌+◌, ◌*◌, ap₂}
 use Rattle.spot.specs.Keys.{word}
 use Rattle.spot.proofs.Signed.{biased-back}
 use Rattle.spot.proofs.key_of.Goals as goal

@@ -1,5 +1,5 @@
 -- `spot::key_of_top` meets its contract.
-use Rattle.std.proofs.Common.{ap, ◌∙◌, rules}
+use Rattle.std.proofs.Common.{ap, ◌∙◌}
 use Rattle.spot.specs.Keys.{rank_key, key_of_top}
 use Rattle.spot.proofs.key_of_top.Goals as goal
 

@@ -1,5 +1,5 @@
 -- `spot::last_key` meets its contract.
-use Rattle.std.proofs.Common.{ℕ, ◌+◌, ◌*◌, ap, rules}
+use Rattle.std.proofs.Common.{ℕ, ◌+◌, ◌*◌, ap}
 use Rattle.spot.specs.Keys.{word}
 use Rattle.spot.specs.Query.{last_of}
 use Rattle.spot.proofs.Signed.{Fits, biased-back}

@@ -1,5 +1,4 @@
 -- `spot::least_of` meets its contract.
-use Rattle.std.proofs.Common.{rules}
 use Rattle.spot.specs.Query.{least_of}
 use Rattle.spot.proofs.Signed.{Fits, biased-back}
 use Rattle.spot.proofs.least_of.Goals as goal

@@ -1,5 +1,5 @@
 -- `spot::lowest_key` meets its contract.
-use Rattle.std.proofs.Common.{sym, refl, ◌∙◌, rules}
+use Rattle.std.proofs.Common.{sym, refl, ◌∙◌}
 use Rattle.spot.specs.Query.{lowest_of}
 use Rattle.spot.proofs.lowest_key.Goals as goal
 

@@ -1,5 +1,5 @@
 -- `spot::place_of` meets its contract.
-use Rattle.std.proofs.Common.{◌∙◌, w32, rules}
+use Rattle.std.proofs.Common.{◌∙◌, w32}
 use mir.ValLaws.{to_z-of_z}
 use Rattle.spot.specs.Keys.{place_of}
 use Rattle.spot.proofs.place_of.Goals as goal

@@ -1,5 +1,5 @@
 -- `spot::placed` meets its contract.
-use Rattle.std.proofs.Common.{ℕ, ◌+◌, ◌%◌, sym, ap, ◌∙◌, arith, rules}
+use Rattle.std.proofs.Common.{ℕ, ◌+◌, ◌%◌, sym, ap, ◌∙◌, arith}
 use Rattle.spot.specs.Keys.{all_keys}
 use Rattle.spot.proofs.Places.{counted-on}
 use Rattle.spot.proofs.placed.Goals as goal

@@ -1,5 +1,5 @@
 -- `spot::rank_in` meets its contract.
-use Rattle.std.proofs.Common.{◌∙◌, w32, rules}
+use Rattle.std.proofs.Common.{◌∙◌, w32}
 use mir.ValLaws.{to_z-of_z}
 use Rattle.spot.specs.Keys.{rank_in}
 use Rattle.spot.proofs.rank_in.Goals as goal

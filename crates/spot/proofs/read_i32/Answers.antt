@@ -1,5 +1,5 @@
 -- `spot::read_i32` meets its contract: a number in two's complement is the one moved up, turned.
-use Rattle.std.proofs.Common.{sym, ap, ◌∙◌, arith, w32, rules}
+use Rattle.std.proofs.Common.{sym, ap, ◌∙◌, arith, w32}
 use mir.ValLaws.{to_z-of_z}
 use Rattle.octets.specs.Bytes.{be}
 use Rattle.spot.specs.Keys.{unbiased, turned}

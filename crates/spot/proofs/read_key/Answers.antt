@@ -1,5 +1,5 @@
 -- `spot::read_key` meets its contract.
-use Rattle.std.proofs.Common.{ap, ◌∙◌, rules}
+use Rattle.std.proofs.Common.{ap, ◌∙◌}
 use Rattle.spot.specs.Keys.{limited}
 use Rattle.spot.proofs.read_key.Goals as goal
 

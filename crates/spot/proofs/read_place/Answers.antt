@@ -1,5 +1,5 @@
 -- `spot::read_place` meets its contract: the first word of an identity is its place, which is inside the limits.
-use Rattle.std.proofs.Common.{◌≡◌, ap, ◌∙◌, w32, rules}
+use Rattle.std.proofs.Common.{◌≡◌, ap, ◌∙◌, w32}
 use mir.ValLaws.{to_z-of_z}
 use Rattle.spot.specs.Keys.{place_of, in_limits, limited}
 use Rattle.spot.specs.Spots.{key_at}

@@ -1,5 +1,5 @@
 -- `spot::read_rank` meets its contract: the second word of an identity is its rank.
-use Rattle.std.proofs.Common.{◌∙◌, w32, rules}
+use Rattle.std.proofs.Common.{◌∙◌, w32}
 use mir.ValLaws.{to_z-of_z}
 use Rattle.spot.proofs.Orders.{rank-word}
 use Rattle.spot.proofs.read_rank.Goals as goal

@@ -1,5 +1,5 @@
 -- `spot::read_spot` meets its contract.
-use Rattle.std.proofs.Common.{ap₂, rules}
+use Rattle.std.proofs.Common.{ap₂}
 use Rattle.spot.specs.Spots.{spot_at}
 use Rattle.spot.proofs.Card.{spot}
 use Rattle.spot.proofs.read_spot.Goals as goal

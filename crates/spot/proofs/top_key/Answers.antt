@@ -1,5 +1,5 @@
 -- `spot::top_key` meets its contract.
-use Rattle.std.proofs.Common.{ap, ◌∙◌, rules}
+use Rattle.std.proofs.Common.{ap, ◌∙◌}
 use Rattle.spot.specs.Keys.{turn_low, top_key}
 use Rattle.spot.proofs.top_key.Goals as goal
 

@@ -1,5 +1,5 @@
 -- `spot::top_query` meets its contract.
-use Rattle.std.proofs.Common.{◌∙◌, w32, rules}
+use Rattle.std.proofs.Common.{◌∙◌, w32}
 use mir.ValLaws.{to_z-of_z}
 use Rattle.spot.specs.Query.{top_query}
 use Rattle.spot.proofs.Places.{query-eq}

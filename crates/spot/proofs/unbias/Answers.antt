@@ -1,5 +1,5 @@
 -- `spot::unbias` meets its contract: the difference at 64 bits is the number moved back.
-use Rattle.std.proofs.Common.{w32, rules}
+use Rattle.std.proofs.Common.{w32}
 use mir.ValLaws.{to_z-of_z}
 use Rattle.spot.specs.Keys.{unbiased}
 use Rattle.spot.proofs.Signed.{wide64, unbiased-fits, less64, low64}

@@ -1,5 +1,5 @@
 -- `spot::wants` meets its contract: of a key of 64 bits, the rank is the lower half.
-use Rattle.std.proofs.Common.{ℕ, ◌%◌, Bool, ◌&&◌, leb, sym, ◌∙◌, ap₂, rules}
+use Rattle.std.proofs.Common.{ℕ, ◌%◌, Bool, ◌&&◌, leb, sym, ◌∙◌, ap₂}
 use Rattle.spot.specs.Keys.{word}
 use Rattle.spot.proofs.Places.{wants-low}
 use Rattle.spot.proofs.wants.Goals as goal

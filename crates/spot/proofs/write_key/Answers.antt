@@ -1,5 +1,5 @@
 -- `spot::write_key` meets its contract: its two writes are those of `put_key`.
-use Rattle.std.proofs.Common.{ℕ, ◌+◌, List, ap, ◌∙◌, ap₂, rules}
+use Rattle.std.proofs.Common.{ℕ, ◌+◌, List, ap, ◌∙◌, ap₂}
 use Rattle.octets.specs.Bytes.{put_be}
 use Rattle.spot.specs.Spots.{put_key}
 use Rattle.spot.proofs.write_key.Goals as goal

@@ -1,5 +1,5 @@
 -- `spot::write_spot` meets its contract: its two writes are those of `put_spot`.
-use Rattle.std.proofs.Common.{ℕ, ◌+◌, List, ap, ◌∙◌, rules}
+use Rattle.std.proofs.Common.{ℕ, ◌+◌, List, ap, ◌∙◌}
 use Rattle.octets.specs.Bytes.{put_be}
 use Rattle.spot.specs.Spots.{put_spot}
 use Rattle.spot.proofs.write_spot.Goals as goal

@@ -1,7 +1,5 @@
 -- `table::format` meets its contract, by that of `block::format`.
 use Rattle.table.proofs.Answering.{formats}
-use borrow.Author.Rules.{rules}
-use Rattle.table.proofs.format.Lts as lts
 use Rattle.table.proofs.format.Goals as goal
 
 pub returns : goal.returns

@@ -4,7 +4,6 @@ use mir.ValLaws.{to_z-of_z}
 use mir.Syntax.{w32}
 use Rattle.table.proofs.Writing.{found-limited, last-limited, fewer-written, full-written}
 use Rattle.top.proofs.Sweeps.{zeroed}
-use borrow.Author.Rules.{rules}
 use native.Mathlib.Omega.{arith}
 use Rattle.table.proofs.top_all.Goals as goal
 

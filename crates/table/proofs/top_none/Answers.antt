@@ -2,11 +2,9 @@
 use Rattle.table.proofs.Topping.{map-none}
 use Rattle.table.proofs.Answering.{map_is}
 use Rattle.visit.proofs.Roots.{sized-long}
-use borrow.Author.Tests.{not-true, not-false}
 use mathlib.Core.Logic.{inl, inr}
 use mathlib.Core.Path.{refl, sym, ◌∙◌}
 use Prim.Native.Nat.{ℕ}
-use borrow.Author.Rules.{rules}
 use native.Mathlib.Omega.{arith}
 use lib.ListN.{length-replicate}
 use Rattle.table.proofs.top_none.Goals as goal
@@ -15,7 +13,7 @@ pub header_ok-requires : goal.header_ok-requires
 header_ok-requires c = sized-long c.args.table.now c.requires.0
 
 pub returns-then-not-header_ok : goal.returns-then-not-header_ok
-returns-then-not-header_ok c = inl (sym c.header_ok.ensures ∙ c.if-not-header_ok.true, c.plain_answer.ensures, refl)
+returns-then-not-header_ok c = inl (sym c.header_ok.ensures ∙ c.if-not-header_ok.true, refl, refl)
 
 pub copy-requires : goal.copy-requires
 copy-requires c = (omega (arith, c.set_bit.auto.map, length-replicate {A = ℕ} 512 0), omega (arith, c.requires.1))
@@ -24,7 +22,7 @@ pub returns : goal.returns
 returns c =
     inr (
       sym c.header_ok.ensures ∙ c.if-not-header_ok.false,
-      c.plain_answer-2.ensures,
+      refl,
       map_is _ c.args.read_map.now _ (c.set_bit.auto.map ∙ length-replicate {A = ℕ} 512 0) c.requires.1 c.copy.ensures ∙
           c.set_bit.ensures ∙
           map-none,

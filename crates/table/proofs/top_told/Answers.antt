@@ -1,7 +1,6 @@
 -- `table::top_told` meets its contract: what is told was counted.
 use Rattle.table.proofs.Sizing.{none_told}
 use Rattle.visit.proofs.Roots.{sized-long}
-use borrow.Author.Rules.{rules}
 use Rattle.table.proofs.top_told.Goals as goal
 
 pub bound_of-requires : goal.bound_of-requires

@@ -1,16 +1,17 @@
 -- `table::top_write` meets its contract.
+use mathlib.Core.Path.{ap}
+use Rattle.table.specs.TopSizes.{is_all}
 use Rattle.table.proofs.Writing.{run-written}
 use Rattle.top.proofs.Sweeps.{zeroed}
-use borrow.Author.Rules.{rules}
 use Rattle.table.proofs.top_write.Goals as goal
 
 pub top_all-requires : goal.top_all-requires
 top_all-requires c =
     let p = c.requires in
-    (p.0, p.1 c.if-all.true)
+    (p.0, p.1 (ap is_all c.in-All.is))
 
-pub returns-then-all : goal.returns-then-all
-returns-then-all c = record { ends = λ x1 x2 a d. c.top_all.ensures.ends x1 x2 a }
+pub returns-in-All : goal.returns-in-All
+returns-in-All c = record { ends = λ x1 x2 a d. c.top_all.ensures.ends x1 x2 a }
 
 pub top_run-requires : goal.top_run-requires
 top_run-requires c =

@@ -3,7 +3,6 @@ use mathlib.Core.Path.{ap, ◌∙◌}
 use Prim.Native.Nat.{◌-◌}
 use native.Mathlib.Omega.{arith}
 use lib.ListN.{drop}
-use borrow.Author.Rules.{rules}
 use Rattle.text.specs.Reading.{front, integer}
 use Rattle.text.proofs.Numbers.{integer-back}
 use Rattle.text.proofs.Scans.{word_in}

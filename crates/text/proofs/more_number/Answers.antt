@@ -1,5 +1,4 @@
 -- `text::more_number` meets its contract.
-use borrow.Author.Rules.{rules}
 use Rattle.text.proofs.Written.{wrote_then}
 use Rattle.text.proofs.more_number.Goals as goal
 

@@ -5,7 +5,6 @@ use native.Mathlib.Omega.{arith}
 use lib.IntN.{ℤ}
 use mir.Syntax.{w32}
 use mir.ValLaws.{to_z-of_z}
-use borrow.Author.Rules.{rules}
 use Rattle.text.specs.Text.{signed}
 use Rattle.text.proofs.Written.{wrote_then, wrote-within}
 use Rattle.text.proofs.more_signed.Goals as goal

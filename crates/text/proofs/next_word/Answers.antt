@@ -1,6 +1,5 @@
 -- `text::next_word` meets its contract.
 use native.Mathlib.Omega.{arith}
-use borrow.Author.Rules.{rules}
 use Rattle.text.proofs.Scans.{behind-in, behind-none}
 use Rattle.text.proofs.next_word.Goals as goal
 

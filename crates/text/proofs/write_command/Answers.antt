@@ -7,7 +7,7 @@ use borrow.Author.Rules.{rules}
 use Rattle.text.specs.Commands.{command_text}
 use Rattle.text.specs.Text.{decimal, signed}
 use Rattle.text.proofs.Printed.{third-text, joined_as}
-use Rattle.text.proofs.Written.{wrote_then, wrote-within, wrote_none}
+use Rattle.text.proofs.Written.{wrote_then, wrote-within}
 use Rattle.text.proofs.write_command.Goals as goal
 
 pub returns-in-Add : goal.returns-in-Add
@@ -56,8 +56,3 @@ returns-in-Top c =
     wrote-within 37 (command_text c.args.c) (omega arith)
     (third-text 94 x y (decimal n) ex ey refl ∙ sym (ap command_text g.is))
     (wrote_then c.write_two-p-in-Top.ensures c.more_number-in-Top.ensures)
-
-pub returns-in-Bad : goal.returns-in-Bad
-returns-in-Bad c =
-    wrote-within 37 (command_text c.args.c) (omega arith)
-    (sym (ap command_text c.in-Bad.is)) (wrote_none c.args.out.now 0)

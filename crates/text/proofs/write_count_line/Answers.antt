@@ -1,6 +1,5 @@
 -- `text::write_count_line` meets its contract.
 use native.Mathlib.Omega.{arith}
-use borrow.Author.Rules.{rules}
 use Rattle.text.specs.Text.{count_line}
 use Rattle.text.proofs.Printed.{count-text}
 use Rattle.text.proofs.Written.{wrote_then, wrote-within}

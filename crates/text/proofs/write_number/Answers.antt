@@ -1,14 +1,13 @@
 -- `text::write_number` meets its contract.
 use mathlib.Core.Path.{refl}
 use native.Mathlib.Omega.{arith}
-use borrow.Author.Rules.{rules}
 use Rattle.text.specs.Text.{decimal}
 use Rattle.text.proofs.Decimal.{decimal-length}
 use Rattle.text.proofs.Written.{wrote-within}
 use Rattle.text.proofs.write_number.Goals as goal
 
 pub put_digits-requires : goal.put_digits-requires
-put_digits-requires c = (omega (arith, decimal-length c.args.n), c.ranges.n.fits)
+put_digits-requires c = omega (arith, decimal-length c.args.n)
 
 pub returns : goal.returns
 returns c =

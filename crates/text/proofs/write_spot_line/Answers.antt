@@ -2,7 +2,6 @@
 use native.Mathlib.Omega.{arith}
 use mir.Syntax.{w32}
 use mir.ValLaws.{to_z-of_z}
-use borrow.Author.Rules.{rules}
 use Rattle.text.specs.Text.{spot_line}
 use Rattle.text.proofs.Printed.{spot-text}
 use Rattle.text.proofs.Written.{wrote_then, wrote-within}

@@ -3,7 +3,6 @@ use mathlib.Core.List.{[], ◌∷◌}
 use native.Mathlib.Omega.{arith}
 use mir.Syntax.{w32}
 use mir.ValLaws.{to_z-of_z}
-use borrow.Author.Rules.{rules}
 use Rattle.text.specs.Text.{signed, joined}
 use Rattle.text.proofs.Printed.{two-text}
 use Rattle.text.proofs.Written.{wrote_then, wrote-within}

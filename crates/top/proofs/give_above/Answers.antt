@@ -1,29 +1,17 @@
 -- `top::give_above` meets its contract: each turn gives the spot of the first row, or no spot reaches the floor.
 use mathlib.Core.Logic.{inr}
-use mathlib.Core.Path.{◌≡◌, refl, ◌∙◌}
-use Prim.Native.Nat.{◌-◌, ◌/◌, ◌≤◌}
+use mathlib.Core.Path.{◌∙◌}
+use Prim.Native.Nat.{◌/◌, ◌≤◌}
 use native.Mathlib.Omega.{arith}
-use lib.ListN.{length}
-use borrow.Author.Rules.{rules}
 use Rattle.top.specs.Rows.{first_key}
-use Rattle.top.specs.Runs.{Passes}
-use Rattle.top.proofs.Gives.{give-on, give-none, give-step, give_at, give-ends, leads, movable}
+use Rattle.top.proofs.Gives.{give-on, give-step, give_at, leads, movable}
 use Rattle.top.proofs.give_above.Goals as goal
-
-pub loop-j-init : goal.loop-j-init
-loop-j-init c = (refl, refl, give-none)
 
 pub slice_copy_out-row : goal.slice_copy_out-row
 slice_copy_out-row c =
     let p = c.requires in
     let l = c.loop-j in
     omega (arith, (give_at p l.invariant.2).headed.held.room, (give-on l.j c.args.k l.left c.loop-j-test.true).1)
-
-pub shape_of-heads-then-row-floor : goal.shape_of-heads-then-row-floor
-shape_of-heads-then-row-floor c = c.loop-j.invariant.0
-
-pub shape_of-out-then-row-floor : goal.shape_of-out-then-row-floor
-shape_of-out-then-row-floor c = c.loop-j.invariant.1
 
 pub returns-then-row-floor : goal.returns-then-row-floor
 returns-then-row-floor c =
@@ -90,12 +78,3 @@ loop-j-preserved c =
       at-put.auto.out ∙ l.invariant.1,
       give-step l.invariant.2 on.1 on.0 over at-lead.ensures at-put.ensures at-move.ensures,
     )
-
-pub shape_of-heads : goal.shape_of-heads
-shape_of-heads c = c.loop-j.invariant.0
-
-pub shape_of-out : goal.shape_of-out
-shape_of-out c = c.loop-j.invariant.1
-
-pub returns : goal.returns
-returns c = let l = c.loop-j in record { passes = l.invariant.2; ends = give-ends l.j c.args.k l.left c.loop-j-test.false }

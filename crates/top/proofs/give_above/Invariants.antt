@@ -1,13 +1,8 @@
 -- `top::give_above` meets its contract: each turn gives the spot of the first row, or no spot reaches the floor.
-use mathlib.Core.Logic.{inr}
-use mathlib.Core.Path.{◌≡◌, refl, ◌∙◌}
-use Prim.Native.Nat.{◌-◌, ◌/◌, ◌≤◌}
-use native.Mathlib.Omega.{arith}
+use mathlib.Core.Path.{◌≡◌}
+use Prim.Native.Nat.{◌-◌}
 use lib.ListN.{length}
-use borrow.Author.Rules.{rules}
-use Rattle.top.specs.Rows.{first_key}
 use Rattle.top.specs.Runs.{Passes}
-use Rattle.top.proofs.Gives.{give-on, give-none, give-step, give_at, give-ends, leads, movable}
 use Rattle.top.proofs.give_above.Given as goal
 
 abbrev pub invariant-loop-j : goal.invariant-loop-j

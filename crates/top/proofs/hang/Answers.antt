@@ -1,16 +1,17 @@
 -- `top::hang` meets its contract.
-use mir.Syntax.{w64}
-use borrow.Kind.Array.{e_int, good_length}
-use borrow.Author.Tests.{not-true, not-false}
-use borrow.Author.Rules.{rules}
+use mathlib.Core.List.{[]}
+use mathlib.Core.Path.{sym, subst}
+use Prim.Native.Nat.{◌+◌}
+use Rattle.std.specs.Option.{unwrap_or}
+use Rattle.top.specs.Rows.{Hung}
 use Rattle.top.proofs.Heaps.{hung-none, hung-some}
 use Rattle.top.proofs.hang.Goals as goal
 
-pub returns-then-not-some : goal.returns-then-not-some
-returns-then-not-some c = let a = c.args in hung-none a.h.now a.m a.x {some = a.some} c.if-not-some.true
+pub returns-in_default : goal.returns-in_default
+returns-in_default c = let a = c.args in subst (λ o. Hung a.h.now a.m (unwrap_or o []) a.h.now a.m) (sym c.in_default.is) (hung-none a.h.now a.m)
 
 pub returns : goal.returns
 returns c =
     let a = c.args in
-    let two = good_length (e_int w64) 2 a.x _ c.well_formed.1.1.1.0 in
-    hung-some a.h.now a.m a.x {some = a.some} c.if-not-some.false two c.requires.0 c.push.ensures
+    let two = rw c.in-Some.is at c.well_formed.1.1.0 in
+    subst (λ o. Hung a.h.now a.m (unwrap_or o []) c.push.new.h (a.m + 1)) (sym c.in-Some.is) (hung-some a.h.now a.m two.1.1.1.1.0.1.0.1 c.requires.0 c.push.ensures)

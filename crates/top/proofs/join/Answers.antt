@@ -4,16 +4,12 @@ use mathlib.Core.Path.{refl}
 use Prim.Native.Nat.{◌+◌}
 use native.Mathlib.Omega.{arith}
 use lib.ListN.{set}
-use borrow.Author.Rules.{rules}
 use Rattle.frontier.proofs.Chains.{hangs-valid}
 use Rattle.frontier.proofs.Spots.{spots-most}
 use Rattle.frontier.proofs.Ladders.{laddered-small}
 use Rattle.frontier.specs.Frontier.{Hangs}
 use Rattle.top.proofs.Heaps.{hung-as}
 use Rattle.top.proofs.join.Goals as goal
-
-pub first_pick-best-requires : goal.first_pick-best-requires
-first_pick-best-requires c = let p = c.requires in record { n = c.args.z.slots + 1; inside = omega arith; chain = p.chain }
 
 pub head_row-head-requires : goal.head_row-head-requires
 head_row-head-requires c =
@@ -35,5 +31,5 @@ returns c =
       headed = hung-as c.head_row-head.ensures c.hang-spots.ensures;
       kid = at-kid.result;
       best = at-kid.ensures;
-      hung = c.hang-unread.ensures;
+      hung = hung-as c.kid_row-row.ensures c.hang-unread.ensures;
     }

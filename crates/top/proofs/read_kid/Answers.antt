@@ -2,7 +2,6 @@
 use mathlib.Core.Bool.{true≢false}
 use mathlib.Core.Path.{refl, sym, ◌∙◌}
 use native.Mathlib.Omega.{arith}
-use borrow.Author.Rules.{rules}
 use Rattle.top.proofs.read_kid.Goals as goal
 
 pub leads_with-requires : goal.leads_with-requires

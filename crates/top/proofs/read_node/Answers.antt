@@ -1,9 +1,8 @@
 -- `top::read_node` meets its contract: read before, a rule broken, or added to the frontier.
-use mathlib.Core.Bool.{true≢false, false≢true}
+use mathlib.Core.Bool.{false≢true}
 use mathlib.Core.Logic.{inl, inr}
-use mathlib.Core.Path.{sym, ◌∙◌}
-use borrow.Author.Tests.{not-true, not-false}
-use borrow.Author.Rules.{rules}
+use mathlib.Core.Path.{◌≡◌, sym, subst, ◌∙◌}
+use Rattle.top.specs.Runs.{Added}
 use Rattle.top.proofs.read_node.Goals as goal
 
 pub returns-then-test_bit : goal.returns-then-test_bit
@@ -13,7 +12,7 @@ returns-then-test_bit c =
       new = λ e. absurd (false≢true e);
       valid = λ e. absurd (false≢true e);
       marked = λ e. absurd (false≢true e);
-      added = λ e. absurd (false≢true e);
+      added = λ z' e. let y : ⊥ = cc in absurd y;
     }
 
 pub returns-then-not-block_ok : goal.returns-then-not-block_ok
@@ -23,25 +22,16 @@ returns-then-not-block_ok c =
       new = λ e. absurd (false≢true e);
       valid = λ e. absurd (false≢true e);
       marked = λ e. absurd (false≢true e);
-      added = λ e. absurd (false≢true e);
+      added = λ z' e. let y : ⊥ = cc in absurd y;
     }
-
-pub join-sizes-requires : goal.join-sizes-requires
-join-sizes-requires c =
-    let at_Ok = c.block_ok in
-    let valid = c.if-not-block_ok in
-    c.requires.joins (sym at_Ok.ensures ∙ valid.false)
 
 pub returns : goal.returns
 returns c =
-    let at_test = c.test_bit in
-    let unread = c.if-test_bit in
-    let at_Ok = c.block_ok in
-    let valid = c.if-not-block_ok in
+    let a = c.args in
     record {
-      broken = λ e. absurd (true≢false e);
-      new = λ e. sym at_test.ensures ∙ unread.false;
-      valid = λ e. sym at_Ok.ensures ∙ valid.false;
+      broken = λ e. let y : ⊥ = cc in absurd y;
+      new = λ e. sym c.test_bit.ensures ∙ c.if-test_bit.false;
+      valid = λ e. sym c.block_ok.ensures ∙ c.if-not-block_ok.false;
       marked = λ e. c.set_bit.ensures;
-      added = λ e. c.join-sizes.ensures;
+      added = λ z' e. let y : c.join.result ≡ z' = cc in subst (λ z. Added a.t.now a.q a.rows.now c.join.new.rows a.kids.now c.join.new.kids a.heads.now c.join.new.heads a.z z a.place a.up) y c.join.ensures;
     }

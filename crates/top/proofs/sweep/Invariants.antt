@@ -1,14 +1,9 @@
 -- `top::sweep` meets its contract: each turn gives what no unread part can outdo, and reads the child that promises most.
-use mathlib.Core.Bool.{true≢false, false≢true}
-use mathlib.Core.Path.{◌≡◌, refl, sym, ◌∙◌}
+use mathlib.Core.Path.{◌≡◌}
 use Prim.Native.Nat.{◌-◌, ◌≤◌}
-use native.Mathlib.Omega.{arith}
 use lib.ListN.{length}
-use borrow.Author.Rules.{rules}
-use borrow.Author.Tests.{not-true, not-false}
-use Rattle.tree.proofs.Sources.{header-few}
 use Rattle.top.specs.Runs.{Swept}
-use Rattle.top.proofs.Sweeps.{Lens, swept-givable, gave-swept, all-given, kid-next, kid-stuck, kid-swept, kid-slots, kid-allowed, swept-few, swept-behind, searched-broken, searched-short}
+use Rattle.top.proofs.Sweeps.{Lens}
 use Rattle.top.proofs.sweep.Given as goal
 
 abbrev pub invariant-loop-z : goal.invariant-loop-z

@@ -1,7 +1,6 @@
 -- `top::take_kid` meets its contract: the child of the first row, and the next of its parent in its place.
 use mathlib.Core.Path.{refl, ap, ap₂, sym, subst, ◌∙◌}
 use Prim.Native.Nat.{◌-◌, ◌%◌, ◌≤◌, ◌<◌}
-use borrow.Author.Rules.{rules}
 use Rattle.block.specs.NodeRules.{ValidBlock}
 use Rattle.block.specs.declared.Entry.{Entry}
 use Rattle.visit.specs.declared.Span.{Span}
@@ -10,6 +9,7 @@ use Rattle.frontier.specs.Picks.{KidBest}
 use Rattle.frontier.specs.Frontier.{kid_count, kid_entry, kid_place}
 use Rattle.frontier.specs.declared.Place.{Place}
 use Rattle.top.specs.Rows.{first_key, first_value}
+use Rattle.top.proofs.Heaps.{lowered-as}
 use Rattle.top.proofs.take_kid.Goals as goal
 
 pub best_kid-next-requires : goal.best_kid-next-requires
@@ -47,5 +47,5 @@ returns c =
       up = refl;
       next = at_next.result;
       best = subst (λ (p : Place). KidBest a.t.now p.block p.span a.q (first_key a.kids.now - 1) at_next.result) at_place.ensures at_next.ensures;
-      lowered = at-lower.ensures;
+      lowered = lowered-as c.kid_row-lower_row.ensures at-lower.ensures;
     }

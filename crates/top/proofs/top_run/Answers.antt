@@ -1,6 +1,5 @@
 -- `top::top_run` meets its contract: no table has so many blocks.
 use native.Mathlib.Omega.{arith}
-use borrow.Author.Rules.{rules}
 use Rattle.top.proofs.Sweeps.{run-top}
 use Rattle.top.proofs.top_run.Goals as goal
 

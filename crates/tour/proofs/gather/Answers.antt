@@ -1,13 +1,10 @@
 -- `tour::gather` meets its contract: block after block, what is read so far is marked, in order, and its spots stand at the front of the buffer.
-use mathlib.Core.Path.{◌≡◌, refl, sym, ap, subst, ◌∙◌}
-use mathlib.Core.Logic.{⊎_elim}
+use mathlib.Core.Path.{◌≡◌, sym, ap, subst, ◌∙◌}
 use mathlib.Core.Bool.{true}
 use mathlib.Core.List.{List}
-use Prim.Native.Nat.{ℕ, ◌-◌, ◌*◌, ◌+◌, ◌<◌, ◌≤◌}
+use Prim.Native.Nat.{ℕ, ◌*◌, ◌+◌, ◌<◌, ◌≤◌}
 use native.Mathlib.Omega.{arith}
 use lib.ListN.{length, length-replicate}
-use borrow.Author.Tests.{not-true, not-false}
-use borrow.Author.Rules.{rules}
 use Rattle.octets.proofs.Bits.{set_bit-length}
 use Rattle.block.specs.Table.{blocks_of, block}
 use Rattle.block.proofs.Frames.{block-length, part-is}
@@ -16,7 +13,7 @@ use Rattle.catalogue.proofs.Lengths.{Lengths, sized-lengths}
 use Rattle.catalogue.specs.Reading.{LimitedEntry}
 use Rattle.catalogue.proofs.Facts.{entry_of}
 use Rattle.tour.specs.Gathering.{Gatherable}
-use Rattle.tour.proofs.Steps.{ReadTo, read-start, read_as, seen-length, read-skip, read-stop, read-gatherable, read_next, read-end}
+use Rattle.tour.proofs.Steps.{read-start, read_as, seen-length, read-skip, read-stop, read-gatherable, read_next, read-end}
 use Rattle.tour.proofs.gather.Goals as goal
 use Rattle.tour.proofs.gather.Goals.{then-asks+else-not-tile_ok, else-asks, In-loop-b, At-loop-b, After-asks, After-tile_ok}
 
@@ -65,14 +62,8 @@ read_entry-e-requires c =
       below = more (goal.at.read_entry-e-requires c).In-loop-b;
     }
 
-pub overflow_mul-from : goal.overflow_mul-from
-overflow_mul-from c = let l = low (goal.at.overflow_mul-from c).In-loop-b in omega arith
-
-pub overflow_add-to : goal.overflow_add-to
-overflow_add-to c = let l = low (goal.at.overflow_add-to c).In-loop-b in omega arith
-
-pub slice_bounds-tile_ok-end : goal.slice_bounds-tile_ok-end
-slice_bounds-tile_ok-end c = omega (arith, inside (goal.at.slice_bounds-tile_ok-end c).In-loop-b)
+pub slice_bounds-tile-end : goal.slice_bounds-tile-end
+slice_bounds-tile-end c = omega (arith, inside (goal.at.slice_bounds-tile-end c).In-loop-b)
 
 pub tile_ok-requires : goal.tile_ok-requires
 tile_ok-requires c =
@@ -100,14 +91,11 @@ module _ (c : After-tile_ok) where
 pub returns-then-not-tile_ok : goal.returns-then-not-tile_ok
 returns-then-not-tile_ok c =
     read-stop (tour (goal.at.returns-then-not-tile_ok c).In-loop-b) c.args.q c.loop-b.invariant (more (goal.at.returns-then-not-tile_ok c).In-loop-b) (entry (goal.at.returns-then-not-tile_ok c).After-asks) (sym c.asks.ensures ∙ c.if-asks.true)
-    (sym (fine-is (goal.at.returns-then-not-tile_ok c).After-tile_ok) ∙ c.if-not-tile_ok.true) refl refl
+    (sym (fine-is (goal.at.returns-then-not-tile_ok c).After-tile_ok) ∙ c.if-not-tile_ok.true)
 
 pub set_bit-requires : goal.set_bit-requires
 set_bit-requires c =
     omega (arith, low (goal.at.set_bit-requires c).In-loop-b, seen-length (tour (goal.at.set_bit-requires c).In-loop-b) c.args.q c.loop-b.invariant)
-
-pub slice_bounds-gather_tile-end : goal.slice_bounds-gather_tile-end
-slice_bounds-gather_tile-end c = omega (arith, inside (goal.at.slice_bounds-gather_tile-end c).In-loop-b)
 
 pub gather_tile-n-requires : goal.gather_tile-n-requires
 gather_tile-n-requires c =
@@ -115,19 +103,6 @@ gather_tile-n-requires c =
     subst (λ (s : List ℕ). Gatherable s e c.loop-b.found c.loop-b.n) (sym (part-is (tour (goal.at.gather_tile-n-requires c).In-loop-b) (b (goal.at.gather_tile-n-requires c).In-loop-b)))
     (read-gatherable (tour (goal.at.gather_tile-n-requires c).In-loop-b) c.args.q c.loop-b.invariant (more (goal.at.gather_tile-n-requires c).In-loop-b) (entry (goal.at.gather_tile-n-requires c).After-asks) (sym c.asks.ensures ∙ c.if-asks.true)
     (sym (fine-is (goal.at.gather_tile-n-requires c).After-tile_ok) ∙ c.if-not-tile_ok.false) c.requires.sized (facts (goal.at.gather_tile-n-requires c).After-asks))
-
-pub overflow_add-n : goal.overflow_add-n
-overflow_add-n c =
-    let l = low (goal.at.overflow_add-n c).In-loop-b in
-    let f = c.loop-b.invariant.few in
-    let g = c.gather_tile-n.ensures.1 in
-    omega arith
-
-pub overflow_add-b : goal.overflow_add-b
-overflow_add-b c = let l = low (goal.at.overflow_add-b c).In-loop-b in omega arith
-
-pub loop-b-smaller : goal.loop-b-smaller
-loop-b-smaller c = let l = more (goal.at.loop-b-smaller c).In-loop-b in omega arith
 
 pub loop-b-preserved : goal.loop-b-preserved
 loop-b-preserved c =
@@ -161,4 +136,4 @@ shape_of-found c = buffer-long (goal.at.shape_of-found c).At-loop-b
 pub returns : goal.returns
 returns c =
     let ended : blocks_of (length c.args.tour.now) ≤ c.loop-b.b = omega arith in
-    read-end c.args.tour.now c.args.q c.loop-b.invariant c.requires.sized ended c.set_bit-2.ensures refl refl
+    read-end c.args.tour.now c.args.q c.loop-b.invariant c.requires.sized ended c.set_bit-2.ensures

@@ -1,5 +1,4 @@
 -- `tour::gather_tile` meets its contract: a block is a run with nothing above it.
-use borrow.Author.Rules.{rules}
 use Rattle.visit.proofs.Gathering.{gathered-root}
 use Rattle.tour.proofs.Tiles.{tile-mergeable, tile-collected}
 use Rattle.tour.proofs.gather_tile.Goals as goal

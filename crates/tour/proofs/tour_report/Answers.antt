@@ -6,7 +6,6 @@ use Prim.Native.Nat.{ℕ}
 use lib.ListN.{length}
 use mir.Syntax.{w32}
 use mir.ValLaws.{to_z-of_z}
-use borrow.Author.Tests.{not-true, not-false}
 use borrow.Author.Rules.{rules}
 use native.Mathlib.Omega.{arith}
 use Rattle.spot.specs.Query.{query}
@@ -19,12 +18,12 @@ use Rattle.catalogue.specs.Catalogue.{tour_sized, catalogue_fine}
 use Rattle.catalogue.proofs.Lengths.{sized-lengths}
 use Rattle.tour.proofs.Answering.{read-for, tour-short, tour-lent, tour-uncatalogued, tour-broken, tour-many, tour-given}
 use Rattle.tour.proofs.tour_report.Goals as goal
-use Rattle.tour.proofs.tour_report.Goals.{Else-not-sized, Else-read_map-ne512, Else-not-catalogue_ok, After-gather-all, Else-output-n}
+use Rattle.tour.proofs.tour_report.Goals.{Else-not-sized, Else-read_map-ne512, Else-not-catalogue_ok, After-gather, Else-output-n}
 
 pub returns-then-not-sized : goal.returns-then-not-sized
 returns-then-not-sized c =
     let args = c.args in
-    tour-short _ _ _ args.tour.now _ _ _ (sym c.sized.ensures ∙ c.if-not-sized.true) c.plain_answer.ensures
+    tour-short _ _ _ args.tour.now _ _ _ (sym c.sized.ensures ∙ c.if-not-sized.true) refl
 
 -- the tour has 1 to 16 whole blocks
 long : (c : Else-not-sized) → tour_sized (length c.args.tour.now) ≡ true
@@ -33,7 +32,7 @@ long c = sym c.sized.ensures ∙ c.if-not-sized.false
 pub returns-then-read_map-ne512 : goal.returns-then-read_map-ne512
 returns-then-read_map-ne512 c =
     let args = c.args in
-    tour-lent _ _ _ args.tour.now _ args.read_map.now _ (long (goal.at.returns-then-read_map-ne512 c).Else-not-sized) (λ h. omega (arith, h, c.if-read_map-ne512.true)) c.plain_answer-then-read_map-ne512.ensures
+    tour-lent _ _ _ args.tour.now _ args.read_map.now _ (long (goal.at.returns-then-read_map-ne512 c).Else-not-sized) (λ h. omega (arith, h, c.if-read_map-ne512.true)) refl
 
 -- and the map its bytes
 module _ (c : Else-read_map-ne512) where
@@ -53,57 +52,44 @@ catalogue_ok-requires c =
 
 pub returns-then-not-catalogue_ok : goal.returns-then-not-catalogue_ok
 returns-then-not-catalogue_ok c =
-    tour-uncatalogued _ _ _ (tour (goal.at.returns-then-not-catalogue_ok c).Else-read_map-ne512) _ _ _ (long (goal.at.returns-then-not-catalogue_ok c).Else-not-sized) (mapped (goal.at.returns-then-not-catalogue_ok c).Else-read_map-ne512) (sym c.catalogue_ok.ensures ∙ c.if-not-catalogue_ok.true) c.plain_answer-then-not-catalogue_ok.ensures
+    tour-uncatalogued _ _ _ (tour (goal.at.returns-then-not-catalogue_ok c).Else-read_map-ne512) _ _ _ (long (goal.at.returns-then-not-catalogue_ok c).Else-not-sized) (mapped (goal.at.returns-then-not-catalogue_ok c).Else-read_map-ne512) (sym c.catalogue_ok.ensures ∙ c.if-not-catalogue_ok.true) refl
 
 -- the catalogue is in order
 module _ (c : Else-not-catalogue_ok) where
   listed : catalogue_fine (length c.args.tour.now) (block c.args.tour.now 0) ≡ true
   listed = sym c.catalogue_ok.ensures ∙ c.if-not-catalogue_ok.false
 
-pub gather-all-requires : goal.gather-all-requires
-gather-all-requires c = record { sized = long (goal.at.gather-all-requires c).Else-not-sized; catalogue = listed (goal.at.gather-all-requires c).Else-not-catalogue_ok; blank = refl; buffer = refl }
+pub gather-requires : goal.gather-requires
+gather-requires c = record { sized = long (goal.at.gather-requires c).Else-not-sized; catalogue = listed (goal.at.gather-requires c).Else-not-catalogue_ok; blank = refl; buffer = refl }
 
 -- the blocks are read
-module _ (c : After-gather-all) where
+module _ (c : After-gather) where
   same : c.make_query-q.result ≡ query c.args.x1 c.args.x2 c.args.y
   same =
       let fits = c.ranges in
       query-same _ _ _ _ _ _ _ (to_z-of_z w32 _ fits.x1) (to_z-of_z w32 _ fits.x2) (to_z-of_z w32 _ fits.y) c.make_query-q.ensures
 
-pub returns-then-not-all : goal.returns-then-not-all
-returns-then-not-all c =
-    tour-broken _ _ _ (tour (goal.at.returns-then-not-all c).Else-read_map-ne512) _ _ _ (long (goal.at.returns-then-not-all c).Else-not-sized) (mapped (goal.at.returns-then-not-all c).Else-read_map-ne512) (listed (goal.at.returns-then-not-all c).Else-not-catalogue_ok) (read-for (same (goal.at.returns-then-not-all c).After-gather-all) c.gather-all.ensures) (not-true _ c.if-not-all.true) c.plain_answer-then-not-all.ensures
-
-pub spots_answer-requires : goal.spots_answer-requires
-spots_answer-requires c = c.gather-all.ensures.few
+pub returns-in_default : goal.returns-in_default
+returns-in_default c =
+    tour-broken _ _ _ (tour (goal.at.returns-in_default c).Else-read_map-ne512) _ _ _ (long (goal.at.returns-in_default c).Else-not-sized) (mapped (goal.at.returns-in_default c).Else-read_map-ne512) (listed (goal.at.returns-in_default c).Else-not-catalogue_ok) (same (goal.at.returns-in_default c).After-gather) c.in_default.ensures refl
 
 pub returns-then-output-n : goal.returns-then-output-n
 returns-then-output-n c =
-    tour-many _ _ _ (tour (goal.at.returns-then-output-n c).Else-read_map-ne512) _ _ _ (long (goal.at.returns-then-output-n c).Else-not-sized) (mapped (goal.at.returns-then-output-n c).Else-read_map-ne512) (listed (goal.at.returns-then-output-n c).Else-not-catalogue_ok) (read-for (same (goal.at.returns-then-output-n c).After-gather-all) c.gather-all.ensures) (not-false _ c.if-not-all.false) (omega (arith, c.if-output-n.true)) c.spots_answer.ensures
+    tour-many _ _ _ (tour (goal.at.returns-then-output-n c).Else-read_map-ne512) _ _ _ (long (goal.at.returns-then-output-n c).Else-not-sized) (mapped (goal.at.returns-then-output-n c).Else-read_map-ne512) (listed (goal.at.returns-then-output-n c).Else-not-catalogue_ok) (read-for (same (goal.at.returns-then-output-n c).After-gather) c.in-Some.ensures) (omega (arith, c.if-output-n.true)) refl
 
 -- all is in order, and the output has room for the spots
 module _ (c : Else-output-n) where
-  abbrev count : ℕ
-  count = c.gather-all.result.spots
-
-  ok : c.gather-all.result.ok ≡ true
-  ok = not-false _ c.if-not-all.false
-
-  turnable : Turnable c.gather-all.new.found c.args.output.now count
+  turnable : Turnable c.gather.new.found c.args.output.now c.in-Some.n
   turnable =
-      let few = c.gather-all.ensures.few in
-      record { held = omega (arith, few, c.gather-all.auto.found); room = omega (arith, c.if-output-n.false); order = c.gather-all.ensures.order ok }
+      let few = c.in-Some.ensures.few in
+      record { held = omega (arith, few, c.gather.auto.found); room = omega (arith, c.if-output-n.false); order = c.in-Some.ensures.order }
 
 pub from_on-requires : goal.from_on-requires
 from_on-requires c =
     turn-asks _ _ (omega (arith, (turnable (goal.at.from_on-requires c).Else-output-n).room, c.copy.auto.to)) (held-order (turnable (goal.at.from_on-requires c).Else-output-n) c.copy.ensures)
 
-pub spots_answer-requires-2 : goal.spots_answer-requires-2
-spots_answer-requires-2 c =
-    c.gather-all.ensures.few
-
 pub returns : goal.returns
 returns c =
-    tour-given _ _ _ (tour (goal.at.returns c).Else-read_map-ne512) _ _ _ (long (goal.at.returns c).Else-not-sized) (mapped (goal.at.returns c).Else-read_map-ne512) (listed (goal.at.returns c).Else-not-catalogue_ok) (read-for (same (goal.at.returns c).After-gather-all) c.gather-all.ensures) (ok (goal.at.returns c).Else-output-n) _ _ (omega (arith, c.if-output-n.false)) c.spots_answer-2.ensures
-    (held-turned (turnable (goal.at.returns c).Else-output-n) (same (goal.at.returns c).After-gather-all) c.from_key.ensures c.copy.ensures c.from_on.ensures c.copy.auto.to (λ i. omega (arith, c.slice_known-4-1.given i)))
-    (map_is _ c.args.read_map.now _ c.gather-all.auto.seen (mapped (goal.at.returns c).Else-read_map-ne512) c.copy-2.ensures)
+    tour-given _ _ _ (tour (goal.at.returns c).Else-read_map-ne512) _ _ _ (long (goal.at.returns c).Else-not-sized) (mapped (goal.at.returns c).Else-read_map-ne512) (listed (goal.at.returns c).Else-not-catalogue_ok) (read-for (same (goal.at.returns c).After-gather) c.in-Some.ensures) _ _ (omega (arith, c.if-output-n.false)) refl
+    (held-turned (turnable (goal.at.returns c).Else-output-n) (same (goal.at.returns c).After-gather) c.from_key.ensures c.copy.ensures c.from_on.ensures c.copy.auto.to (λ i. search rules))
+    (map_is _ c.args.read_map.now _ c.gather.auto.seen (mapped (goal.at.returns c).Else-read_map-ne512) c.copy-2.ensures)

@@ -1,5 +1,4 @@
 -- `vectors::ask_within` meets its contract: the call is lent the front of the output.
-use Rattle.std.proofs.Common.{rules}
 use Rattle.table.proofs.Given.{inside-longer}
 use Rattle.vectors.proofs.ask_within.Goals as goal
 

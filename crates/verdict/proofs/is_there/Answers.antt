@@ -1,6 +1,6 @@
 -- `verdict::is_there` meets its contract: the row at the place of the key has the last word, else the look-up.
 use Rattle.verdict.proofs.Placed.{behind-there, other-there, row-there}
-use borrow.Author.Rules.{rules}
+use Rattle.std.proofs.Common.{Bool, Ok, ap}
 use Rattle.verdict.proofs.is_there.Goals as goal
 
 pub position-p-requires : goal.position-p-requires
@@ -16,4 +16,4 @@ returns-then-rows-p c =
 
 pub returns : goal.returns
 returns c =
-    row-there c.position-p.ensures c.args.table.now c.requires.1 c.if-r-p.false c.if-rows-p.false c.there_as.ensures
+    row-there c.position-p.ensures c.args.table.now c.requires.1 c.if-r-p.false c.if-rows-p.false (ap (λ (b : Bool). Ok b) c.is_some.ensures)

@@ -1,6 +1,5 @@
 -- `verdict::one_less` meets its contract: by whether there is one.
 use Rattle.verdict.proofs.Steps.{less_none, less_one}
-use borrow.Author.Rules.{rules}
 use native.Mathlib.Omega.{arith}
 use Rattle.verdict.proofs.one_less.Goals as goal
 

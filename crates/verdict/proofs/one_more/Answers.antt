@@ -1,6 +1,5 @@
 -- `verdict::one_more` meets its contract: by whether there is room.
 use Rattle.verdict.proofs.Steps.{more-full, more_room}
-use borrow.Author.Rules.{rules}
 use native.Mathlib.Omega.{arith}
 use Rattle.verdict.proofs.one_more.Goals as goal
 

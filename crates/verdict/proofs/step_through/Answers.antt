@@ -1,11 +1,10 @@
 -- `verdict::step_through` meets its contract: the loop keeps `Turn`.
-use Prim.Native.Nat.{ℕ, ◌+◌, ◌-◌}
+use Prim.Native.Nat.{ℕ, ◌+◌}
 use mathlib.Core.Logic.{inl}
 use mathlib.Core.Path.{refl, ap, ◌∙◌}
 use Rattle.message.proofs.Cursor.{accepted-message}
 use Rattle.rows.specs.Rows.{row_of}
-use Rattle.verdict.proofs.Turns.{Turn, turn-start, turn-next, turn-change, turn-fits, turn-stops, turn-goes, turn-ends}
-use borrow.Author.Rules.{rules}
+use Rattle.verdict.proofs.Turns.{turn-start, turn-next, turn-change, turn-fits, turn-stops, turn-goes, turn-ends}
 use native.Mathlib.Omega.{arith}
 use Rattle.verdict.proofs.step_through.Goals as goal
 
@@ -19,21 +18,17 @@ loop-i-init c =
 pub change_at-requires : goal.change_at-requires
 change_at-requires c = turn-change c.loop-i.invariant c.loop-i-test.true
 
-pub next_of-next-requires : goal.next_of-next-requires
-next_of-next-requires c =
+pub next_of-requires : goal.next_of-requires
+next_of-requires c =
     (c.requires.0.sized, c.loop-i.invariant.rows)
 
 pub refused_at-requires : goal.refused_at-requires
 refused_at-requires c =
     omega (arith, c.count_of-n.ensures.1, c.loop-i-test.true)
 
-pub shape_of-rows-then-next-ne0 : goal.shape_of-rows-then-next-ne0
-shape_of-rows-then-next-ne0 c =
-    c.loop-i.invariant.sized
-
-pub returns-then-next-ne0 : goal.returns-then-next-ne0
-returns-then-next-ne0 c =
-    turn-stops c.loop-i.invariant c.loop-i-test.true c.requires.1 (c.row_of-x.ensures.0 ∙ ap row_of c.change_at.ensures) c.next_of-next.ensures c.if-next-ne0.true c.refused_at.ensures
+pub returns-in-Err : goal.returns-in-Err
+returns-in-Err c =
+    turn-stops c.loop-i.invariant c.loop-i-test.true c.requires.1 (c.row_of-x.ensures.0 ∙ ap row_of c.change_at.ensures) c.in-Err.ensures c.refused_at.ensures
 
 pub put_row-r-requires : goal.put_row-r-requires
 put_row-r-requires c =
@@ -51,17 +46,13 @@ pub overflow_add-at : goal.overflow_add-at
 overflow_add-at c =
     omega (arith, (turn-next c.loop-i.invariant c.loop-i-test.true).inside, c.size_of-at.ensures)
 
-pub overflow_add-i : goal.overflow_add-i
-overflow_add-i c =
-    omega (arith, c.count_of-n.ensures.1, c.loop-i-test.true)
-
 pub loop-i-preserved : goal.loop-i-preserved
 loop-i-preserved c =
-    turn-goes c.loop-i.invariant c.loop-i-test.true c.requires.1 (c.row_of-x.ensures.0 ∙ ap row_of c.change_at.ensures) c.next_of-next.ensures c.if-next-ne0.false c.put_row-r.ensures
+    turn-goes c.loop-i.invariant c.loop-i-test.true c.requires.1 (c.row_of-x.ensures.0 ∙ ap row_of c.change_at.ensures) c.in-Ok.ensures c.put_row-r.ensures
     (ap (λ (j : ℕ). c.loop-i.at + j) c.size_of-at.ensures) (omega arith)
 
 pub shape_of-rows : goal.shape_of-rows
 shape_of-rows c = c.loop-i.invariant.sized
 
 pub returns : goal.returns
-returns c = turn-ends c.loop-i.invariant c.loop-i-test.false c.refused_at-2.ensures
+returns c = turn-ends c.loop-i.invariant c.loop-i-test.false

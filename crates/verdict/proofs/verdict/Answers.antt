@@ -1,14 +1,10 @@
 -- `verdict::verdict` meets its contract: by the figure in block 0, or on a sound table by the count.
-use mathlib.Core.Bool.{true}
-use mathlib.Core.Path.{◌≡◌, refl, sym, ◌∙◌}
+use mathlib.Core.Path.{refl, sym, ◌∙◌}
 use lib.ListN.{length}
-use borrow.Author.Tests.{not-true, not-false}
 use Rattle.query.proofs.Whole.{counted-as}
 use Rattle.block.proofs.Making.{sized-least}
 use Rattle.message.proofs.Cursor.{accepted-message}
-use Rattle.tree.specs.Sound.{sound}
-use Rattle.verdict.proofs.Ends.{roomy, unsound, sound-count}
-use borrow.Author.Rules.{rules}
+use Rattle.verdict.proofs.Ends.{roomy, unsound, sound-count, sound-whole}
 use native.Mathlib.Omega.{arith}
 use Rattle.verdict.proofs.verdict.Goals as goal
 
@@ -22,17 +18,20 @@ adds_of-requires c =
 
 pub returns-then-figure-adds_of : goal.returns-then-figure-adds_of
 returns-then-figure-adds_of c =
-    roomy c.args.table.now c.refused_at.ensures c.line_up.ensures c.bound_of-figure.ensures.0 c.adds_of.ensures.0 c.capacity_of-most.ensures c.if-figure-adds_of.true
+    roomy c.args.table.now c.line_up.ensures c.bound_of-figure.ensures.0 c.adds_of.ensures.0 c.capacity_of-most.ensures c.if-figure-adds_of.true
 
 pub returns-then-not-is_sound : goal.returns-then-not-is_sound
 returns-then-not-is_sound c =
-    unsound _ c.refused_at-then-not-is_sound.ensures c.is_sound.ensures c.if-not-is_sound.true
+    unsound _ c.refused_at.ensures c.is_sound.ensures c.if-not-is_sound.true
 
-pub count_table-all-requires : goal.count_table-all-requires
-count_table-all-requires c =
+pub count_table-requires : goal.count_table-requires
+count_table-requires c =
     (c.requires.sized, refl)
+
+pub returns-in_default : goal.returns-in_default
+returns-in_default c =
+    absurd (sound-whole _ (sym c.is_sound.ensures ∙ c.if-not-is_sound.false) (counted-as c.everything.ensures c.in_default.ensures))
 
 pub step_through-requires : goal.step_through-requires
 step_through-requires c =
-    let is-sound : sound c.args.table.now ≡ true = sym c.is_sound.ensures ∙ c.if-not-is_sound.false in
-    (c.requires, is-sound, sound-count _ is-sound (counted-as c.everything.ensures c.count_table-all.ensures))
+    (c.requires, sym c.is_sound.ensures ∙ c.if-not-is_sound.false, sound-count _ (counted-as c.everything.ensures c.in-Some.ensures))

@@ -1,6 +1,5 @@
 -- `visit::below` meets its contract: the count lies in the eight after the eighths.
 use Rattle.visit.proofs.Search.{run-most}
-use borrow.Author.Rules.{rules}
 use native.Mathlib.Omega.{arith}
 use Rattle.visit.proofs.below.Goals as goal
 

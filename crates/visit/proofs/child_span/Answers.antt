@@ -1,6 +1,6 @@
 -- `visit::child_span` meets its contract: the span ends where the next entry begins, or where the parent's does.
 use mathlib.Core.Path.{◌≡◌, ap, ◌∙◌}
-use mathlib.Core.Bool.{false}
+use Rattle.std.specs.Prelude.{Some}
 use mathlib.Core.List.{List}
 use Prim.Native.Nat.{ℕ, ◌+◌, ◌*◌, ◌≤◌, ◌<◌}
 use native.Mathlib.Omega.{arith}
@@ -45,7 +45,7 @@ read_key-hi-requires c =
 pub returns-then-i-c : goal.returns-then-i-c
 returns-then-i-c c =
     let a = c.args in
-    ap (λ (k : ℕ). record { lo = a.lo; hi = k; endless = false }) c.read_key-hi.ensures.0
+    ap (λ (k : ℕ). record { lo = a.lo; hi = Some k }) c.read_key-hi.ensures.0
     ∙ span-next a.s.now a.i a.lo a.span (omega arith)
 
 pub returns : goal.returns

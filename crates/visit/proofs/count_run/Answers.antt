@@ -3,7 +3,6 @@ use mathlib.Core.Path.{◌≡◌, sym, ap, ◌∙◌}
 use Prim.Native.Nat.{ℕ}
 use native.Mathlib.Omega.{arith}
 use lib.ListN.{length}
-use borrow.Author.Rules.{rules}
 use Rattle.visit.specs.Visit.{taken}
 use Rattle.visit.proofs.Marking.{marks-count}
 use Rattle.visit.proofs.count_run.Goals as goal

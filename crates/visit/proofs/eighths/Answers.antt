@@ -1,11 +1,8 @@
 -- `visit::eighths` meets its contract: the eighths counted are below, and the first that is not bounds the count.
-use mathlib.Core.Path.{◌≡◌, refl}
-use mathlib.Core.Logic.{◌⊎◌, inl, ⊎_elim}
-use Prim.Native.Nat.{◌+◌, ◌-◌, ◌*◌, ◌≤◌, ◌<◌}
-use lib.Dec.{ltb}
+use mathlib.Core.Logic.{⊎_elim}
+use Prim.Native.Nat.{◌+◌, ◌*◌}
 use Rattle.visit.specs.Visit.{below_in, keys_from}
-use Rattle.visit.proofs.Search.{Reads, key_reads, run-most, run_up, run_down, byte-most, eighth-turn}
-use borrow.Author.Rules.{rules}
+use Rattle.visit.proofs.Search.{Reads, key_reads, run-most, run_up, run_down, eighth-turn}
 use native.Mathlib.Omega.{arith}
 use Rattle.visit.proofs.eighths.Goals as goal
 use Rattle.visit.proofs.eighths.Goals.{In-loop-j}
@@ -13,9 +10,6 @@ use Rattle.visit.proofs.eighths.Goals.{In-loop-j}
 -- the key may be read
 reads : (c : In-loop-j) → let a = c.args in Reads a.t.now (a.at + a.w * (8 * c.loop-j.j + 7))
 reads c = key_reads c.requires (8 * c.loop-j.j + 7) (omega arith)
-
-pub loop-j-init : goal.loop-j-init
-loop-j-init c = (omega arith, omega arith, omega arith, inl refl)
 
 pub overflow_mul-w : goal.overflow_mul-w
 overflow_mul-w c = omega (arith, (reads (goal.at.overflow_mul-w c).In-loop-j).0)
@@ -25,9 +19,6 @@ overflow_add-at c = omega (arith, (reads (goal.at.overflow_add-at c).In-loop-j).
 
 pub read_key-requires : goal.read_key-requires
 read_key-requires c = reads (goal.at.read_key-requires c).In-loop-j
-
-pub overflow_add-c : goal.overflow_add-c
-overflow_add-c c = omega (arith, byte-most (ltb c.read_key.result c.args.k))
 
 pub loop-j-preserved : goal.loop-j-preserved
 loop-j-preserved c =

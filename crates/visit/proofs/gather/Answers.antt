@@ -3,7 +3,6 @@ use mathlib.Core.List.{◌++◌}
 use mathlib.Core.Path.{ap, ◌∙◌}
 use native.Mathlib.Omega.{arith}
 use lib.ListN.{take}
-use borrow.Author.Rules.{rules}
 use Rattle.octets.specs.Lists.{has}
 use Rattle.block.proofs.Frames.{part-is}
 use Rattle.block.specs.Access.{front_of}
@@ -25,42 +24,33 @@ inserts_from-requires c = omega (arith, (runs (goal.at.inserts_from-requires c).
 pub deletes_from-requires : goal.deletes_from-requires
 deletes_from-requires c = omega (arith, (runs (goal.at.deletes_from-requires c).After-front_of-h).used)
 
-pub keep_run-i-requires : goal.keep_run-i-requires
-keep_run-i-requires c =
+pub keep_run-requires : goal.keep_run-requires
+keep_run-requires c =
     let a = c.args in
-    (inserts-ready a.t.now a.b c.front_of-h.result (runs (goal.at.keep_run-i-requires c).After-front_of-h) c.requires.0.inside c.inserts_from.ensures, c.requires.2, omega arith)
+    (inserts-ready a.t.now a.b c.front_of-h.result (runs (goal.at.keep_run-requires c).After-front_of-h) c.requires.0.inside c.inserts_from.ensures, c.requires.2, omega arith)
 
-pub shape_of-list-then-i-gt64 : goal.shape_of-list-then-i-gt64
-shape_of-list-then-i-gt64 c = c.keep_run-i.ensures.sized
-
-pub returns-then-i-gt64 : goal.returns-then-i-gt64
-returns-then-i-gt64 c =
+pub keep_run-requires-2 : goal.keep_run-requires-2
+keep_run-requires-2 c =
     let a = c.args in
-    kept_full (waiting (store_of a.t.now a.b) ++ take a.n a.ws.now) a.lo a.last 0 65 c.keep_run-i.ensures.sized (omega arith)
-
-pub keep_run-d-requires : goal.keep_run-d-requires
-keep_run-d-requires c =
-    let a = c.args in
-    (deletes-ready a.t.now a.b c.front_of-h.result (runs (goal.at.keep_run-d-requires c).After-front_of-h) c.requires.0.inside c.deletes_from.ensures, omega (arith, c.keep_run-i.ensures.sized, c.requires.2), c.if-i-gt64.false)
-
-pub shape_of-list-then-d-gt64 : goal.shape_of-list-then-d-gt64
-shape_of-list-then-d-gt64 c = c.keep_run-d.ensures.sized ∙ c.keep_run-i.ensures.sized
-
-pub returns-then-d-gt64 : goal.returns-then-d-gt64
-returns-then-d-gt64 c =
-    let a = c.args in
-    kept_full (waiting (store_of a.t.now a.b) ++ take a.n a.ws.now) a.lo a.last 0 65 (c.keep_run-d.ensures.sized ∙ c.keep_run-i.ensures.sized) (omega arith)
+    (deletes-ready a.t.now a.b c.front_of-h.result (runs (goal.at.keep_run-requires-2 c).After-front_of-h) c.requires.0.inside c.deletes_from.ensures, omega (arith, c.keep_run.ensures.sized, c.requires.2), omega (arith, c.in_ok-i.ensures.few, c.keep_run.ensures.sized, c.requires.2))
 
 pub keep_keys-requires : goal.keep_keys-requires
 keep_keys-requires c =
-    (c.requires.1, omega (arith, c.keep_run-d.ensures.sized, c.keep_run-i.ensures.sized, c.requires.2), c.if-d-gt64.false)
+    (c.requires.1, omega (arith, c.keep_run-2.ensures.sized, c.keep_run.ensures.sized, c.requires.2), omega (arith, c.in_ok-d.ensures.few, c.keep_run-2.ensures.sized, c.keep_run.ensures.sized, c.requires.2))
 
-pub shape_of-list : goal.shape_of-list
-shape_of-list c = c.keep_keys.ensures.sized ∙ c.keep_run-d.ensures.sized ∙ c.keep_run-i.ensures.sized
+pub returns-in_err-i : goal.returns-in_err-i
+returns-in_err-i c =
+    let a = c.args in
+    rw c.from_residual.ensures (kept_full (waiting (store_of a.t.now a.b) ++ take a.n a.ws.now) a.lo a.last 0 c.keep_run.ensures.sized)
+
+pub returns-in_err-d : goal.returns-in_err-d
+returns-in_err-d c =
+    let a = c.args in
+    rw c.from_residual-in_err-d.ensures (kept_full (waiting (store_of a.t.now a.b) ++ take a.n a.ws.now) a.lo a.last 0 (c.keep_run-2.ensures.sized ∙ c.keep_run.ensures.sized))
 
 pub returns : goal.returns
 returns c =
     let a = c.args in
     let ks = waiting-is a.t.now a.b c.front_of-h.result (runs (goal.at.returns c).After-front_of-h) c.requires.0.inside c.inserts_from.ensures c.deletes_from.ensures in
-    let both = kept_then c.keep_run-i.ensures c.if-i-gt64.false c.keep_run-d.ensures in
-    kept_then {xs = waiting (store_of a.t.now a.b)} {ys = take a.n a.ws.now} (kept_same (λ k l g. ap (has k) ks) both) c.if-d-gt64.false c.keep_keys.ensures
+    let both = kept_then c.in_ok-i.ensures c.in_ok-d.ensures in
+    kept_then {xs = waiting (store_of a.t.now a.b)} {ys = take a.n a.ws.now} (kept_same (λ k l g. ap (has k) ks) both) c.keep_keys.ensures

@@ -1,5 +1,4 @@
 -- `visit::has_key` meets its contract: the first key that is not below decides.
-use borrow.Author.Rules.{rules}
 use native.Mathlib.Omega.{arith}
 use Prim.Native.Nat.{◌+◌, ◌*◌}
 use Rattle.visit.proofs.Search.{Reads, key_reads, run-has-none, run-has}

@@ -2,15 +2,9 @@
 use mathlib.Core.Bool.{◌&&◌}
 use native.Mathlib.Omega.{arith}
 use lib.Dec.{leb}
-use borrow.Author.Rules.{rules}
 use Rattle.visit.proofs.Gathering.{kept-key}
 use Rattle.visit.proofs.Search.{byte-most}
 use Rattle.visit.proofs.keep_key.Goals as goal
-
-pub overflow_add-result : goal.overflow_add-result
-overflow_add-result c =
-    let a = c.args in
-    omega (arith, byte-most (leb a.lo a.k && leb a.k a.last))
 
 pub returns : goal.returns
 returns c =

@@ -1,20 +1,17 @@
 -- `visit::keep_run` meets its contract: keys below lo and above last are left out.
-use Prim.Native.Nat.{◌+◌, ◌-◌, ◌*◌, ◌≤◌}
+use Prim.Native.Nat.{◌+◌, ◌*◌}
 use native.Mathlib.Omega.{arith}
-use Rattle.visit.specs.Visit.{KeysKept, keys_from}
+use Rattle.visit.specs.Visit.{keys_from}
 use Rattle.visit.proofs.Gathering.{kept-start, kept_next, kept-stop, kept-end, kept_full}
 use Rattle.visit.proofs.Search.{Reads, key_reads}
 use Rattle.visit.proofs.keep_run.Goals as goal
 use Rattle.visit.proofs.keep_run.Goals.{In-loop-j}
 
-pub below-j-requires : goal.below-j-requires
-below-j-requires c = c.requires.0
-
 pub loop-j-init : goal.loop-j-init
 loop-j-init c =
     let a = c.args in
     let e = c.below-j.ensures in
-    (e.1, c.requires.2, kept-start a.t.now a.at a.w a.n a.lo a.last a.c c.requires.0.rise a.list.now e.0 e.1)
+    (e.1, kept-start a.t.now a.at a.w a.n a.lo a.last a.c c.requires.0.rise a.list.now e.0 e.1 (omega (arith, c.requires.1, c.requires.2)))
 
 -- the key may be read
 reads : (c : In-loop-j) → let a = c.args in Reads a.t.now (a.at + a.w * c.loop-j.j)
@@ -29,31 +26,16 @@ overflow_add-at c = omega (arith, (reads (goal.at.overflow_add-at c).In-loop-j).
 pub read_key-k-requires : goal.read_key-k-requires
 read_key-k-requires c = reads (goal.at.read_key-k-requires c).In-loop-j
 
-pub shape_of-list-then-last-k : goal.shape_of-list-then-last-k
-shape_of-list-then-last-k c = c.loop-j.invariant.2.sized
-
 pub returns-then-last-k : goal.returns-then-last-k
 returns-then-last-k c =
     let a = c.args in
     let l = c.loop-j in
-    kept-stop a.t.now a.at a.w a.n a.lo a.last a.c c.requires.0.rise l.j c.loop-j-test.true c.read_key-k.ensures.0 c.if-last-k.true l.invariant.2
-
-pub shape_of-list-then-l-ge64 : goal.shape_of-list-then-l-ge64
-shape_of-list-then-l-ge64 c = c.loop-j.invariant.2.sized
+    kept-stop a.t.now a.at a.w a.n a.lo a.last a.c c.requires.0.rise l.j c.loop-j-test.true c.read_key-k.ensures.0 c.if-last-k.true l.invariant.1
 
 pub returns-then-l-ge64 : goal.returns-then-l-ge64
 returns-then-l-ge64 c =
     let a = c.args in
-    kept_full (keys_from a.t.now a.w a.n a.at) a.lo a.last a.c 65 c.loop-j.invariant.2.sized (omega arith)
-
-pub keep_key-l-requires : goal.keep_key-l-requires
-keep_key-l-requires c = omega (arith, c.loop-j.invariant.2.sized, c.if-l-ge64.false, c.requires.1)
-
-pub overflow_add-j : goal.overflow_add-j
-overflow_add-j c = omega (arith, c.loop-j-test.true, c.requires.0.few)
-
-pub loop-j-smaller : goal.loop-j-smaller
-loop-j-smaller c = omega (arith, c.loop-j-test.true)
+    kept_full (keys_from a.t.now a.w a.n a.at) a.lo a.last a.c c.loop-j.invariant.1.sized
 
 pub loop-j-preserved : goal.loop-j-preserved
 loop-j-preserved c =
@@ -61,15 +43,11 @@ loop-j-preserved c =
     let l = c.loop-j in
     let v = c.keep_key-l.ensures in (
       omega (arith, c.loop-j-test.true),
-      omega (arith, v.1, c.if-l-ge64.false),
-      kept_next a.t.now a.at a.w a.n a.lo a.last a.c c.requires.0.rise l.j c.read_key-k.ensures.0 l.invariant.2 l.invariant.1 v.0,
+      kept_next a.t.now a.at a.w a.n a.lo a.last a.c c.requires.0.rise l.j c.read_key-k.ensures.0 l.invariant.1 v.0,
     )
-
-pub shape_of-list : goal.shape_of-list
-shape_of-list c = c.loop-j.invariant.2.sized
 
 pub returns : goal.returns
 returns c =
     let a = c.args in
     let l = c.loop-j in
-    kept-end a.t.now a.at a.w a.n a.lo a.last a.c c.requires.0.rise l.j (omega (arith, l.invariant.0, c.loop-j-test.false)) l.invariant.2
+    kept-end a.t.now a.at a.w a.n a.lo a.last a.c c.requires.0.rise l.j (omega (arith, l.invariant.0, c.loop-j-test.false)) l.invariant.1

@@ -1,11 +1,8 @@
 -- `visit::near` meets its contract: the keys counted are below, and the first that is not bounds the count.
-use mathlib.Core.Path.{◌≡◌, refl}
-use mathlib.Core.Logic.{◌⊎◌, inl, ⊎_elim}
-use Prim.Native.Nat.{◌+◌, ◌-◌, ◌*◌, ◌≤◌}
-use lib.Dec.{ltb}
+use mathlib.Core.Logic.{⊎_elim}
+use Prim.Native.Nat.{◌+◌, ◌*◌}
 use Rattle.visit.specs.Visit.{below_in, keys_from}
-use Rattle.visit.proofs.Search.{Reads, key_reads, run_up, run_down, byte-most, near-turn}
-use borrow.Author.Rules.{rules}
+use Rattle.visit.proofs.Search.{Reads, key_reads, run_up, run_down, near-turn}
 use native.Mathlib.Omega.{arith}
 use Rattle.visit.proofs.near.Goals as goal
 use Rattle.visit.proofs.near.Goals.{In-loop-i}
@@ -13,9 +10,6 @@ use Rattle.visit.proofs.near.Goals.{In-loop-i}
 -- the key may be read
 reads : (c : In-loop-i) → let a = c.args in Reads a.t.now (a.at + a.w * c.loop-i.i)
 reads c = key_reads c.requires.0 c.loop-i.i (omega arith)
-
-pub loop-i-init : goal.loop-i-init
-loop-i-init c = (omega arith, omega arith, omega arith, inl refl)
 
 pub overflow_mul-w : goal.overflow_mul-w
 overflow_mul-w c = omega (arith, (reads (goal.at.overflow_mul-w c).In-loop-i).0)
@@ -25,9 +19,6 @@ overflow_add-at c = omega (arith, (reads (goal.at.overflow_add-at c).In-loop-i).
 
 pub read_key-requires : goal.read_key-requires
 read_key-requires c = reads (goal.at.read_key-requires c).In-loop-i
-
-pub overflow_add-r : goal.overflow_add-r
-overflow_add-r c = omega (arith, byte-most (ltb c.read_key.result c.args.k))
 
 pub loop-i-preserved : goal.loop-i-preserved
 loop-i-preserved c =

@@ -1,5 +1,5 @@
 -- `visit::onward` meets its contract: the keys passed are below, and the first that is not ends the count.
-use Prim.Native.Nat.{◌-◌, ◌≤◌}
+use Prim.Native.Nat.{◌≤◌}
 use Rattle.visit.specs.Visit.{below_in, keys_from}
 use Rattle.visit.proofs.Search.{key_reads, run-most, run_up, run_down}
 use native.Mathlib.Omega.{arith}

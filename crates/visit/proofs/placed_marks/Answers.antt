@@ -1,11 +1,6 @@
 -- `visit::placed_marks` meets its contract: in a run that rises the spots of the query's places stand together.
 use Rattle.visit.proofs.Marking.{placed-wanted}
-use borrow.Author.Rules.{rules}
-use native.Mathlib.Omega.{arith}
 use Rattle.visit.proofs.placed_marks.Goals as goal
-
-pub range_marks-requires : goal.range_marks-requires
-range_marks-requires c = omega (arith, c.through-e.ensures.few, c.requires.0.few)
 
 pub returns : goal.returns
 returns c =

@@ -7,7 +7,6 @@ use Rattle.spot.specs.Query.{all_places, is_ring, least_of}
 use Rattle.spot.proofs.Places.{all-flat}
 use Rattle.visit.specs.Visit.{Wanted}
 use Rattle.visit.proofs.Marking.{first-wanted, all-of-them}
-use borrow.Author.Rules.{rules}
 use Rattle.visit.proofs.ranked_marks.Goals as goal
 
 pub returns-then-least_of-eq0 : goal.returns-then-least_of-eq0

@@ -6,7 +6,6 @@ use mir.ValLaws.{to_z-of_z}
 use Rattle.spot.specs.Query.{all_places}
 use Rattle.visit.specs.Visit.{Wanted}
 use Rattle.visit.proofs.Marking.{ring-wanted}
-use borrow.Author.Rules.{rules}
 use native.Mathlib.Omega.{arith}
 use Rattle.visit.proofs.ring_marks.Goals as goal
 

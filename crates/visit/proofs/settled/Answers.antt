@@ -1,7 +1,5 @@
 -- `visit::settled` meets its contract: a node with no inserts and no deletes has no change waiting.
 use mathlib.Core.Path.{ap, ◌∙◌}
-use native.Mathlib.Omega.{arith}
-use borrow.Author.Rules.{rules}
 use Rattle.block.proofs.Frames.{part-is}
 use Rattle.block.specs.Access.{front_of}
 use Rattle.visit.proofs.Runs.{runs_of, waiting_none}

@@ -2,7 +2,6 @@
 use mathlib.Core.Path.{refl, ◌∙◌}
 use native.Mathlib.Omega.{arith}
 use lib.Dec.{eqb}
-use borrow.Author.Rules.{rules}
 use borrow.Author.Tests.{eqb-true}
 use Rattle.octets.proofs.Tests.{and_left, and_right}
 use Rattle.visit.specs.declared.Path.{Path}
@@ -28,29 +27,23 @@ returns-then-p-settled c =
       s.3,
     )
 
-pub gather-c-requires : goal.gather-c-requires
-gather-c-requires c = (c.requires.1, c.requires.2.few, c.requires.3)
+pub gather-requires : goal.gather-requires
+gather-requires c = (c.requires.1, c.requires.2.few, c.requires.3)
 
-pub shape_of-list-then-c-gt64 : goal.shape_of-list-then-c-gt64
-shape_of-list-then-c-gt64 c = c.gather-c.ensures.sized
-
-pub returns-then-c-gt64 : goal.returns-then-c-gt64
-returns-then-c-gt64 c =
-    let w = c.with_block-next in
-    let r : Path = record { n = w.result.n; blocks = w.result.blocks; lo = 1; last = 0; waits = 0 } in
-    (w.ensures.0, w.ensures.1, gathered-blind c.args.t.now r refl refl refl, c.gather-c.ensures.sized ∙ c.requires.3)
-
-pub shape_of-list : goal.shape_of-list
-shape_of-list c = c.gather-c.ensures.sized
-
-pub returns : goal.returns
-returns c =
+pub returns-in-Some : goal.returns-in-Some
+returns-in-Some c =
     let a = c.args in
     let w = c.with_block-next in
-    let g = c.gather-c in
-    let r : Path = record { n = w.result.n; blocks = w.result.blocks; lo = c.later-lo.result; last = c.last_in-last.result; waits = g.result } in (
+    let g = c.in-Some in
+    let r : Path = record { n = w.result.n; blocks = w.result.blocks; lo = c.max-lo.result; last = c.last_in-last.result; waits = g.waits } in (
       w.ensures.0,
       w.ensures.1,
-      gathered-step a.t.now a.p r a.b w.ensures.1 c.requires.2 g.ensures c.if-c-gt64.false c.requires.3 c.later-lo.ensures.1 c.last_in-last.ensures refl refl refl,
+      gathered-step a.t.now a.p r a.b w.ensures.1 c.requires.2 g.ensures (omega (arith, c.max-lo.ensures)) c.last_in-last.ensures refl refl refl,
       g.ensures.sized ∙ c.requires.3,
     )
+
+pub returns-in-None : goal.returns-in-None
+returns-in-None c =
+    let w = c.with_block-next in
+    let r : Path = record { n = w.result.n; blocks = w.result.blocks; lo = 1; last = 0; waits = 0 } in
+    (w.ensures.0, w.ensures.1, gathered-blind c.args.t.now r refl refl refl, c.in-None.ensures.sized ∙ c.requires.3)

@@ -1,16 +1,12 @@
 -- `visit::strike` meets its contract: keys below lo and above hi strike none, and no spot passed has a later key.
 use mathlib.Core.Path.{sym, subst}
-use Prim.Native.Nat.{ℕ, ◌+◌, ◌-◌, ◌*◌, ◌≤◌, ◌<◌}
+use Prim.Native.Nat.{ℕ, ◌+◌, ◌*◌, ◌≤◌}
 use Rattle.visit.proofs.Marking.{strike-start, strike-next, strike-on, strike-stop, strike-end}
 use Rattle.visit.proofs.Search.{Reads, key_reads}
-use Rattle.spot.specs.Spots.{key_at}
-use Rattle.visit.specs.Visit.{keys_from, below_in, Struck}
+use Rattle.visit.specs.Visit.{keys_from, below_in}
 use native.Mathlib.Omega.{arith}
 use Rattle.visit.proofs.strike.Goals as goal
 use Rattle.visit.proofs.strike.Goals.{In-loop-j}
-
-pub below-j-requires : goal.below-j-requires
-below-j-requires c = c.requires.1
 
 pub loop-j-init : goal.loop-j-init
 loop-j-init c =
@@ -30,9 +26,6 @@ overflow_add-a c = omega (arith, (reads (goal.at.overflow_add-a c).In-loop-j).0)
 
 pub read_key-k-requires : goal.read_key-k-requires
 read_key-k-requires c = reads (goal.at.read_key-k-requires c).In-loop-j
-
-pub shape_of-m-then-hi-k : goal.shape_of-m-then-hi-k
-shape_of-m-then-hi-k c = c.loop-j.invariant.1.sized
 
 pub returns-then-hi-k : goal.returns-then-hi-k
 returns-then-hi-k c =
@@ -62,9 +55,6 @@ loop-j-preserved c =
       strike-next s.t.now s.at s.n s.a s.w s.c s.lo s.hi p.1.rise l.j e l.invariant.1 v.1,
       λ h. strike-on s.t.now s.at s.n s.a s.w s.c s.lo s.hi p.1.rise l.j e v.0 h,
     )
-
-pub shape_of-m : goal.shape_of-m
-shape_of-m c = c.loop-j.invariant.1.sized
 
 pub returns : goal.returns
 returns c =

@@ -1,5 +1,4 @@
 -- `visit::strike_key` meets its contract: a key of a run that rises stands at one place.
-use borrow.Author.Rules.{rules}
 use Rattle.visit.proofs.Search.{key_reads}
 use Rattle.visit.proofs.Marking.{struck-hit, struck-miss}
 use Rattle.visit.proofs.strike_key.Goals as goal

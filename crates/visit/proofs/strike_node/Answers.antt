@@ -1,5 +1,4 @@
 -- `visit::strike_node` meets its contract: the inserts and the deletes are runs of keys in the table.
-use borrow.Author.Rules.{rules}
 use native.Mathlib.Omega.{arith}
 use mathlib.Core.List.{List}
 use mathlib.Core.Path.{refl, sym, ap, subst, ◌∙◌}
@@ -42,9 +41,6 @@ strike-requires-2 c =
     let a = c.args in
     let p = c.requires in
     (p.0, deletes-ready a.t.now a.b c.front_of-h.result (runs (goal.at.strike-requires-2 c).After-front_of-h) p.1.inside c.deletes_from.ensures, omega (arith, p.2, c.strike.ensures.sized), blank-struck a.lo a.hi c.strike.ensures p.3)
-
-pub shape_of-m : goal.shape_of-m
-shape_of-m c = c.strike-2.ensures.sized ∙ c.strike.ensures.sized
 
 pub returns : goal.returns
 returns c =

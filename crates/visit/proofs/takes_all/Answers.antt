@@ -3,7 +3,6 @@ use mathlib.Core.Bool.{false≢true, ◌&&◌}
 use Prim.Native.Nat.{◌-◌}
 use native.Mathlib.Omega.{arith}
 use lib.Dec.{eqb, leb}
-use borrow.Author.Rules.{rules}
 use borrow.Author.Tests.{eqb-true, leb-true}
 use Rattle.octets.proofs.Tests.{and_left, and_right}
 use Rattle.visit.proofs.Search.{key_reads, first_reads}

@@ -2,7 +2,6 @@
 use Prim.Native.Nat.{◌-◌}
 use Rattle.visit.proofs.Search.{key_reads}
 use Rattle.visit.proofs.Marking.{through-none, through-all, through-some}
-use borrow.Author.Rules.{rules}
 use native.Mathlib.Omega.{arith}
 use Rattle.visit.proofs.through.Goals as goal
 

@@ -1,7 +1,6 @@
 -- `visit::wanted` meets its contract: all have a mark, or all but those of a ring's gap, or those of the query's places, or each is tested.
 use mathlib.Core.Path.{sym, ◌∙◌}
 use Rattle.visit.proofs.Marking.{first-wanted}
-use borrow.Author.Rules.{rules}
 use Rattle.visit.proofs.wanted.Goals as goal
 
 pub returns-then-wants_all : goal.returns-then-wants_all

@@ -1,8 +1,7 @@
 -- `visit::wanted_each` meets its contract: the first i spots are marked after i turns.
-use borrow.Author.Rules.{rules}
 use native.Mathlib.Omega.{arith}
 use mathlib.Core.Path.{◌≡◌, subst}
-use Prim.Native.Nat.{ℕ, ◌+◌, ◌-◌, ◌*◌, ◌≤◌}
+use Prim.Native.Nat.{ℕ, ◌+◌, ◌*◌}
 use Rattle.spot.proofs.Signed.{Fits}
 use Rattle.spot.specs.Spots.{key_at}
 use Rattle.spot.proofs.Card.{key_at-lt}

@@ -3,7 +3,6 @@ use Rattle.visit.proofs.Marking.{all_wanted}
 use Rattle.visit.proofs.Search.{key_reads, first_reads}
 use Prim.Native.Nat.{◌-◌}
 use mathlib.Core.Bool.{false≢true}
-use borrow.Author.Rules.{rules}
 use native.Mathlib.Omega.{arith}
 use Rattle.visit.proofs.wants_all.Goals as goal
 

@@ -1,7 +1,6 @@
 -- `within::deliver` meets its contract: the spots are copied, or searched for again.
 use Rattle.within.proofs.Delivering.{few-delivered, wide-delivered}
 use Rattle.top.proofs.Sweeps.{zeroed}
-use borrow.Author.Rules.{rules}
 use Rattle.within.proofs.deliver.Goals as goal
 
 pub returns-then-n-le512 : goal.returns-then-n-le512

@@ -1,11 +1,10 @@
 -- `within::say` meets its contract: refused by the lengths, as a Top of none, or by a search.
 use Rattle.within.proofs.Saying.{none-asked, some-asked, within-short, within-lent, within-zero}
-use borrow.Author.Tests.{not-true, not-false, ne_eqb}
+use borrow.Author.Tests.{ne_eqb}
 use mir.ValLaws.{to_z-of_z}
 use mir.Syntax.{w32}
 use lib.ListN.{length}
 use mathlib.Core.Path.{sym, ◌∙◌}
-use borrow.Author.Rules.{rules}
 use native.Mathlib.Omega.{arith}
 use Rattle.within.proofs.say.Goals as goal
 
@@ -41,7 +40,3 @@ say_some-requires c =
       some = some.0;
       allowed = some.1;
     }
-
-pub returns : goal.returns
-returns c =
-    rw (to_z-of_z w32 _ c.ranges.x1, to_z-of_z w32 _ c.ranges.x2) at c.say_some.ensures

@@ -1,9 +1,9 @@
 -- `histories::allowances::call` meets its contract: the call is lent the front of the output.
-use Rattle.std.proofs.Common.{rules}
+use Rattle.block.specs.Answers.{answer_of}
 use Rattle.table.proofs.Given.{within-inside, inside-longer}
 use Rattle.histories.proofs.allowances.call.Goals as goal
 
 pub returns : goal.returns
 returns c =
     let call = c.top_within-answer in
-    inside-longer call.result _ _ (within-inside _ _ _ _ _ _ _ call.result _ _ _ call.ensures)
+    inside-longer (answer_of call.result) _ _ (within-inside _ _ _ _ _ _ _ (answer_of call.result) _ _ _ call.ensures)

@@ -1,5 +1,4 @@
 -- `histories::asks::report` is safe: what was given is read where the call was accepted.
-use Rattle.std.proofs.Common.{rules}
 use Rattle.histories.proofs.Given.{few-given}
 use Rattle.histories.proofs.asks.report.Goals as goal
 

@@ -1,5 +1,4 @@
 -- `histories::batches::one_in_list` is safe: what it reads is inside the limits.
-use Rattle.std.proofs.Common.{rules}
 use Rattle.histories.proofs.Given.{few-given}
 use Rattle.histories.proofs.batches.one_in_list.Goals as goal
 

@@ -1,8 +1,0 @@
--- `buffer::keys::cut_keys` meets its contract.
-use mathlib.Core.Path.{sym}
-use borrow.Author.Rules.{rules}
-use lib.Seq.{take-take}
-use Rattle.buffer.proofs.keys.cut_keys.Goals as goal
-
-pub returns : goal.returns
-returns c = (search rules, sym (take-take _ _ _ c.requires))

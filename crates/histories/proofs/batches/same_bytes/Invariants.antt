@@ -1,9 +1,0 @@
--- `histories::batches::same_bytes` is safe and ends.
-use Rattle.std.proofs.Common.{◌-◌, length, arith, rules}
-use Rattle.histories.proofs.batches.same_bytes.Given as goal
-
-abbrev pub invariant-loop-i : goal.invariant-loop-i
-invariant-loop-i l = Unit {0}
-
-abbrev pub decreases-loop-i : goal.decreases-loop-i
-decreases-loop-i l = length l.a - l.i

@@ -1,9 +1,0 @@
--- `histories::messages::carry` is safe and ends.
-use Rattle.std.proofs.Common.{◌-◌, arith, rules}
-use Rattle.histories.proofs.messages.carry.Given as goal
-
-abbrev pub invariant-loop-i : goal.invariant-loop-i
-invariant-loop-i l = Unit {0}
-
-abbrev pub decreases-loop-i : goal.decreases-loop-i
-decreases-loop-i l = l.n - l.i

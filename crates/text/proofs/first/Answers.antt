@@ -1,9 +1,0 @@
--- `text::first` meets its contract.
-use mathlib.Core.Path.{sym}
-use native.Mathlib.Omega.{arith}
-use lib.ListN.{get_or-eq_default}
-use borrow.Author.Rules.{rules}
-use Rattle.text.proofs.first.Goals as goal
-
-pub returns-then-s-eq0 : goal.returns-then-s-eq0
-returns-then-s-eq0 c = sym (get_or-eq_default c.args.s.now 0 {n = 0} (omega arith))

@@ -1,6 +1,0 @@
--- `tours::below` meets its contract.
-use Rattle.std.proofs.Common.{◌/◌, mod-lt, rules}
-use Rattle.tours.proofs.below.Goals as goal
-
-pub returns : goal.returns
-returns c = mod-lt (c.args.seed / 65536) c.requires

@@ -1,9 +1,0 @@
--- `vectors::marks::rest` is safe and ends.
-use Rattle.std.proofs.Common.{◌-◌, arith}
-use Rattle.vectors.proofs.marks.rest.Given as goal
-
-abbrev pub invariant-loop-i : goal.invariant-loop-i
-invariant-loop-i l = Unit {0}
-
-abbrev pub decreases-loop-i : goal.decreases-loop-i
-decreases-loop-i l = 512 - l.i
