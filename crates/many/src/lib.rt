@@ -1,7 +1,7 @@
 // Request 2026-01, many ranges in one call: all are counted, and if there is room, all are written. No public function has a `requires`.
 #![tactic(auto)]
 
-ghost use Rattle.std.specs.Prelude.{◌≡◌, true, ◌≤◌, length};
+ghost use Rattle.std.specs.Prelude.{◌≡◌, true, ◌≤◌, length, replicate};
 ghost use Rattle.block.specs.Answers.{answer_of};
 ghost use Rattle.block.specs.Table.{table_sized};
 ghost use Rattle.memo.specs.Known.{Known, StillKnown};
@@ -116,21 +116,23 @@ fn answer_with(
     Ok(given)
 }
 
-// The same with room for the counts of 64.
-fn answer_all(
+// The same with room of its own: FEW bytes for spots, and KNOWN slots for what is validated. Each size has a frame of its own.
+fn answer_in<const FEW: usize, const KNOWN: usize>(
     table: &[u8],
     b: ranges::Batch,
-    few: &mut [u8],
-    known: &mut [[u64; 6]],
     counts: &mut [u32],
     output: &mut [u8],
     read_map: &mut [u8],
 ) -> Result<u32, Refusal>
-    requires { Answerable b table.now few.old counts.old read_map.old × Known table.now known.old }
+    requires { Answerable b table.now (replicate FEW 0) counts.old read_map.old × (FEW ≤ 98304) × (KNOWN ≤ 512) }
     ensures { Answered b table.now counts.old output.old read_map.old (answer_of result) counts.new output.new read_map.new }
 {
     let mut each = [0u32; 64];
-    answer_with(table, b, few, known, &mut each, counts, output, read_map)
+    let mut few = [0u8; FEW];
+    let mut known = [[0u64; 6]; KNOWN];
+    answer_with(
+        table, b, &mut few, &mut known, &mut each, counts, output, read_map,
+    )
 }
 
 // The reports of a batch of ranges, one behind the other, with the number of spots of each in `counts`. The read map marks the blocks that any of them reads.
@@ -157,18 +159,12 @@ pub fn report_batch(
     }
     // A few ranges don't wait for the clearing of what many would use.
     if b.n <= 4 {
-        let mut few = [0u8; 6144];
-        let mut known = [[0u64; 6]; 32];
-        return answer_all(table, b, &mut few, &mut known, counts, output, read_map);
+        return answer_in::<6144, 32>(table, b, counts, output, read_map);
     }
     if b.n <= 16 {
-        let mut few = [0u8; 24576];
-        let mut known = [[0u64; 6]; 128];
-        return answer_all(table, b, &mut few, &mut known, counts, output, read_map);
+        return answer_in::<24576, 128>(table, b, counts, output, read_map);
     }
-    let mut few = [0u8; 98304];
-    let mut known = [[0u64; 6]; 512];
-    answer_all(table, b, &mut few, &mut known, counts, output, read_map)
+    answer_in::<98304, 512>(table, b, counts, output, read_map)
 }
 
 // The same of a lent slice of ranges.

@@ -7,7 +7,6 @@ use lib.ListN.{length, length-replicate}
 use native.Mathlib.Omega.{arith}
 use Rattle.block.specs.Table.{table_sized}
 use Rattle.visit.proofs.Roots.{sized-long}
-use Rattle.memo.proofs.Remembering.{known-blank}
 use Rattle.many.specs.Many.{Answerable}
 use Rattle.many.proofs.Answering.{lengths-right, many-short, many-lent, many-over, many-header, many-answered}
 use Rattle.many.proofs.report_batch.Goals as goal
@@ -60,29 +59,29 @@ answerable c few room =
       buffer = room;
     }
 
-pub answer_all-requires : goal.answer_all-requires
-answer_all-requires c =
-    (answerable (goal.at.answer_all-requires c).Else-not-header_ok _ (omega (arith, c.if-b-le4.true, length-replicate {A = ℕ} 6144 0)), known-blank _ 32)
+pub answer_in-requires : goal.answer_in-requires
+answer_in-requires c =
+    (answerable (goal.at.answer_in-requires c).Else-not-header_ok _ (omega (arith, c.if-b-le4.true, length-replicate {A = ℕ} 6144 0)), omega arith, omega arith)
 
 pub returns-then-b-le4 : goal.returns-then-b-le4
 returns-then-b-le4 c =
     let k = fitting (goal.at.returns-then-b-le4 c).Else-read_map-counts in
-    many-answered _ _ _ _ _ _ k.sized k.mapped k.matched (omega (arith, c.if-b-gt64.false)) c.answer_all.ensures
+    many-answered _ _ _ _ _ _ k.sized k.mapped k.matched (omega (arith, c.if-b-gt64.false)) c.answer_in.ensures
 
-pub answer_all-requires-then-b-le16 : goal.answer_all-requires-then-b-le16
-answer_all-requires-then-b-le16 c =
-    (answerable (goal.at.answer_all-requires-then-b-le16 c).Else-not-header_ok _ (omega (arith, c.if-b-le16.true, length-replicate {A = ℕ} 24576 0)), known-blank _ 128)
+pub answer_in-requires-then-b-le16 : goal.answer_in-requires-then-b-le16
+answer_in-requires-then-b-le16 c =
+    (answerable (goal.at.answer_in-requires-then-b-le16 c).Else-not-header_ok _ (omega (arith, c.if-b-le16.true, length-replicate {A = ℕ} 24576 0)), omega arith, omega arith)
 
 pub returns-then-b-le16 : goal.returns-then-b-le16
 returns-then-b-le16 c =
     let k = fitting (goal.at.returns-then-b-le16 c).Else-read_map-counts in
-    many-answered _ _ _ _ _ _ k.sized k.mapped k.matched (omega (arith, c.if-b-gt64.false)) c.answer_all-then-b-le16.ensures
+    many-answered _ _ _ _ _ _ k.sized k.mapped k.matched (omega (arith, c.if-b-gt64.false)) c.answer_in-then-b-le16.ensures
 
-pub answer_all-requires-2 : goal.answer_all-requires-2
-answer_all-requires-2 c =
-    (answerable (goal.at.answer_all-requires-2 c).Else-not-header_ok _ (omega (arith, c.if-b-gt64.false, length-replicate {A = ℕ} 98304 0)), known-blank _ 512)
+pub answer_in-requires-2 : goal.answer_in-requires-2
+answer_in-requires-2 c =
+    (answerable (goal.at.answer_in-requires-2 c).Else-not-header_ok _ (omega (arith, c.if-b-gt64.false, length-replicate {A = ℕ} 98304 0)), omega arith, omega arith)
 
 pub returns : goal.returns
 returns c =
     let k = fitting (goal.at.returns c).Else-read_map-counts in
-    many-answered _ _ _ _ _ _ k.sized k.mapped k.matched (omega (arith, c.if-b-gt64.false)) c.answer_all-2.ensures
+    many-answered _ _ _ _ _ _ k.sized k.mapped k.matched (omega (arith, c.if-b-gt64.false)) c.answer_in-2.ensures
