@@ -1,6 +1,6 @@
 // node --no-warnings cross/node.mjs spot_table.wasm PROGRAM.wasm [WORDS]: runs a C program that was compiled for WASI without the library; its calls go to spot_table.wasm, which has
 // a memory of its own. A call's slices are copied there, behind each other from __heap_base on, and those that it may write are copied back. Between them lie guards.
-// With PAINT=524288 in the environment, the bytes of the stack, which lies at the front of the memory, it is painted before each call, and at the end each call's deepest use is printed to
+// With PAINT=327680 in the environment, the bytes of the stack, which lies at the front of the memory, it is painted before each call, and at the end each call's deepest use is printed to
 // standard error.
 import { readFileSync } from "node:fs";
 import { WASI } from "node:wasi";

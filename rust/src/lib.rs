@@ -94,7 +94,7 @@ pub const CHANGE: usize = 13;
 /// Bytes of the longest message: 4,096 additions.
 pub const MESSAGE: usize = 7 + MOST_CHANGES * CHANGE;
 /// Bytes of stack that suffice for every call: the largest figure of `include/spot_table.h`, which `measure/stack` holds against the built archive.
-pub const STACK: usize = 466_944;
+pub const STACK: usize = 393_216;
 
 /// The spots that a table of this many bytes holds: 16 for each block after the first.
 pub const fn capacity(table_len: usize) -> usize {

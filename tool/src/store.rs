@@ -10,7 +10,7 @@ pub const MOST_BLOCKS: usize = 4096;
 /// Capacity: spots for each block after block 0.
 pub const SPOTS_A_BLOCK: usize = 16;
 
-/// A call takes 456 KB of stack at most (`spot_table::STACK`); the rest is room for the thread itself.
+/// A call takes 384 KB of stack at most (`spot_table::STACK`); the rest is room for the thread itself.
 const STACK: usize = 8 << 20;
 
 /// The library's numbers of refusal.

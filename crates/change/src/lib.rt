@@ -91,7 +91,10 @@ fn new_root(
     }
     let root = spare::last_of(spare, left);
     let n = over(level, first, second);
-    let full = fill::fill(t, w, map, n, level)?;
+    let full = match fill::fill(t, w, map, n, level) {
+        Ok(full) => full,
+        Err(e) => return Err(e),
+    };
     journal::write_node(t, w, map, root, full);
     Ok(Grown {
         levels: level + 1,

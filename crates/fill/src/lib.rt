@@ -202,7 +202,10 @@ pub fn take_top(
     }
     let spot = buffer::highest(n.points);
     let open = without_point(n, spot.key);
-    let full = fill(t, s, map, open, level)?;
+    let full = match fill(t, s, map, open, level) {
+        Ok(full) => full,
+        Err(e) => return Err(e),
+    };
     journal::write_node(t, s, map, b, full);
     let entry = edit::entry_for(b, e.low, full);
     Ok(Took { entry, spot })
@@ -229,7 +232,10 @@ pub fn fill(
         }
         let p = next_turn(node);
         let below = fetch(t, s, map, p.below, level)?;
-        let r = carry_out(node, below, p.waits)?;
+        let r = match carry_out(node, below, p.waits) {
+            Ok(r) => r,
+            Err(e) => return Err(e),
+        };
         node = r.node;
         if r.over {
             return Ok(node);

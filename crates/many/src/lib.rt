@@ -1,7 +1,7 @@
 // Request 2026-01, many ranges in one call: all are counted, and if there is room, all are written. No public function has a `requires`.
 #![tactic(auto)]
 
-ghost use Rattle.std.specs.Prelude.{◌≡◌, true, ◌≤◌, length, replicate};
+ghost use Rattle.std.specs.Prelude.{◌≡◌, true, ◌≤◌, length, replicate, take};
 ghost use Rattle.block.specs.Answers.{answer_of};
 ghost use Rattle.block.specs.Table.{table_sized};
 ghost use Rattle.memo.specs.Known.{Known, StillKnown};
@@ -87,6 +87,17 @@ fn give_all(table: &[u8], b: ranges::Batch, few: &[u8], each: &[u32], output: &m
     }
 }
 
+// The first counts, as many as `counts` has.
+// Stays: `copy_from_slice` would ask the C library for memmove (see `octets::copy`).
+fn copy_counts(each: &[u32], counts: &mut [u32])
+    requires { length counts.old ≤ length each.now }
+    ensures { counts.new ≡ take (length counts.old) each.now }
+{
+    for i in 0..counts.len() {
+        counts[i] = each[i];
+    }
+}
+
 // The answer where lengths and numbers are right and block 0 is in order. The counts are kept in `each` until it is known that the spots fit.
 fn answer_with(
     table: &[u8],
@@ -111,12 +122,13 @@ fn answer_with(
         return Err(Refusal::Output(given));
     }
     give_all(table, b, few, each, output);
-    counts.copy_from_slice(&each[..b.n]);
+    copy_counts(each, counts);
     octets::copy(&seen, read_map, 512);
     Ok(given)
 }
 
-// The same with room of its own: FEW bytes for spots, and KNOWN slots for what is validated. Each size has a frame of its own.
+// The same with room of its own: FEW bytes for spots, and KNOWN slots for what is validated. Each size has a frame of its own, and none lies under another's.
+#[inline(never)]
 fn answer_in<const FEW: usize, const KNOWN: usize>(
     table: &[u8],
     b: ranges::Batch,

@@ -135,5 +135,8 @@ pub fn copy(from: &[u8], to: &mut [u8], n: usize)
     requires { (n ≤ length from.now) × (n ≤ length to.old) }
     ensures { to.new ≡ take n from.now ++ drop n to.old }
 {
-    to[..n].copy_from_slice(&from[..n]);
+    // Stays: `copy_from_slice` would ask the C library for memmove, which nothing here needs.
+    for i in 0..n {
+        to[i] = from[i];
+    }
 }

@@ -17,7 +17,9 @@ pub fn gather(table: &[u8], scratch: &mut [u8]) -> Option<usize>
 {
     let mut seen = [0u8; block::MAP_BYTES];
     let everything = spot::everything();
-    let all = query::count_table(table, &mut seen, everything)?;
+    let Some(all) = query::count_table(table, &mut seen, everything) else {
+        return None; // a broken walk is no empty table
+    };
     if block::capacity_of(table.len()) < all.spots {
         return None;
     }

@@ -21,12 +21,12 @@ use Rattle.update_theory.proofs.Change.{changed-trans}
 use Rattle.node.specs.Memory.{entries_of}
 use Rattle.node.specs.declared.NodeValue.{NodeValue}
 use Rattle.edit.specs.Edits.{held_in}
-use Rattle.fill.specs.Filling.{FillDone, FillFailed, FilledBy}
+use Rattle.fill.specs.Filling.{FillDone, FilledBy}
 use Rattle.spare.specs.declared.Spare.{Spare}
 use Rattle.spare.specs.Spares.{spare_of}
 use Rattle.settle.specs.declared.Worked.{Worked}
 use Rattle.fill.specs.declared.Failure.{Failure}
-use Rattle.settle.specs.Settling.{Opened, WorkedTo, Roomless, WorkDone, RefineDone}
+use Rattle.settle.specs.Settling.{Opened, WorkedTo, Roomless, WorkDone, RefineDone, Unstowed}
 use Rattle.settle.proofs.Lows.{lows-as}
 
 -- an update that went on without taking a block
@@ -42,13 +42,13 @@ going-further l lo hi x s es y s₁ r es₁ b f w r₂ es₂ b₂ g h =
     }
 
 -- the node was pushed
-module _ {t t₁ s₁ map₁ t₂ s₂ map₂ : List ℕ} {level : ℕ} {n : NodeValue} {spare : Spare} {left : ℕ} {w : Worked} (p : WorkDone t t₁ s₁ map₁ level n spare left w) where
+module _ {t t₁ s₁ map₁ : List ℕ} {level : ℕ} {n : NodeValue} {spare : Spare} {left : ℕ} {w : Worked} (p : WorkDone t t₁ s₁ map₁ level n spare left w) where
   -- and could not be filled
-  pub refine-fails : {e : Failure} → FillFailed t₁ t₂ s₂ map₂ level w.node e → Roomless t level n spare left e
+  pub refine-fails : {e : Failure} → Unstowed t₁ level w.node e → Roomless t level n spare left e
   refine-fails q = record { whole = λ lo hi f before. let a = p.done lo hi f before in q.whole lo hi a.rank f before.legal p.zero a.going.node }
 
   -- or was
-  module _ {r : NodeValue} (q : FillDone t₁ t₂ s₂ map₂ level w.node r) where
+  module _ {t₂ s₂ map₂ : List ℕ} {r : NodeValue} (q : FillDone t₁ t₂ s₂ map₂ level w.node r) where
     same_length : length (entries_of r.entries) ≡ length (entries_of w.node.entries)
     same_length = sym (length-lows (entries_of r.entries)) ∙ ap length q.same_lows ∙ length-lows (entries_of w.node.entries)
 

@@ -30,7 +30,7 @@ use Rattle.edit.specs.Edits.{held_in, Tidy, EntryFor}
 use Rattle.journal.specs.Journal.{Undoable}
 use Rattle.fill.specs.declared.Failure.{Failure}
 use Rattle.fill.specs.declared.Failure.TheVariants.{NoRoom}
-use Rattle.fill.specs.Filling.{Inside, Workable}
+use Rattle.fill.specs.Filling.{Inside, Workable, OnNode, FillDone}
 use Rattle.spare.specs.declared.Spare.{Spare}
 use Rattle.spare.specs.Spares.{spare_of, SpareFits}
 use Rattle.batch.specs.Batches.{batch_says, TakenIn}
@@ -206,6 +206,25 @@ pub record PlaceFailed (t : List ℕ) (level b : ℕ) (asked : Asked) (n : NodeV
 
 abbrev pub PlacePost : List ℕ → List ℕ → ℕ → ℕ → Asked → NodeValue → Spare → ℕ → Result Settled Failure → Type 0
 PlacePost t t' level b asked n spare left r = MatchResult r (PlaceDone t t' level b asked n spare left) (PlaceFailed t level b asked n spare left)
+
+-- A node was filled and stored in block b, and this is its entry: what it was between, nobody is handed.
+pub record Stowed (t t' : List ℕ) (b floor level : ℕ) (n : NodeValue) (e : Entry) : Type 0 where
+  pub table : List ℕ
+  pub scratch : List ℕ
+  pub marks : List ℕ
+  pub node : NodeValue
+  pub filled : FillDone t table scratch marks level n node
+  pub few_i : node.inserts.n ≤ 64
+  pub few_d : node.deletes.n ≤ 16
+  pub stored : Stored table t' b node
+  pub entry : EntryFor b floor node e
+
+-- it could not be: where it stood open, for want of room
+pub record Unstowed (t : List ℕ) (level : ℕ) (n : NodeValue) (e : Failure) : Type 0 where
+  pub whole : OnNode t level n (λ lo hi f. e ≡ NoRoom)
+
+abbrev pub StowPost : List ℕ → List ℕ → ℕ → ℕ → ℕ → NodeValue → Result Entry Failure → Type 0
+StowPost t t' b floor level n r = MatchResult r (Stowed t t' b floor level n) (Unstowed t level n)
 
 -- A node was worked on and stored in block b, and this is its entry: what it was between, and the tables then, nobody is handed.
 pub record FinishDone (t t' : List ℕ) (b floor level : ℕ) (n : NodeValue) (spare : Spare) (left : ℕ) (r : Finished) : Type 0 where

@@ -3,10 +3,13 @@
 
 ghost use Rattle.std.specs.Prelude.{◌≡◌, true, false, ◌<◌, length};
 ghost use Rattle.block.specs.Table.{blocks_of};
+ghost use Rattle.block.specs.NodeRules.{zero_first, lows};
 ghost use Rattle.tree.specs.Part.{low_of};
 ghost use Rattle.buffer.specs.Buffer.{held, named};
+ghost use Rattle.node.specs.Memory.{entries_of};
 ghost use Rattle.journal.specs.Journal.{Kept};
-ghost use Rattle.settle.specs.Settling.{Settleable, SettlePost, Pushable, WorkPost, SplitWhen, StandsFor, Cuttable, PlacePost, FinishPost, Arriving, Arrived};
+ghost use Rattle.fill.specs.Filling.{Workable};
+ghost use Rattle.settle.specs.Settling.{Settleable, SettlePost, Pushable, WorkPost, SplitWhen, StandsFor, Cuttable, PlacePost, StowPost, FinishPost, Arriving, Arrived};
 
 // A part after settling: its entry, the second one where it became two, and how many spare blocks are left.
 #[derive(Clone, Copy)]
@@ -135,6 +138,33 @@ fn split(
     })
 }
 
+// Fills P, and stores the node in block b; gives its entry.
+// Never inlined: `finish` would have these copies of the node under each level that it pushes down to.
+#[inline(never)]
+fn stow(
+    t: &mut [u8],
+    s: &mut [u8],
+    map: &mut [u8],
+    b: usize,
+    low: u64,
+    n: node::NodeValue,
+    level: usize,
+) -> Result<block::Entry, fill::Failure>
+    requires { Workable t.old s.old map.old n level × (b < blocks_of (length t.old)) × (zero_first (lows (entries_of n.entries)) ≡ true) }
+    ensures kept { Kept t.old s.old map.old t.new s.new map.new }
+    ensures stowed { StowPost t.old t.new b low level n result }
+{
+    let full = match fill::fill(t, s, map, n, level) {
+        Ok(full) => full,
+        Err(e) => return Err(e),
+    };
+    if (64 < full.inserts.n) | (16 < full.deletes.n) {
+        return Err(fill::Failure::NoRoom);
+    }
+    journal::write_node(t, s, map, b, full);
+    Ok(edit::entry_for(b, low, full))
+}
+
 // Pushes where that is needed, fills P, and stores the node in block b. Only its entry comes back, so that no node lives while another is worked on.
 #[cycle(finish_push_settle_split)]
 fn finish(
@@ -152,13 +182,11 @@ fn finish(
     ensures kept { Kept t.old s.old map.old t.new s.new map.new }
     ensures finished { FinishPost t.old t.new b low level n spare left result }
 {
-    let w = push(t, s, map, n, level, spare, left)?;
-    let full = fill::fill(t, s, map, w.node, level)?;
-    if (64 < full.inserts.n) | (16 < full.deletes.n) {
-        return Err(fill::Failure::NoRoom);
-    }
-    journal::write_node(t, s, map, b, full);
-    let entry = edit::entry_for(b, low, full);
+    let w = match push(t, s, map, n, level, spare, left) {
+        Ok(w) => w,
+        Err(e) => return Err(e),
+    };
+    let entry = stow(t, s, map, b, low, w.node, level)?;
     Ok(Finished {
         entry,
         left: w.left,

@@ -5,7 +5,6 @@ use native.Mathlib.Omega.{arith}
 use Rattle.block.specs.Table.{blocks_of}
 use Rattle.journal.proofs.Kept.{kept_refl, kept_trans, undoable-kept}
 use Rattle.settle.proofs.Ways.{last-inside}
-use Rattle.std.proofs.lemmas.Result.{err_from_is_err_and}
 use Rattle.change.proofs.Settles.{crown-done, room-above}
 use Rattle.change.proofs.Crown.{crown-works, crown-fails, crown-stores}
 use Rattle.change.proofs.new_root.Goals as goal
@@ -26,17 +25,16 @@ fill-requires c =
     let p = c.requires in
     crown-works c.over-n.ensures p.undoable (roomy (goal.at.fill-requires c).Else-left-level).1 p.fits p.inside p.inside_too
 
-pub returns-in_err-full : goal.returns-in_err-full
-returns-in_err-full c =
-    let r = err_from_is_err_and c.from_residual.result c.from_residual.ensures.1 in
-    rw (r.1, r.2) (record { kept = c.fill.ensures.kept; crowned = crown-fails c.over-n.ensures c.requires.zero c.in_err-full.ensures.filled })
+pub returns-in-Err : goal.returns-in-Err
+returns-in-Err c =
+    record { kept = c.fill.ensures.kept; crowned = crown-fails c.over-n.ensures c.requires.zero c.in-Err.ensures.filled }
 
 pub write_node-requires : goal.write_node-requires
 write_node-requires c =
     let last = c.last_of-root in
     let p = c.requires in
     let f = c.fill.ensures in
-    let full = c.in_ok-full.ensures.filled in
+    let full = c.in-Ok.ensures.filled in
     let i = last-inside p.spares p.less last.ensures in
     (undoable-kept f.kept p.undoable, subst⁻¹ (λ (n : ℕ). last.result < blocks_of n) f.kept.table i.1, crown-stores c.over-n.ensures full p.zero)
 
@@ -53,7 +51,7 @@ returns c =
     let a = c.args in
     let p = c.requires in
     let f = c.fill.ensures in
-    let full = c.in_ok-full.ensures.filled in
+    let full = c.in-Ok.ensures.filled in
     let w = c.write_node.ensures in
     let last = c.last_of-root in
     record { kept = kept_trans f.kept w.0; crowned = crown-done _ a.spare a.left last.result c.over-n.ensures full p.zero p.inner (roomy (goal.at.returns c).Else-left-level).1 (roomy (goal.at.returns c).Else-left-level).0 last.ensures w.1 }

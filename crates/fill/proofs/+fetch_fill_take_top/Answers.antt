@@ -12,14 +12,14 @@ use Rattle.fill.specs.Filling.{RoundDone}
 use Rattle.fill.proofs.Turns.{round-done, round-stopped}
 use Rattle.fill.proofs.Whole.{fill_start, fill-turn, fill_fails, fill-over, fill-full, take-fails, part-valid, fill-whole, take_done, loaded-works}
 use Rattle.fill.proofs.+fetch_fill_take_top.Goals as goal
-use Rattle.fill.proofs.+fetch_fill_take_top.Goals.{fill-In_ok-r, take_top-After-load-n}
+use Rattle.fill.proofs.+fetch_fill_take_top.Goals.{fill-In-Ok, take_top-After-load-n}
 
 -- what the round did
-round : (t : ℕ) (c : fill-In_ok-r t)
-    → RoundDone c.loop-round.t c.fetch.new.t c.fetch.new.s c.fetch.new.map c.args.level c.loop-round.node c.in_ok-r.r
+round : (t : ℕ) (c : fill-In-Ok t)
+    → RoundDone c.loop-round.t c.fetch.new.t c.fetch.new.s c.fetch.new.map c.args.level c.loop-round.node c.in-Ok.r
 round t c =
     let f = c.fetch.ensures in
-    round-done c.loop-round.invariant.0.works c.if-node-ge32.false f.kept c.next_turn-p.result.below c.next_turn-p.result.waits _ _ c.next_turn-p.ensures c.in_ok-below.ensures.fetched c.in_ok-r.ensures
+    round-done c.loop-round.invariant.0.works c.if-node-ge32.false f.kept c.next_turn-p.result.below c.next_turn-p.result.waits _ _ c.next_turn-p.ensures c.in_ok-below.ensures.fetched c.in-Ok.ensures
 
 -- the arrays of a node that was loaded are of their length
 long : (t : ℕ) (c : take_top-After-load-n t) → (length c.load-n.result.inserts.spots ≡ 80) × (length c.load-n.result.deletes.keys ≡ 32)
@@ -30,7 +30,7 @@ fill-loop-round-init t c = (fill_start c.requires, search (rules, length-image))
 
 pub fill-loop-round-preserved : goal.fill-loop-round-preserved
 fill-loop-round-preserved t c =
-    (fill-turn c.loop-round.invariant.0 c.fetch.ensures.kept (round t (goal.at.fill-loop-round-preserved t c).In_ok-r), search (rules, length-image))
+    (fill-turn c.loop-round.invariant.0 c.fetch.ensures.kept (round t (goal.at.fill-loop-round-preserved t c).In-Ok), search (rules, length-image))
 
 pub fill-returns-then-node-ge32-clause-filled : goal.fill-returns-then-node-ge32-clause-filled
 fill-returns-then-node-ge32-clause-filled t c =
@@ -43,15 +43,15 @@ fill-returns-in_err-below-clause-filled t c =
     let turn = c.next_turn-p in
     let r = err_from_is_err_and c.from_residual.result c.from_residual.ensures.1 in rw (r.1, r.2) (fill_fails p (round-stopped p.works c.if-node-ge32.false c.fetch.ensures.kept turn.result.below turn.result.waits turn.ensures c.in_err-below.ensures.fetched))
 
-pub fill-returns-in_err-r-clause-filled : goal.fill-returns-in_err-r-clause-filled
-fill-returns-in_err-r-clause-filled t c =
+pub fill-returns-in-Err-clause-filled : goal.fill-returns-in-Err-clause-filled
+fill-returns-in-Err-clause-filled t c =
     let p = c.loop-round.invariant.0 in
     let turn = c.next_turn-p in
-    let r = err_from_is_err_and c.from_residual-in_err-r.result c.from_residual-in_err-r.ensures.1 in rw (r.1, r.2) (fill_fails p (round-done p.works c.if-node-ge32.false c.fetch.ensures.kept turn.result.below turn.result.waits _ _ turn.ensures c.in_ok-below.ensures.fetched c.in_err-r.ensures))
+    fill_fails p (round-done p.works c.if-node-ge32.false c.fetch.ensures.kept turn.result.below turn.result.waits _ _ turn.ensures c.in_ok-below.ensures.fetched c.in-Err.ensures)
 
 pub fill-returns-then-r-clause-filled : goal.fill-returns-then-r-clause-filled
 fill-returns-then-r-clause-filled t c =
-    fill-over c.loop-round.invariant.0 c.fetch.ensures.kept (round t (goal.at.fill-returns-then-r-clause-filled t c).In_ok-r) c.if-r.true
+    fill-over c.loop-round.invariant.0 c.fetch.ensures.kept (round t (goal.at.fill-returns-then-r-clause-filled t c).In-Ok) c.if-r.true
 
 pub fill-returns-clause-filled : goal.fill-returns-clause-filled
 fill-returns-clause-filled t c =
@@ -67,9 +67,9 @@ pub take_top-returns-then-not-block_ok-clause-took : goal.take_top-returns-then-
 take_top-returns-then-not-block_ok-clause-took t c =
     take-fails c.requires.0 kept_refl (part-valid c.args.t.now (sym c.block_ok.ensures ∙ c.if-not-block_ok.true))
 
-pub take_top-returns-in_err-full-clause-took : goal.take_top-returns-in_err-full-clause-took
-take_top-returns-in_err-full-clause-took t c =
-    let r = err_from_is_err_and c.from_residual.result c.from_residual.ensures.1 in rw (r.1, r.2) (take-fails c.requires.0 c.fill.ensures.kept (fill-whole c.load-n.ensures c.highest-spot.ensures c.without_point-open.ensures c.in_err-full.ensures.filled))
+pub take_top-returns-in-Err-clause-took : goal.take_top-returns-in-Err-clause-took
+take_top-returns-in-Err-clause-took t c =
+    take-fails c.requires.0 c.fill.ensures.kept (fill-whole c.load-n.ensures c.highest-spot.ensures c.without_point-open.ensures c.in-Err.ensures.filled)
 
 pub take_top-returns-clause-took : goal.take_top-returns-clause-took
 take_top-returns-clause-took t c =
@@ -79,4 +79,4 @@ take_top-returns-clause-took t c =
     let n = c.load-n.result in
     let arrays = long t (goal.at.take_top-returns-clause-took t c).After-load-n in
     let ok = sym c.block_ok.ensures ∙ c.if-not-block_ok.false in
-    take_done l c.highest-spot.ensures c.without_point-open.ensures w.0 w.2 ok c.in_ok-full.ensures.filled c.fill.ensures.kept q.0 q.1 c.entry_for-entry.ensures (omega (arith, held-length n.inserts arrays.0 l.inserts.fits)) (omega (arith, named-length n.deletes arrays.1 l.deletes.fits))
+    take_done l c.highest-spot.ensures c.without_point-open.ensures w.0 w.2 ok c.in-Ok.ensures.filled c.fill.ensures.kept q.0 q.1 c.entry_for-entry.ensures (omega (arith, held-length n.inserts arrays.0 l.inserts.fits)) (omega (arith, named-length n.deletes arrays.1 l.deletes.fits))

@@ -1,7 +1,7 @@
 -- `many::answer_with` meets its contract: all are counted, then written; their counts and the map of the blocks seen are handed out.
-use mathlib.Core.Path.{refl, sym, ◌∙◌}
+use mathlib.Core.Path.{refl, sym, ap, ◌∙◌}
 use Prim.Native.Nat.{ℕ}
-use lib.ListN.{length-replicate}
+use lib.ListN.{take, length-replicate}
 use borrow.Author.Tests.{not-true}
 use native.Mathlib.Omega.{arith}
 use Rattle.table.proofs.Answering.{map_is}
@@ -49,5 +49,5 @@ copy-requires c =
 
 pub returns : goal.returns
 returns c =
-    all-given _ _ _ _ _ _ c.in-Some.ensures (omega (arith, c.if-output-spots.false)) refl c.give_all.ensures c.copy_from_slice.ensures.after
+    all-given _ _ _ _ _ _ c.in-Some.ensures (omega (arith, c.if-output-spots.false)) refl c.give_all.ensures (c.copy_counts.ensures ∙ ap (λ (k : ℕ). take k c.count_all.new.each) c.requires.0.matched)
     (map_is _ c.args.read_map.now _ (c.count_all.auto.seen ∙ c.set_bit.auto.map ∙ length-replicate {A = ℕ} 512 0) c.requires.0.mapped c.copy.ensures)

@@ -1,12 +1,13 @@
 -- push, finish, split and settle meet their contracts: one induction, on the level.
 use native.Mathlib.Omega.{arith}
 use Prim.Native.Nat.{ℕ, ◌<◌}
-use mathlib.Core.Path.{◌≡◌, refl, sym, subst, ◌∙◌}
+use mathlib.Core.Path.{◌≡◌, refl, sym, subst, subst⁻¹, ◌∙◌}
 use Rattle.std.proofs.lemmas.Result.{err_from_is_err_and}
 use Rattle.std.specs.Prelude.{Result, Ok, Err}
 use mathlib.Core.List.{List}
 use Rattle.buffer.specs.Buffer.{held, named}
 use Rattle.block.specs.declared.Entry.{Entry}
+use Rattle.block.specs.Table.{blocks_of}
 use Rattle.batch.specs.Batches.{PutBack}
 use Rattle.journal.proofs.Kept.{undoable-kept}
 use Rattle.fill.specs.declared.Failure.{Failure}
@@ -22,20 +23,21 @@ use Rattle.settle.proofs.Finishing.{finish-done, finish-one, one-fails, left-fai
 use Rattle.settle.proofs.+finish_push_settle_split.Goals as goal
 use Rattle.settle.proofs.+finish_push_settle_split.Goals.{push-Else-level-n, settle-After-receive-full, split-After-half-upper}
 
-pub finish-returns-in_err-w-clause-finished : goal.finish-returns-in_err-w-clause-finished
-finish-returns-in_err-w-clause-finished t c =
-    let r = err_from_is_err_and c.from_residual.result c.from_residual.ensures.1 in
-    rw (r.1, r.2) c.in_err-w.ensures.worked.roomless
+pub finish-returns-in-Err-clause-finished : goal.finish-returns-in-Err-clause-finished
+finish-returns-in-Err-clause-finished t c = c.in-Err.ensures.worked.roomless
 
-pub finish-returns-in_err-full-clause-finished : goal.finish-returns-in_err-full-clause-finished
-finish-returns-in_err-full-clause-finished t c =
-    let r = err_from_is_err_and c.from_residual-in_err-full.result c.from_residual-in_err-full.ensures.1 in
-    rw (r.1, r.2) (refine-fails c.in_ok-w.ensures.worked c.in_err-full.ensures.filled)
+pub finish-stow-requires : goal.finish-stow-requires
+finish-stow-requires t c =
+    let w = c.in-Ok.ensures.worked in (w.works, subst⁻¹ (λ (n : ℕ). c.args.b < blocks_of n) c.push.ensures.kept.table c.requires.1, w.zero)
+
+pub finish-returns-in_err-entry-clause-finished : goal.finish-returns-in_err-entry-clause-finished
+finish-returns-in_err-entry-clause-finished t c =
+    let r = err_from_is_err_and c.from_residual.result c.from_residual.ensures.1 in
+    rw (r.1, r.2) (refine-fails c.in-Ok.ensures.worked c.in_err-entry.ensures.stowed)
 
 pub finish-returns-clause-finished : goal.finish-returns-clause-finished
 finish-returns-clause-finished t c =
-    let few = sizes-right c.in_ok-full.full.inserts.n c.in_ok-full.full.deletes.n c.if-full.false in
-    finish-done (refine-done c.in_ok-w.ensures.worked c.in_ok-full.ensures.filled few.0 few.1) c.write_node.ensures.1 c.entry_for-entry.ensures
+    let s = c.in_ok-entry.ensures.stowed in finish-done (refine-done c.in-Ok.ensures.worked s.filled s.few_i s.few_d) s.stored s.entry
 
 -- there is a level below, and room for another entry
 roomy : (t : ℕ) (c : push-Else-level-n t)
